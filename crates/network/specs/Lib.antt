@@ -1,0 +1,5 @@
+pub mod Numbers
+pub mod Network
+pub mod Trimming
+pub mod Cuts
+pub mod Pairing
