@@ -1,3 +1,4 @@
+pub mod Edition
 pub mod Numbers
 pub mod Network
 pub mod Trimming

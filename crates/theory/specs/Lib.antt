@@ -1,0 +1,4 @@
+pub mod Sums
+pub mod Labels
+pub mod Trees
+pub mod Loads
