@@ -1,0 +1,32 @@
+-- The definitions give each of the nine sheets exactly its report: one proof, by computation, over the list.
+use mathlib.Core.Path.{_≡_, refl}
+use mathlib.Core.List.{List, [], _∷_, map}
+use Prim.Native.Nat.{ℕ}
+use lib.ListN.{length, replicate}
+use native.Mathlib.Decide.{ℕ-discrete, decLe, decLt}
+use Rattle.network.specs.Edition.{edition1}
+use Rattle.network.specs.Numbers.{pick, is, differ, less, sum, over, count, upfrom}
+use Rattle.network.specs.Network.{at, sumAt, leaf, relabel, label, joined, total}
+use Rattle.network.specs.Trimming.{cutAt, cutSite, cutSites, unvisited, first, remove, taken, elimination, balancedAlong, balanced}
+use Rattle.network.specs.Cuts.{kept, group, inCut, cutSize, cutCount, ownerAmong, owner}
+use Rattle.network.specs.Pairing.{put, takeHalves, dropHalves, halves, give, match, joins, between, children, gather, alone, settle, walk, pairsFrom, lowestInner, pairs}
+use Rattle.network.specs.Pairing.{lowerFirst, before, insert, ordered, pairList}
+use Rattle.lines.specs.Lines.{lineLength, lineAt, afterLine, hasLine}
+use Rattle.sheet.specs.Sheet.{same, push, fields, all, isName, isNumber, valueFrom, isHeading, isSite, isLink, linkLine as sheetLink, kindOf, kind}
+use Rattle.sheet.specs.Sheet.{lookupFrom, newName, addSite, newLink, addLink, readHeading, readRecord, readLine, andThen, readLines, allJoined, finish, readSheet}
+use Rattle.report.specs.Report.{digits, line, lines, planOf, name, ownerName, planLine, linkLine, siteLine, cutLine, pairLine, reportOf, report}
+use Rattle.planner.specs.Outcome.{Planned, deliver, planRead, planned}
+use Rattle.planner.specs.declared.Outcome.the-variants.{Report}
+use Rattle.nine.specs.Sheets.{Example, sheets}
+
+-- planning a sheet by the definitions, into a buffer just as long as the report that is expected
+unfoldable pub plannedFor : Example → Planned
+plannedFor e = planned edition1 (e .sheet) (replicate (length (e .report)) 0)
+
+-- success, with the report's length and exactly the report's bytes
+expected : Example → Planned
+expected e = record { outcome = Report (length (e .report)); buffer = e .report }
+
+nine-sheets : map plannedFor sheets ≡ map expected sheets
+unfolding plannedFor expected planned planRead deliver ℕ-discrete decLe decLt pick is differ less sum over count upfrom at sumAt leaf relabel label joined total cutAt cutSite cutSites unvisited first remove taken elimination balancedAlong balanced kept group inCut cutSize cutCount ownerAmong owner put takeHalves dropHalves halves give match joins between children gather alone settle walk pairsFrom lowestInner pairs lowerFirst before insert ordered pairList lineLength lineAt afterLine hasLine same push fields all isName isNumber valueFrom isHeading isSite isLink sheetLink kindOf kind lookupFrom newName addSite newLink addLink readHeading readRecord readLine andThen readLines allJoined finish readSheet digits line lines planOf name ownerName planLine linkLine siteLine cutLine pairLine reportOf report
+nine-sheets = refl

@@ -1,0 +1,46 @@
+-- The outcome of planning, for every sheet and every buffer: number, line, length, and the buffer after.
+-- Document 01, the table of causes and the lines below it.
+use mathlib.Core.Bool.{cond}
+use mathlib.Core.List.{List, _++_}
+use Prim.Native.Nat.{ℕ}
+use lib.Dec.{leb}
+use lib.ListN.{length, drop}
+use Rattle.network.specs.declared.Edition.{Edition}
+use Rattle.sheet.specs.Sheet.{Read, refused, accepted, readSheet}
+use Rattle.report.specs.Report.{report}
+use Rattle.planner.specs.declared.Outcome.{Outcome}
+use Rattle.planner.specs.declared.Outcome.the-variants.{Report, Refused}
+
+-- document 01's number, line and length for each outcome: success is number 0, line 0 and the report's length
+abbrev pub number : Outcome → ℕ
+number (Report n) = 0
+number (Refused k l) = k
+
+abbrev pub lineOf : Outcome → ℕ
+lineOf (Report n) = 0
+lineOf (Refused k l) = l
+
+abbrev pub lengthOf : Outcome → ℕ
+lengthOf (Report n) = n
+lengthOf (Refused k l) = 0
+
+-- planning, with the buffer as it is before: the outcome and the buffer after
+pub record Planned : Type 0 where
+  pub outcome : Outcome
+  pub buffer : List ℕ
+
+-- a report into a buffer: 9 where it is longer than the buffer; the bytes after it keep their values
+unfoldable pub deliver : List ℕ → List ℕ → Planned
+deliver r b =
+    cond (leb (length r) (length b))
+    (record { outcome = Report (length r); buffer = r ++ drop (length r) b })
+    (record { outcome = Refused 9 0; buffer = b })
+
+-- a sheet that is read, planned
+unfoldable pub planRead : List ℕ → List ℕ → Read → Planned
+planRead s b (refused n k) = record { outcome = Refused n k; buffer = b }
+planRead s b (accepted net) = deliver (report s net) b
+
+-- the outcome of planning the sheet s into the buffer b
+unfoldable pub planned : Edition → List ℕ → List ℕ → Planned
+planned ed s b = planRead s b (readSheet ed s)
