@@ -74,43 +74,44 @@ planOf s net =
 
 -- ---- its lines
 
-module _ (p : Plan) where
-  -- `plan`: total in halves, number of pairs
-  unfoldable pub planLine : List ℕ
-  planLine = line (bytes "plan" ∷ decimal (total (p .pairs)) ∷ decimal (length (p .pairs)) ∷ [])
+-- `plan`: total in halves, number of pairs
+unfoldable pub planRecord : ℕ → ℕ → List ℕ
+planRecord halves pairs = line (bytes "plan" ∷ decimal halves ∷ decimal pairs ∷ [])
 
-  -- `L`: names, given size, trimmed size
-  unfoldable pub linkLine : ℕ → List ℕ
-  linkLine j =
-      line (bytes "L" ∷ p .names (look (p .ones) j) ∷ p .names (look (p .twos) j) ∷ decimal (look (p .capacities) j) ∷ decimal (look (p .trimmed) j) ∷ [])
+-- `L`: names, given size, trimmed size
+unfoldable pub linkRecord : (ℕ → List ℕ) → ℕ → ℕ → ℕ → ℕ → List ℕ
+linkRecord name a b capacity trimmed = line (bytes "L" ∷ name a ∷ name b ∷ decimal capacity ∷ decimal trimmed ∷ [])
 
-  -- the name of an owner, or `-` where there is none
-  unfoldable pub ownerName : ℕ → List ℕ
-  ownerName a = pick a 0 (bytes "-") (p .names a)
+unfoldable pub linkLine : (ℕ → List ℕ) → List ℕ → List ℕ → List ℕ → List ℕ → ℕ → List ℕ
+linkLine name ones twos capacities trimmed j = linkRecord name (look ones j) (look twos j) (look capacities j) (look trimmed j)
 
-  -- `N`: site, then the end whose set holds it, or `-`
-  unfoldable pub siteLine : ℕ → List ℕ
-  siteLine x = line (bytes "N" ∷ p .names x ∷ ownerName (look (p .owners) (x - 1)) ∷ [])
+-- the name of an owner, or `-` where there is none
+unfoldable pub ownerName : (ℕ → List ℕ) → ℕ → List ℕ
+ownerName name a = pick a 0 (bytes "-") (name a)
 
-  -- `X` for an end, a site with just one link: name, set size, count of sites in the set
-  unfoldable pub cutLine : ℕ → List ℕ
-  cutLine a =
-      pick (look (p .degrees) (a - 1)) 1
-      (line (bytes "X" ∷ p .names a ∷ decimal (look (p .cutSizes) (a - 1)) ∷ decimal (look (p .cutCounts) (a - 1)) ∷ []))
-      []
+-- `N`: site, then the end whose set holds it, or `-`
+unfoldable pub siteLine : (ℕ → List ℕ) → List ℕ → ℕ → List ℕ
+siteLine name owners x = line (bytes "N" ∷ name x ∷ ownerName name (look owners (x - 1)) ∷ [])
 
-  -- `P`: the two sites of a pair, amount in halves
-  unfoldable pub pairLine : Pair → List ℕ
-  pairLine e = line (bytes "P" ∷ p .names (e .first) ∷ p .names (e .second) ∷ decimal (e .amount) ∷ [])
+-- `X` for an end, a site with just one link: name, set size, count of sites in the set
+unfoldable pub cutRecord : (ℕ → List ℕ) → ℕ → ℕ → ℕ → List ℕ
+cutRecord name a size count = line (bytes "X" ∷ name a ∷ decimal size ∷ decimal count ∷ [])
 
-  -- the report (01: the report, given whole)
-  unfoldable pub reportOf : List ℕ
-  reportOf =
-      planLine
-      ++ lines linkLine (upfrom 0 (length (p .ones)))
-      ++ lines siteLine (sites (p .size))
-      ++ lines cutLine (sites (p .size))
-      ++ lines pairLine (p .pairs)
+unfoldable pub cutLine : (ℕ → List ℕ) → List ℕ → List ℕ → List ℕ → ℕ → List ℕ
+cutLine name degrees sizes counts a = pick (look degrees (a - 1)) 1 (cutRecord name a (look sizes (a - 1)) (look counts (a - 1))) []
+
+-- `P`: the two sites of a pair, amount in halves
+unfoldable pub pairLine : (ℕ → List ℕ) → Pair → List ℕ
+pairLine name e = line (bytes "P" ∷ name (e .first) ∷ name (e .second) ∷ decimal (e .amount) ∷ [])
+
+-- the report (01: the report, given whole)
+unfoldable pub reportOf : Plan → List ℕ
+reportOf p =
+    planRecord (total (p .pairs)) (length (p .pairs))
+    ++ lines (linkLine (p .names) (p .ones) (p .twos) (p .capacities) (p .trimmed)) (upfrom 0 (length (p .ones)))
+    ++ lines (siteLine (p .names) (p .owners)) (sites (p .size))
+    ++ lines (cutLine (p .names) (p .degrees) (p .cutSizes) (p .cutCounts)) (sites (p .size))
+    ++ lines (pairLine (p .names)) (p .pairs)
 
 -- the report of a network whose names stand in the sheet s
 unfoldable pub report : List ℕ → Network → List ℕ

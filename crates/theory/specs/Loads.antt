@@ -17,17 +17,16 @@ Avoids n v [] = Unit {0}
 Avoids n v (e ∷ es) = (Site n (e .first) × Site n (e .second) × (e .first ≢ v) × (e .second ≢ v)) × Avoids n v es
 
 module _ {ls : Links} {n : ℕ} (T : Tree ls n) (v j : ℕ) (pv : Site n v) (l : j < length ls) (a : at ls v j ≡ 1) where
-  -- for sites x, y other than v, of which link j at v separates x from v: what it separates, another link at v does too
-  through : (x y : ℕ) → Site n x → Site n y → x ≢ v → y ≢ v → separates ls j v x + separates ls j x y ≤ sumAt ls v (λ i. separates ls i x y) + separates ls j v y
+  -- for y other than v: where link j at v separates x from v, and x from y, another link at v separates x and y too
+  through : (x y : ℕ) → Site n x → Site n y → y ≢ v → separates ls j v x + separates ls j x y ≤ sumAt ls v (λ i. separates ls i x y) + separates ls j v y
   unfolding sumAt separates
-  through x y p q d e =
+  through x y p q e =
       let xy : ℕ → ℕ = λ i. at ls v i * separates ls i x y in
       let vx : ℕ → ℕ = λ i. at ls v i * separates ls i v x in
       omega (
         arith,
         local T v x pv p,
         local T v y pv q,
-        is-other d,
         is-other e,
         sum-add (length ls) xy vx,
         rw a at (sum-le-but (length ls) j (λ i. at ls v i * separates ls i v y) (λ i. xy i + vx i) l
@@ -43,8 +42,8 @@ module _ {ls : Links} {n : ℕ} (T : Tree ls n) (v j : ℕ) (pv : Site n v) (l :
       let Z = side ls j v in
       omega (
         arith,
-        through x y p q d e,
-        through y x q p e d,
+        through x y p q e,
+        through y x q p d,
         sum-eq (length ls) (λ i. at ls v i * separates ls i x y) (λ i. at ls v i * separates ls i y x) (λ i k. ap (λ c. at ls v i * c) (differ-comm (side ls i x) (side ls i y))),
         separates-triple T j v x y l pv p q,
         differ-triangle X Z Y,
@@ -55,6 +54,7 @@ module _ {ls : Links} {n : ℕ} (T : Tree ls n) (v j : ℕ) (pv : Site n v) (l :
         differ-le Z Y,
       )
 
+  -- and so for what all entries load together
   pub double : (es : List Pair) → Avoids n v es → load ls es j + load ls es j ≤ sumAt ls v (load ls es)
   unfolding load
   double [] h = omega arith

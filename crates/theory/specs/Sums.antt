@@ -6,6 +6,8 @@ use native.Mathlib.Omega.{arith}
 use native.Mathlib.Decide.{ℕ-discrete, decLt}
 use Rattle.network.specs.Numbers.{pick, is, differ, less, sum}
 
+-- ---- choices and tests
+
 pub pick-same : {A : Type 0} {u v : ℕ} → u ≡ v → (a b : A) → pick u v a b ≡ a
 unfolding pick
 pick-same {u = u} {v = v} e a b = if-pos (ℕ-discrete u v) e a b
@@ -76,6 +78,12 @@ differ-triple u v w p q (inr a) (inl b) (inr c) = omega (arith, differ-same (a �
 differ-triple u v w p q (inl a) (inr b) (inr c) = omega (arith, differ-same (b ∙ sym c), differ-le u w, differ-le u v)
 differ-triple u v w p q (inr a) (inl b) (inl c) = omega (arith, differ-same (b ∙ sym c), differ-le u w, differ-le u v)
 
+-- a product that is 1, of a test and a number
+pub product-one : (a b : ℕ) → a ≤ 1 → a * b ≡ 1 → (a ≡ 1) × (b ≡ 1)
+product-one a b l e = same? a 0 (λ z. absurd (omega (arith, rw z at e))) (λ z. let o : a ≡ 1 = omega arith in (o, omega (arith, rw o at e)))
+
+-- ---- sums
+
 pub sum-add : (n : ℕ) (f g : ℕ → ℕ) → sum n (λ i. f i + g i) ≡ sum n f + sum n g
 unfolding sum
 sum-add zero f g = refl
@@ -136,6 +144,30 @@ sum-min (suc n) c f g h = omega (arith, sum-min n c f g (λ i l. h i (omega arit
 -- a term is at most the sum
 pub sum-ge : (n j : ℕ) (f : ℕ → ℕ) → j < n → f j ≤ sum n f
 sum-ge n j f l = omega (arith, sum-none n, sum-le-but n j (λ i. 0) f l (λ i k d. omega arith))
+
+-- two terms are at most the sum
+pub sum-two : (n i j : ℕ) (f : ℕ → ℕ) → i < n → j < n → i ≢ j → f i + f j ≤ sum n f
+sum-two n i j f l k d =
+    let g : ℕ → ℕ = λ x. pick x i 0 (f x) in
+    omega (
+      arith,
+      pick-same {u = i} refl 0 (f i),
+      pick-other {u = j} {v = i} (λ e. d (sym e)) 0 (f j),
+      sum-ge n j g k,
+      sum-eq-but n i g f l (λ x p e. pick-other e 0 (f x)),
+    )
+
+-- a sum with one term
+pub sum-single : (n j : ℕ) (f : ℕ → ℕ) → j < n → ((i : ℕ) → i < n → i ≢ j → f i ≡ 0) → sum n f ≡ f j
+sum-single n j f l h = omega (arith, sum-none n, sum-eq-but n j f (λ i. 0) l h)
+
+-- a sum that is not 0 has a term that is not 0
+pub sum-some : (n : ℕ) (f : ℕ → ℕ) → 1 ≤ sum n f → (i : ℕ) × (i < n) × (1 ≤ f i)
+unfolding sum
+sum-some zero f h = absurd (omega arith)
+sum-some (suc n) f h = same? (f n) 0
+    (λ e. let r = sum-some n f (omega arith) in (r .0, omega (arith, r .1), r .2))
+    (λ d. (n, omega arith, omega arith))
 
 -- a sum that is 1 has one term that is 1, and no other
 pub sum-only : (n : ℕ) (f : ℕ → ℕ) → sum n f ≡ 1 → (j : ℕ) × (j < n) × (f j ≡ 1) × ((i : ℕ) → i < n → i ≢ j → f i ≡ 0)

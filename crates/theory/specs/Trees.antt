@@ -1,16 +1,19 @@
--- Networks that are trees: n sites, joined by n - 1 links.
+-- Networks that are trees: n sites, joined by n - 1 links. Each link separates two sides; of the links at a site just one leads to any other site.
+-- By `agree`: what the two sites of every link share, all sites share.
 use mathlib.Core.Path.{_≡_, refl, sym, ap, _∙_}
 use mathlib.Core.Logic.{_≢_, _↔_, _⊎_, inl, inr}
 use Prim.Native.Nat.{ℕ, zero, suc, _+_, _*_, _≤_, _<_}
 use native.Mathlib.Omega.{arith}
 use Rattle.theory.specs.Sums.{pick-same, pick-other, pick-cases, pick-const, same?, is-same, is-other, is-le}
-use Rattle.theory.specs.Sums.{differ-same, differ-other, differ-le, differ-comm, differ-triple}
-use Rattle.theory.specs.Sums.{sum-none, sum-add, sum-mul, sum-eq, sum-eq-but, sum-only}
+use Rattle.theory.specs.Sums.{differ-same, differ-other, differ-le, differ-comm, differ-triangle, differ-triple}
+use Rattle.theory.specs.Sums.{product-one, sum-none, sum-add, sum-mul, sum-eq, sum-eq-but, sum-only}
 use lib.ListN.{length}
 use mathlib.Core.List.{[], _∷_}
-use Rattle.network.specs.Numbers.{pick, is, differ, sum}
-use Rattle.network.specs.Network.{Links, Site, Ends, one, two, at, sumAt, others, relabel, label, Tree, without, side, separates}
+use Rattle.network.specs.Numbers.{pick, is, differ}
+use Rattle.network.specs.Network.{Links, Site, one, two, at, sumAt, others, relabel, label, Tree, without, side, separates}
 use Rattle.theory.specs.Labels.{relabel-both, linked, agree, whole-links}
+
+-- ---- the links without one of them
 
 pub length-without : (ls : Links) (j : ℕ) → j < length ls → suc (length (without j ls)) ≡ length ls
 unfolding without
@@ -18,6 +21,7 @@ length-without [] j l = omega arith
 length-without (a ∷ ls) zero l = refl
 length-without (a ∷ ls) (suc j) l = ap suc (length-without ls j (omega arith))
 
+-- the other links join their sites
 pub linked-without : (ls : Links) (j i : ℕ) → i < length ls → i ≢ j → label (without j ls) (one ls i) ≡ label (without j ls) (two ls i)
 unfolding without label
 linked-without [] j i l d = omega arith
@@ -27,8 +31,12 @@ linked-without (a ∷ ls) (suc j) zero l d = relabel-both (label (without j ls) 
 linked-without (a ∷ ls) (suc j) (suc i) l d =
     ap (relabel (label (without j ls) (a .0)) (label (without j ls) (a .1))) (linked-without ls j i (omega arith) (λ e. d (ap suc e)))
 
-product-one : (a b : ℕ) → a ≤ 1 → a * b ≡ 1 → (a ≡ 1) × (b ≡ 1)
-product-one a b l e = same? a 0 (λ z. absurd (omega (arith, rw z at e))) (λ z. let o : a ≡ 1 = omega arith in (o, omega (arith, rw o at e)))
+-- past the last link there is none to leave out
+pub without-none : (ls : Links) (j : ℕ) → length ls ≤ j → without j ls ≡ ls
+unfolding without
+without-none [] j p = refl
+without-none (a ∷ ls) zero p = absurd (omega arith)
+without-none (a ∷ ls) (suc j) p = ap (λ r. a ∷ r) (without-none ls j (omega arith))
 
 -- ---- the two sides of a link
 
@@ -36,6 +44,10 @@ module _ (ls : Links) where
   pub separates-one : (j x y : ℕ) → (separates ls j x y ≡ 1) ↔ (side ls j x ≢ side ls j y)
   unfolding separates
   separates-one j x y = (λ c e. omega (arith, differ-same e), λ d. differ-other d)
+
+  pub separates-same : (j x y : ℕ) → side ls j x ≡ side ls j y → separates ls j x y ≡ 0
+  unfolding separates
+  separates-same j x y e = differ-same e
 
   pub separates-le : (j x y : ℕ) → separates ls j x y ≤ 1
   unfolding separates
@@ -67,6 +79,10 @@ module _ {ls : Links} {n : ℕ} (T : Tree ls n) where
       let joins : (x : ℕ) → Site n x → side ls j x ≡ side ls j 1 = λ x p. all-agree (side ls j) one-side x 1 p (omega arith) in
       omega (arith, length-without ls j l, whole-links (without j ls) n (side ls j 1) joins)
 
+  -- so no link joins a site to itself
+  pub loopless : (i : ℕ) → i < length ls → one ls i ≢ two ls i
+  loopless i l e = bridge i l (ap (side ls i) e)
+
   -- and every site is on one of the two sides
   pub two-sides : (j x : ℕ) → j < length ls → Site n x → (side ls j x ≡ side ls j (one ls j)) ⊎ (side ls j x ≡ side ls j (two ls j))
   two-sides j x l p =
@@ -85,6 +101,21 @@ module _ {ls : Links} {n : ℕ} (T : Tree ls n) where
   unfolding separates
   separates-triple j x y z l p q r = differ-triple (side ls j x) (side ls j y) (side ls j z) (side ls j (one ls j)) (side ls j (two ls j))
       (two-sides j x l p) (two-sides j y l q) (two-sides j z l r)
+
+  -- link i separates exactly one of its sites from r
+  pub far-one : (i r : ℕ) → i < length ls → Site n r → separates ls i (one ls i) r + separates ls i (two ls i) r ≡ 1
+  unfolding separates
+  far-one i r l p =
+      let A = side ls i (one ls i) in
+      let B = side ls i (two ls i) in
+      let R = side ls i r in
+      omega (
+        arith,
+        differ-other (bridge i l),
+        differ-triangle A R B,
+        differ-comm R B,
+        separates-triple i (one ls i) (two ls i) r l (T .ends i l .0) (T .ends i l .1) p,
+      )
 
 -- ---- the links at a site
 
@@ -117,6 +148,7 @@ module _ (ls : Links) where
     sum-mul (length ls) w (λ i. at ls v i * f i),
   )
 
+  -- all the links at v: the others and link j
   pub others-add : (v j : ℕ) (f : ℕ → ℕ) → j < length ls → at ls v j ≡ 1 → others ls v j f + f j ≡ sumAt ls v f
   unfolding others sumAt
   others-add v j f l a = omega (
@@ -167,6 +199,7 @@ module _ {ls : Links} {n : ℕ} (T : Tree ls n) (v : ℕ) where
         sum-eq (length ls) (λ i. at ls v i * separates ls i v v) (λ i. 0) (λ i l. rw (differ-same {u = side ls i v} refl) (omega arith)),
       )
 
+  -- that one link
   pub local-one : (x : ℕ) → Site n v → Site n x → x ≢ v
       → (j : ℕ) × (j < length ls) × (at ls v j ≡ 1) × (separates ls j v x ≡ 1) × ((i : ℕ) → i < length ls → at ls v i ≡ 1 → separates ls i v x ≡ 1 → i ≡ j)
   unfolding sumAt

@@ -1,1 +1,4 @@
 pub mod Offer
+pub mod Places
+pub mod Links
+pub mod Accepted

@@ -10,9 +10,6 @@ use Rattle.report.specs.Wrote.{Wrote}
 use Rattle.report.proofs.Writing.{nothing, then, same-size}
 use Rattle.report.proofs.put_bytes.Statement.{statement}
 use Rattle.report.proofs.put_bytes.Tie as tie
-use Rattle.report.proofs.put_bytes.Reads as reads
-use Rattle.report.proofs.put_bytes.Lts as lts
-use Rattle.report.proofs.put_byte.Reads as put-byte-reads
 
 abbrev Inv-loop : tie.InvT-loop
 Inv-loop buf₀ at part stop i₀ next₀ buf i next = (i ≤ length part) × Wrote buf₀ at (take i part) buf next

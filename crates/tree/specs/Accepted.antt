@@ -1,0 +1,124 @@
+-- An offer is accepted just if it is a tree within the limits: the tests one by one, and the same said by places.
+use mathlib.Core.Path.{_≡_, refl, sym, ap, ap₂, _∙_}
+use mathlib.Core.Logic.{_↔_}
+use mathlib.Core.Bool.{Bool, true, false, cond, _&&_}
+use mathlib.Core.List.{List, [], _∷_}
+use Prim.Native.Nat.{ℕ, zero, suc, _≤_, _<_}
+use native.Mathlib.Omega.{arith}
+use borrow.Author.Tests.{leb-true, eqb-true, le-leb, eq-eqb}
+use lib.Dec.{eqb, leb}
+use lib.ListN.{length}
+use Rattle.network.specs.Numbers.{count, look}
+use Rattle.network.specs.Network.{Links, Site, Tree, label, sites}
+use Rattle.network.specs.declared.Edition.{Edition}
+use Rattle.theory.specs.Sums.{is-same, is-other, same?}
+use Rattle.theory.specs.Sites.{sites-once, sites-site}
+use Rattle.tree.specs.declared.Offer.{Offer}
+use Rattle.tree.specs.declared.Offer.the-variants.{NoTree, TooLarge, Accepted}
+use Rattle.tree.specs.Offer.{links, within, labelled, isTree, offer}
+use Rattle.tree.specs.Links.{length-links, links-one, links-two}
+
+-- a tree within the limits of an edition, offered as lists
+pub record TreeWithin (ed : Edition) (n : ℕ) (one two c : List ℕ) : Type 0 where
+  pub tree : Tree (links one two) n
+  pub few : n ≤ ed .sites
+  pub firsts : n ≡ suc (length one)
+  pub seconds : n ≡ suc (length two)
+  pub capacities : n ≡ suc (length c)
+  pub limited : (j : ℕ) → j < length c → look c j ≤ ed .size
+
+both-true : (a b : Bool) → (a && b) ≡ true → (a ≡ true) × (b ≡ true)
+both-true true b e = (refl, e)
+both-true false b e = absurd (let z : _≡_ {A = ℕ} 0 1 = cc in omega arith)
+
+-- ---- the tests of lists, place by place
+
+pub within-look : (low high : ℕ) (l : List ℕ) → within low high l ≡ true → (i : ℕ) → i < length l → (low ≤ look l i) × (look l i ≤ high)
+unfolding within
+within-look low high [] e i h = absurd (omega arith)
+within-look low high (x ∷ l) e zero h =
+    let t = both-true (leb low x) (leb x high) (both-true (leb low x && leb x high) (within low high l) e .0) in
+    (leb-true low x (t .0), leb-true x high (t .1))
+within-look low high (x ∷ l) e (suc i) h = within-look low high l (both-true (leb low x && leb x high) (within low high l) e .1) i (omega arith)
+
+within-all : (low high : ℕ) (l : List ℕ) → ((i : ℕ) → i < length l → (low ≤ look l i) × (look l i ≤ high)) → within low high l ≡ true
+unfolding within
+within-all low high [] h = refl
+within-all low high (x ∷ l) h =
+    let t = h zero (omega arith) in
+    rw (le-leb low x (t .0), le-leb x high (t .1)) (within-all low high l (λ i k. h (suc i) (omega arith)))
+
+pub within-wider : (low mid high : ℕ) (l : List ℕ) → mid ≤ high → within low mid l ≡ true → within low high l ≡ true
+within-wider low mid high l h e = within-all low high l (λ i k. let t = within-look low mid l e i k in (t .0, omega arith))
+
+labelled-each : (ls : Links) (r : ℕ) (vs : List ℕ) → labelled ls r vs ≡ true → (x : ℕ) → 1 ≤ count vs x → label ls x ≡ r
+unfolding labelled count
+labelled-each ls r [] e x h = absurd (omega arith)
+labelled-each ls r (v ∷ vs) e x h =
+    let t = both-true (eqb (label ls v) r) (labelled ls r vs) e in
+    same? v x (λ s. rw (← s) (eqb-true (label ls v) r (t .0))) (λ d. labelled-each ls r vs (t .1) x (omega (arith, is-other d)))
+
+labelled-all : (ls : Links) (r : ℕ) (vs : List ℕ) → ((x : ℕ) → 1 ≤ count vs x → label ls x ≡ r) → labelled ls r vs ≡ true
+unfolding labelled count
+labelled-all ls r [] h = refl
+labelled-all ls r (v ∷ vs) h =
+    rw (eq-eqb (label ls v) r (h v (omega (arith, is-same {u = v} refl)))) (labelled-all ls r vs (λ x k. h x (omega arith)))
+
+-- ---- the whole offer
+
+accepted-tests : (a b : Bool) → cond a (cond b Accepted TooLarge) NoTree ≡ Accepted → (a ≡ true) × (b ≡ true)
+accepted-tests true true e = (refl, refl)
+accepted-tests true false e = absurd (let z : _≡_ {A = ℕ} 0 1 = cc in omega arith)
+accepted-tests false b e = absurd (let z : _≡_ {A = ℕ} 0 1 = cc in omega arith)
+
+module _ (ed : Edition) (n : ℕ) (a b c : List ℕ) where
+  pub accepted-is-a-tree-within-the-limits : offer ed n a b c ≡ Accepted → TreeWithin ed n a b c
+  unfolding offer isTree
+  accepted-is-a-tree-within-the-limits e =
+      let ls = links a b in
+      let t = accepted-tests (isTree (ed .sites) n a b && eqb (length c) (length a)) (within 0 (ed .size) c) e in
+      let lengths = both-true (isTree (ed .sites) n a b) (eqb (length c) (length a)) (t .0) in
+      let t6 = both-true (leb 2 n && leb n (ed .sites) && eqb n (suc (length a)) && eqb n (suc (length b)) && within 1 n a && within 1 n b) (labelled ls (label ls 1) (sites n)) (lengths .0) in
+      let t5 = both-true (leb 2 n && leb n (ed .sites) && eqb n (suc (length a)) && eqb n (suc (length b)) && within 1 n a) (within 1 n b) (t6 .0) in
+      let t4 = both-true (leb 2 n && leb n (ed .sites) && eqb n (suc (length a)) && eqb n (suc (length b))) (within 1 n a) (t5 .0) in
+      let t3 = both-true (leb 2 n && leb n (ed .sites) && eqb n (suc (length a))) (eqb n (suc (length b))) (t4 .0) in
+      let t2 = both-true (leb 2 n && leb n (ed .sites)) (eqb n (suc (length a))) (t3 .0) in
+      let t1 = both-true (leb 2 n) (leb n (ed .sites)) (t2 .0) in
+      let firsts : n ≡ suc (length a) = eqb-true n (suc (length a)) (t2 .1) in
+      let seconds : n ≡ suc (length b) = eqb-true n (suc (length b)) (t3 .1) in
+      let same : length a ≡ length b = omega arith in
+      let all = length-links a b same in
+      record {
+        tree = record {
+          big = leb-true 2 n (t1 .0);
+          ends = λ j h. (
+            rw (links-one a b j (omega arith) (omega arith)) (within-look 1 n a (t4 .1) j (omega arith)),
+            rw (links-two a b j (omega arith) (omega arith)) (within-look 1 n b (t5 .1) j (omega arith)),
+          );
+          links = omega arith;
+          whole = λ x p. labelled-each ls (label ls 1) (sites n) (t6 .1) x (omega (arith, sites-once n x p));
+        };
+        few = leb-true n (ed .sites) (t1 .1);
+        firsts = firsts;
+        seconds = seconds;
+        capacities = omega (arith, eqb-true (length c) (length a) (lengths .1));
+        limited = λ j h. within-look 0 (ed .size) c (t .1) j h .1;
+      }
+
+  pub a-tree-within-the-limits-is-accepted : TreeWithin ed n a b c → offer ed n a b c ≡ Accepted
+  unfolding offer isTree
+  a-tree-within-the-limits-is-accepted w =
+      let ls = links a b in
+      let same : length a ≡ length b = omega arith in
+      let all = length-links a b same in
+      rw (
+        le-leb 2 n (w .tree .big),
+        le-leb n (ed .sites) (w .few),
+        eq-eqb n (suc (length a)) (w .firsts),
+        eq-eqb n (suc (length b)) (w .seconds),
+        within-all 1 n a (λ j h. rw (links-one a b j h (omega arith)) at (w .tree .ends j (omega arith) .0)),
+        within-all 1 n b (λ j h. rw (links-two a b j (omega arith) h) at (w .tree .ends j (omega arith) .1)),
+        labelled-all ls (label ls 1) (sites n) (λ x h. w .tree .whole x (sites-site n x h)),
+        eq-eqb (length c) (length a) (omega arith),
+        within-all 0 (ed .size) c (λ j h. (omega arith, w .limited j h)),
+      ) refl
