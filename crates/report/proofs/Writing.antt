@@ -1,15 +1,16 @@
 -- Laws of writing: one run of bytes after another is one run.
 use mathlib.Core.Path.{_≡_, refl, sym, ap, _∙_}
 use mathlib.Core.List.{List, [], _∷_, _++_, append-assoc, append-nil}
-use Prim.Native.Nat.{ℕ, zero, suc, _+_, _-_, _≤_}
+use Prim.Native.Nat.{ℕ, zero, suc, _+_, _-_, _≤_, _<_}
 use native.Mathlib.Nat.{add-zero}
 use native.Mathlib.Numerals.{add-one}
 use native.Mathlib.Omega.{arith}
-use lib.ListN.{length, drop, set, length-append, length-take}
-use lib.Seq.{sets, set-out, length-sets}
+use lib.ListN.{length, getD, take, drop, set, length-append, length-take}
+use lib.Seq.{sets, set-out, length-sets, take-suc}
 use Rattle.network.specs.Numbers.{look, upfrom}
+use Rattle.network.specs.declared.Pair.{Pair}
 use Rattle.report.specs.Report.{line, lines}
-use Rattle.report.specs.Wrote.{Wrote, nameBy, Named}
+use Rattle.report.specs.Wrote.{Wrote, nameBy, Named, no-pair}
 
 sets-append : (a b l : List ℕ) (i : ℕ) → sets l i (a ++ b) ≡ sets (sets l i a) (i + length a) b
 sets-append [] b l i = rw add-zero
@@ -73,3 +74,16 @@ lines-next f b n x e v w = rw (add-one, lines-last f b n, e) (then v w)
 pub lines-none : (l : List ℕ) (at : ℕ) (f : ℕ → List ℕ) (b : ℕ) → Wrote l at (lines f (upfrom b 0)) l at
 unfolding lines upfrom
 lines-none l at f b = nothing l at
+
+-- ---- lines for the pairs of a list
+
+lines-append : {A : Type 0} (f : A → List ℕ) (a b : List A) → lines f (a ++ b) ≡ lines f a ++ lines f b
+unfolding lines
+lines-append f [] b = refl
+lines-append f (x ∷ a) b = ap (λ l. f x ++ l) (lines-append f a b) ∙ sym (append-assoc (f x) (lines f a) (lines f b))
+
+pub pairs-next : {l m k : List ℕ} {at r q : ℕ} (f : Pair → List ℕ) (pairs : List Pair) (i : ℕ) → i < length pairs → Wrote l at (lines f (take i pairs)) m r
+    → Wrote m r (f (getD pairs i no-pair)) k q → Wrote l at (lines f (take (i + 1) pairs)) k q
+unfolding lines
+pairs-next f pairs i h v w =
+    rw (add-one, take-suc pairs i no-pair h, lines-append f (take i pairs) (getD pairs i no-pair ∷ []), append-nil (f (getD pairs i no-pair))) (then v w)

@@ -3,11 +3,13 @@ use mathlib.Core.Path.{_≡_}
 use mathlib.Core.Logic.{_≢_}
 use mathlib.Core.List.{List}
 use Prim.Native.Nat.{ℕ, _+_, _-_, _≤_, _<_}
-use lib.ListN.{length, getD}
+use lib.ListN.{length, getD, take}
 use lib.Seq.{sets}
 use Rattle.network.specs.Numbers.{look}
+use Rattle.network.specs.Network.{total}
 use Rattle.network.specs.declared.Pair.{Pair}
 use Rattle.sheet.specs.Sheet.{part}
+use Rattle.report.specs.Report.{Plan}
 
 pub record Wrote (before : List ℕ) (at : ℕ) (written after : List ℕ) (r : ℕ) : Type 0 where
   pub next : r ≡ at + length written
@@ -58,4 +60,31 @@ no-pair = record { first = 0; second = 0; amount = 0 }
 -- the first n pairs of a list join named sites
 pub record Paired (s starts ends : List ℕ) (pairs : List Pair) (n : ℕ) : Type 0 where
   pub few : n ≤ 256
+  pub held : n ≤ length pairs
   pub named : (i : ℕ) → i < n → Named s starts ends (getD pairs i no-pair .first) × Named s starts ends (getD pairs i no-pair .second)
+
+-- the plan that lists show: n sites with their name ranges, links, capacities and balanced capacities, degrees, owners, cut sizes and counts, and the first k pairs
+abbrev pub shown : List ℕ → List ℕ → List ℕ → ℕ → List ℕ → List ℕ → List ℕ → List ℕ → List ℕ → List ℕ → List ℕ → List ℕ → List Pair → ℕ → Plan
+shown s starts ends n ones twos capacities trimmed degrees owners sizes counts pairs k = record {
+  names = nameBy s starts ends;
+  size = n;
+  ones = ones;
+  twos = twos;
+  capacities = capacities;
+  trimmed = trimmed;
+  degrees = degrees;
+  owners = owners;
+  cutSizes = sizes;
+  cutCounts = counts;
+  pairs = take k pairs;
+}
+
+-- what these lists are within the limits of edition 1
+pub record Shown (s starts ends : List ℕ) (n : ℕ) (ones twos capacities trimmed degrees owners sizes counts : List ℕ) (pairs : List Pair) (k : ℕ) : Type 0 where
+  pub few : n ≤ 256
+  pub named : AllNamed s starts ends n
+  pub linked : Links s starts ends ones twos capacities trimmed
+  pub owned : (x : ℕ) → 1 ≤ x → x ≤ n → Owned s starts ends owners x
+  pub cut : (a : ℕ) → 1 ≤ a → a ≤ n → Cuts degrees sizes counts a
+  pub paired : Paired s starts ends pairs k
+  pub small : total (take k pairs) < 1000000000000

@@ -8,8 +8,8 @@ ghost use Rattle.network.specs.Numbers.{pick, upfrom};
 ghost use Rattle.network.specs.Network.{sites, total};
 ghost use Rattle.network.specs.Text.{bytes};
 ghost use Rattle.network.specs.declared.Pair.{Pair};
-ghost use Rattle.report.specs.Report.{decimal, lines, planRecord, linkRecord, linkLine, ownerName, siteLine, cutRecord, cutLine, pairLine};
-ghost use Rattle.report.specs.Wrote.{Wrote, nameBy, Named, AllNamed, Links, Owned, Cuts, Paired};
+ghost use Rattle.report.specs.Report.{decimal, lines, planRecord, linkRecord, linkLine, ownerName, siteLine, cutRecord, cutLine, pairLine, reportOf};
+ghost use Rattle.report.specs.Wrote.{Wrote, nameBy, Named, AllNamed, Links, Owned, Cuts, Paired, shown, Shown};
 use network::Pair;
 
 // One byte.
@@ -69,11 +69,17 @@ fn put_letter(buf: &mut [u8], at: usize, letter: u8) -> usize
 }
 
 // The name of site v, and a byte that ends it.
-fn put_name(sheet: &[u8], start: &[usize], end: &[usize], v: usize, buf: &mut [u8], at: usize, stop: u8) -> usize
+fn put_name(
+    sheet: &[u8],
+    start: &[usize],
+    end: &[usize],
+    v: usize,
+    buf: &mut [u8],
+    at: usize,
+    stop: u8,
+) -> usize
     requires { ⌜ (at < 900000) × Named (now sheet) (now start) (now end) v ⌝ }
-    ensures {
-        λ r. ⌜ Wrote (now (buf .entry)) at (nameBy (now (sheet .entry)) (now (start .entry)) (now (end .entry)) v ++ (stop ∷ [])) (now (buf .exit)) r × (r ≤ at + 13) ⌝
-    }
+    ensures { λ r. ⌜ Wrote (now (buf .entry)) at (nameBy (now (sheet .entry)) (now (start .entry)) (now (end .entry)) v ++ (stop ∷ [])) (now (buf .exit)) r × (r ≤ at + 13) ⌝ }
 {
     let a = start[v - 1];
     let e = end[v - 1];
@@ -93,9 +99,7 @@ fn link_line(
     at: usize,
 ) -> usize
     requires { ⌜ (at < 800000) × Named (now sheet) (now start) (now end) one × Named (now sheet) (now start) (now end) two ⌝ }
-    ensures {
-        λ r. ⌜ Wrote (now (buf .entry)) at (linkRecord (nameBy (now (sheet .entry)) (now (start .entry)) (now (end .entry))) one two capacity trimmed) (now (buf .exit)) r × (r ≤ at + 70) ⌝
-    }
+    ensures { λ r. ⌜ Wrote (now (buf .entry)) at (linkRecord (nameBy (now (sheet .entry)) (now (start .entry)) (now (end .entry))) one two capacity trimmed) (now (buf .exit)) r × (r ≤ at + 70) ⌝ }
 {
     let letter = put_letter(buf, at, b'L');
     let first = put_name(sheet, start, end, one, buf, letter, 9);
@@ -117,28 +121,41 @@ fn link_lines(
     at: usize,
 ) -> usize
     requires { ⌜ (at < 100000) × Links (now sheet) (now start) (now end) (now one) (now two) (now capacity) (now trimmed) ⌝ }
-    ensures {
-        λ r. ⌜ Wrote (now (buf .entry)) at
-            (lines (linkLine (nameBy (now (sheet .entry)) (now (start .entry)) (now (end .entry))) (now (one .entry)) (now (two .entry)) (now (capacity .entry)) (now (trimmed .entry)))
-                (upfrom 0 (length (now (one .entry)))))
-            (now (buf .exit)) r × (r ≤ at + 70 * length (now (one .entry))) ⌝
-    }
+    ensures { λ r. ⌜ Wrote (now (buf .entry)) at
+        (lines (linkLine (nameBy (now (sheet .entry)) (now (start .entry)) (now (end .entry))) (now (one .entry)) (now (two .entry)) (now (capacity .entry)) (now (trimmed .entry)))
+        (upfrom 0 (length (now (one .entry)))))
+        (now (buf .exit)) r × (r ≤ at + 70 * length (now (one .entry))) ⌝ }
 {
     let mut next = at;
     let mut j = 0;
     while j < one.len() {
-        next = link_line(sheet, start, end, one[j], two[j], capacity[j], trimmed[j], buf, next);
+        next = link_line(
+            sheet,
+            start,
+            end,
+            one[j],
+            two[j],
+            capacity[j],
+            trimmed[j],
+            buf,
+            next,
+        );
         j += 1;
     }
     next
 }
 
 // The name of an owner, or `-`, as the last field of a line.
-fn put_owner(sheet: &[u8], start: &[usize], end: &[usize], owner: usize, buf: &mut [u8], at: usize) -> usize
+fn put_owner(
+    sheet: &[u8],
+    start: &[usize],
+    end: &[usize],
+    owner: usize,
+    buf: &mut [u8],
+    at: usize,
+) -> usize
     requires { ⌜ (at < 800000) × ((owner ≡ 0 → ⊥) → Named (now sheet) (now start) (now end) owner) ⌝ }
-    ensures {
-        λ r. ⌜ Wrote (now (buf .entry)) at (ownerName (nameBy (now (sheet .entry)) (now (start .entry)) (now (end .entry))) owner ++ (10 ∷ [])) (now (buf .exit)) r × (r ≤ at + 13) ⌝
-    }
+    ensures { λ r. ⌜ Wrote (now (buf .entry)) at (ownerName (nameBy (now (sheet .entry)) (now (start .entry)) (now (end .entry))) owner ++ (10 ∷ [])) (now (buf .exit)) r × (r ≤ at + 13) ⌝ }
 {
     if owner == 0 {
         let next = put_byte(buf, at, b'-');
@@ -148,11 +165,17 @@ fn put_owner(sheet: &[u8], start: &[usize], end: &[usize], owner: usize, buf: &m
 }
 
 // The line of a site.
-fn site_line(sheet: &[u8], start: &[usize], end: &[usize], owner: &[usize], x: usize, buf: &mut [u8], at: usize) -> usize
+fn site_line(
+    sheet: &[u8],
+    start: &[usize],
+    end: &[usize],
+    owner: &[usize],
+    x: usize,
+    buf: &mut [u8],
+    at: usize,
+) -> usize
     requires { ⌜ (at < 700000) × Named (now sheet) (now start) (now end) x × Owned (now sheet) (now start) (now end) (now owner) x ⌝ }
-    ensures {
-        λ r. ⌜ Wrote (now (buf .entry)) at (siteLine (nameBy (now (sheet .entry)) (now (start .entry)) (now (end .entry))) (now (owner .entry)) x) (now (buf .exit)) r × (r ≤ at + 28) ⌝
-    }
+    ensures { λ r. ⌜ Wrote (now (buf .entry)) at (siteLine (nameBy (now (sheet .entry)) (now (start .entry)) (now (end .entry))) (now (owner .entry)) x) (now (buf .exit)) r × (r ≤ at + 28) ⌝ }
 {
     let letter = put_letter(buf, at, b'N');
     let name = put_name(sheet, start, end, x, buf, letter, 9);
@@ -160,13 +183,17 @@ fn site_line(sheet: &[u8], start: &[usize], end: &[usize], owner: &[usize], x: u
 }
 
 // The lines of the sites 1 to n.
-fn site_lines(sheet: &[u8], start: &[usize], end: &[usize], owner: &[usize], n: usize, buf: &mut [u8], at: usize) -> usize
-    requires {
-        ⌜ (at < 200000) × (n ≤ 256) × AllNamed (now sheet) (now start) (now end) n × ((x : ℕ) → 1 ≤ x → x ≤ n → Owned (now sheet) (now start) (now end) (now owner) x) ⌝
-    }
-    ensures {
-        λ r. ⌜ Wrote (now (buf .entry)) at (lines (siteLine (nameBy (now (sheet .entry)) (now (start .entry)) (now (end .entry))) (now (owner .entry))) (sites n)) (now (buf .exit)) r × (r ≤ at + 28 * n) ⌝
-    }
+fn site_lines(
+    sheet: &[u8],
+    start: &[usize],
+    end: &[usize],
+    owner: &[usize],
+    n: usize,
+    buf: &mut [u8],
+    at: usize,
+) -> usize
+    requires { ⌜ (at < 200000) × (n ≤ 256) × AllNamed (now sheet) (now start) (now end) n × ((x : ℕ) → 1 ≤ x → x ≤ n → Owned (now sheet) (now start) (now end) (now owner) x) ⌝ }
+    ensures { λ r. ⌜ Wrote (now (buf .entry)) at (lines (siteLine (nameBy (now (sheet .entry)) (now (start .entry)) (now (end .entry))) (now (owner .entry))) (sites n)) (now (buf .exit)) r × (r ≤ at + 28 * n) ⌝ }
 {
     let mut next = at;
     let mut i = 0;
@@ -178,11 +205,18 @@ fn site_lines(sheet: &[u8], start: &[usize], end: &[usize], owner: &[usize], n: 
 }
 
 // The line of a terminal cut.
-fn cut_record(sheet: &[u8], start: &[usize], end: &[usize], a: usize, size: u64, count: usize, buf: &mut [u8], at: usize) -> usize
+fn cut_record(
+    sheet: &[u8],
+    start: &[usize],
+    end: &[usize],
+    a: usize,
+    size: u64,
+    count: usize,
+    buf: &mut [u8],
+    at: usize,
+) -> usize
     requires { ⌜ (at < 700000) × Named (now sheet) (now start) (now end) a ⌝ }
-    ensures {
-        λ r. ⌜ Wrote (now (buf .entry)) at (cutRecord (nameBy (now (sheet .entry)) (now (start .entry)) (now (end .entry))) a size count) (now (buf .exit)) r × (r ≤ at + 57) ⌝
-    }
+    ensures { λ r. ⌜ Wrote (now (buf .entry)) at (cutRecord (nameBy (now (sheet .entry)) (now (start .entry)) (now (end .entry))) a size count) (now (buf .exit)) r × (r ≤ at + 57) ⌝ }
 {
     let letter = put_letter(buf, at, b'X');
     let name = put_name(sheet, start, end, a, buf, letter, 9);
@@ -203,11 +237,9 @@ fn cut_line(
     at: usize,
 ) -> usize
     requires { ⌜ (at < 700000) × Named (now sheet) (now start) (now end) a × Cuts (now degree) (now size) (now count) a ⌝ }
-    ensures {
-        λ r. ⌜ Wrote (now (buf .entry)) at
-            (cutLine (nameBy (now (sheet .entry)) (now (start .entry)) (now (end .entry))) (now (degree .entry)) (now (size .entry)) (now (count .entry)) a)
-            (now (buf .exit)) r × (r ≤ at + 57) ⌝
-    }
+    ensures { λ r. ⌜ Wrote (now (buf .entry)) at
+        (cutLine (nameBy (now (sheet .entry)) (now (start .entry)) (now (end .entry))) (now (degree .entry)) (now (size .entry)) (now (count .entry)) a)
+        (now (buf .exit)) r × (r ≤ at + 57) ⌝ }
 {
     if degree[a - 1] == 1 {
         return cut_record(sheet, start, end, a, size[a - 1], count[a - 1], buf, at);
@@ -227,14 +259,10 @@ fn cut_lines(
     buf: &mut [u8],
     at: usize,
 ) -> usize
-    requires {
-        ⌜ (at < 200000) × (n ≤ 256) × AllNamed (now sheet) (now start) (now end) n × ((a : ℕ) → 1 ≤ a → a ≤ n → Cuts (now degree) (now size) (now count) a) ⌝
-    }
-    ensures {
-        λ r. ⌜ Wrote (now (buf .entry)) at
-            (lines (cutLine (nameBy (now (sheet .entry)) (now (start .entry)) (now (end .entry))) (now (degree .entry)) (now (size .entry)) (now (count .entry))) (sites n))
-            (now (buf .exit)) r × (r ≤ at + 57 * n) ⌝
-    }
+    requires { ⌜ (at < 200000) × (n ≤ 256) × AllNamed (now sheet) (now start) (now end) n × ((a : ℕ) → 1 ≤ a → a ≤ n → Cuts (now degree) (now size) (now count) a) ⌝ }
+    ensures { λ r. ⌜ Wrote (now (buf .entry)) at
+        (lines (cutLine (nameBy (now (sheet .entry)) (now (start .entry)) (now (end .entry))) (now (degree .entry)) (now (size .entry)) (now (count .entry))) (sites n))
+        (now (buf .exit)) r × (r ≤ at + 57 * n) ⌝ }
 {
     let mut next = at;
     let mut i = 0;
@@ -246,11 +274,16 @@ fn cut_lines(
 }
 
 // The line of a pair.
-fn pair_line(sheet: &[u8], start: &[usize], end: &[usize], pair: Pair, buf: &mut [u8], at: usize) -> usize
+fn pair_line(
+    sheet: &[u8],
+    start: &[usize],
+    end: &[usize],
+    pair: Pair,
+    buf: &mut [u8],
+    at: usize,
+) -> usize
     requires { ⌜ (at < 700000) × Named (now sheet) (now start) (now end) (pair .first) × Named (now sheet) (now start) (now end) (pair .second) ⌝ }
-    ensures {
-        λ r. ⌜ Wrote (now (buf .entry)) at (pairLine (nameBy (now (sheet .entry)) (now (start .entry)) (now (end .entry))) pair) (now (buf .exit)) r × (r ≤ at + 49) ⌝
-    }
+    ensures { λ r. ⌜ Wrote (now (buf .entry)) at (pairLine (nameBy (now (sheet .entry)) (now (start .entry)) (now (end .entry))) pair) (now (buf .exit)) r × (r ≤ at + 49) ⌝ }
 {
     let letter = put_letter(buf, at, b'P');
     let first = put_name(sheet, start, end, pair.first, buf, letter, 9);
@@ -259,11 +292,17 @@ fn pair_line(sheet: &[u8], start: &[usize], end: &[usize], pair: Pair, buf: &mut
 }
 
 // The lines of the first n pairs of a list.
-fn pair_lines(sheet: &[u8], start: &[usize], end: &[usize], pairs: [Pair; 256], n: usize, buf: &mut [u8], at: usize) -> usize
+fn pair_lines(
+    sheet: &[u8],
+    start: &[usize],
+    end: &[usize],
+    pairs: [Pair; 256],
+    n: usize,
+    buf: &mut [u8],
+    at: usize,
+) -> usize
     requires { ⌜ (at < 200000) × Paired (now sheet) (now start) (now end) pairs n ⌝ }
-    ensures {
-        λ r. ⌜ Wrote (now (buf .entry)) at (lines (pairLine (nameBy (now (sheet .entry)) (now (start .entry)) (now (end .entry)))) (take n pairs)) (now (buf .exit)) r × (r ≤ at + 49 * n) ⌝
-    }
+    ensures { λ r. ⌜ Wrote (now (buf .entry)) at (lines (pairLine (nameBy (now (sheet .entry)) (now (start .entry)) (now (end .entry)))) (take n pairs)) (now (buf .exit)) r × (r ≤ at + 49 * n) ⌝ }
 {
     let mut next = at;
     let mut i = 0;
@@ -277,7 +316,7 @@ fn pair_lines(sheet: &[u8], start: &[usize], end: &[usize], pairs: [Pair; 256], 
 
 // The sum of the amounts of the first n pairs of a list.
 fn amounts(pairs: [Pair; 256], n: usize) -> u64
-    requires { ⌜ (n ≤ 256) × (total (take n pairs) < 1000000000000) ⌝ }
+    requires { ⌜ (n ≤ 256) × (n ≤ length pairs) × (total (take n pairs) < 1000000000000) ⌝ }
     ensures { λ r. ⌜ r ≡ total (take n pairs) ⌝ }
 {
     let mut sum = 0;
@@ -301,4 +340,36 @@ fn plan_line(halves: u64, pairs: usize, buf: &mut [u8], at: usize) -> usize
     let n = put_letter(buf, a, b'n');
     let first = put_number(buf, n, halves, 9);
     put_number(buf, first, pairs as u64, 10)
+}
+
+// The report of a plan, from the start of the buffer, and its length. Only the planner calls it, with what it has read and worked out.
+pub fn write(
+    sheet: &[u8],
+    start: &[usize],
+    end: &[usize],
+    n: usize,
+    one: &[usize],
+    two: &[usize],
+    capacity: &[u64],
+    trimmed: &[u64],
+    degree: &[usize],
+    owner: &[usize],
+    size: &[u64],
+    count: &[usize],
+    pairs: [Pair; 256],
+    k: usize,
+    buf: &mut [u8],
+) -> usize
+    requires { ⌜ Shown (now sheet) (now start) (now end) n (now one) (now two) (now capacity) (now trimmed) (now degree) (now owner) (now size) (now count) pairs k ⌝ }
+    ensures { λ r. ⌜ Wrote (now (buf .entry)) 0
+        (reportOf (shown (now (sheet .entry)) (now (start .entry)) (now (end .entry)) n (now (one .entry)) (now (two .entry)) (now (capacity .entry)) (now (trimmed .entry))
+        (now (degree .entry)) (now (owner .entry)) (now (size .entry)) (now (count .entry)) pairs k))
+        (now (buf .exit)) r × (r ≤ 65536) ⌝ }
+{
+    let halves = amounts(pairs, k);
+    let heading = plan_line(halves, k, buf, 0);
+    let links = link_lines(sheet, start, end, one, two, capacity, trimmed, buf, heading);
+    let sites = site_lines(sheet, start, end, owner, n, buf, links);
+    let cuts = cut_lines(sheet, start, end, degree, size, count, n, buf, sites);
+    pair_lines(sheet, start, end, pairs, k, buf, cuts)
 }

@@ -1,45 +1,49 @@
+-- `amounts` meets its contract. The loop's invariant: the amounts of the first i pairs are summed.
+use mathlib.Core.Path.{_≡_, refl}
+use Prim.Native.Nat.{_+_, _-_, _≤_}
+use native.Mathlib.Omega.{arith}
+use lib.ListN.{take}
+use Rattle.network.specs.Network.{total}
+use Rattle.report.proofs.Totals.{total-next, total-part}
 use Rattle.report.proofs.amounts.Statement.{statement}
 use Rattle.report.proofs.amounts.Tie as tie
-use Rattle.report.proofs.amounts.Reads as reads
-use Rattle.report.proofs.amounts.Lts as lts
 
 abbrev Inv-loop : tie.InvT-loop
-Inv-loop n pairs sum₀ i₀ sum i = ?
+Inv-loop n pairs sum₀ i₀ sum i = (i ≤ n) × (sum ≡ total (take i pairs))
 
 abbrev μ-loop : tie.MeasureT-loop
-μ-loop n pairs sum₀ i₀ sum i = ?
+μ-loop n pairs sum₀ i₀ sum i = n - i
 
--- src/lib.rt:285:5
 loop-holds : tie.Need-loop-holds Inv-loop μ-loop
-loop-holds c = ?
+loop-holds c = (omega arith, unfold total in refl)
 
--- src/lib.rt:286:20
 mul-pair : tie.Need-mul-pair Inv-loop μ-loop
-mul-pair c = ?
+mul-pair c = omega arith
 
--- src/lib.rt:286:20
 array-copy-out-pair : tie.Need-array-copy-out-pair Inv-loop μ-loop
-array-copy-out-pair c = ?
+array-copy-out-pair c = omega arith
 
--- src/lib.rt:287:9
 add-sum : tie.Need-add-sum Inv-loop μ-loop
-add-sum c = ?
+add-sum c =
+    let top = c .before .before .before in
+    let s = top .before .args in
+    omega (arith, top .loop .inv .1, total-next (s .t1) (top .loop .i) (omega arith), total-part (s .t1) (top .loop .i + 1) (s .n) (omega arith), top .before .pre .2)
 
--- src/lib.rt:288:9
 add-i : tie.Need-add-i Inv-loop μ-loop
-add-i c = ?
+add-i c = omega arith
 
--- src/lib.rt:285:5
 loop-less : tie.Need-loop-less Inv-loop μ-loop
-loop-less c = ?
+loop-less c = omega arith
 
--- src/lib.rt:285:5
 loop-again : tie.Need-loop-again Inv-loop μ-loop
-loop-again c = ?
+loop-again c =
+    let top = c .before .before .before in
+    (omega arith, omega (arith, top .loop .inv .1, total-next (top .before .args .t1) (top .loop .i) (omega arith)))
 
--- src/lib.rt:279:1
 returns : tie.Need-returns Inv-loop μ-loop
-returns c = ?
+returns c =
+    let e : c .before .loop .i ≡ c .before .before .args .n = omega arith in
+    rw e at (c .before .loop .inv .1)
 
 pub amounts-spec : {M : Type 1} → statement M
 amounts-spec =

@@ -1,35 +1,36 @@
+-- `cut_record` meets its contract: its four fields, one after the other.
+use native.Mathlib.Omega.{arith}
+use Rattle.report.specs.Report.{cutRecord}
+use Rattle.report.proofs.Writing.{field-before, last-field}
 use borrow.Author.Needs.{needs}
 use Rattle.report.proofs.cut_record.Statement.{statement}
 use Rattle.report.proofs.cut_record.Tie as tie
-use Rattle.report.proofs.cut_record.Reads as reads
-use Rattle.report.proofs.cut_record.Lts as lts
-use Rattle.report.proofs.put_letter.Reads as put-letter-reads
-use Rattle.report.proofs.put_name.Reads as put-name-reads
-use Rattle.report.proofs.put_number.Reads as put-number-reads
 
--- src/lib.rt:187:9
 put-letter-requires : tie.Need-put-letter-requires
 put-letter-requires c κs = search needs
 
--- src/lib.rt:188:9
 put-name-requires : tie.Need-put-name-requires
 put-name-requires c κs = search needs
 
--- src/lib.rt:189:9
 put-number-requires : tie.Need-put-number-requires
 put-number-requires c κs = search needs
 
--- src/lib.rt:190:5
 put-number-requires-2 : tie.Need-put-number-requires-2
 put-number-requires-2 c κs = search needs
 
--- src/lib.rt:181:1
 same-length : tie.Need-same-length
 same-length c = search needs
 
--- src/lib.rt:181:1
 returns : tie.Need-returns
-returns c = ?
+unfolding cutRecord
+returns c =
+    let count = c .before .before .put-number2 .ensures in
+    let size = c .before .before .before .before .before .before .put-number .ensures in
+    let name = c .before .before .before .before .before .before .before .before .before .before .put-name .ensures in
+    let letter = c .before .before .before .before .before .before .before .before .before .before .before .before .before .before .put-letter .ensures in (
+      field-before _ _ _ letter (field-before _ _ _ (name .0) (field-before _ _ _ (size .0) (last-field _ (count .0)))),
+      omega (arith, letter .next, name .1, size .1, count .1),
+    )
 
 pub cut-record-spec : {M : Type 1} → statement M
 cut-record-spec =

@@ -36,8 +36,7 @@ returns c =
     let given = fourth .put-number .ensures in
     let two = third .put-name2 .ensures in
     let one = second .put-name .ensures in
-    let letter = first .put-letter .ensures in
-    (
+    let letter = first .put-letter .ensures in (
       field-before _ _ _ letter (field-before _ _ _ (one .0) (field-before _ _ _ (two .0) (field-before _ _ _ (given .0) (last-field _ (trimmed .0))))),
       omega (arith, letter .next, one .1, two .1, given .1, trimmed .1),
     )

@@ -64,8 +64,7 @@ loop-again : tie.Need-loop-again Inv-loop μ-loop
 loop-again c =
     let top = c .before .before .before .before .before .before .before .before .before in
     let s = top .before .before .before .before .before .before .before .before .before .args in
-    let w = c .before .before .link-line .ensures in
-    (
+    let w = c .before .before .link-line .ensures in (
       omega arith,
       lines-next (linkLine (nameBy (s .sheet .now) (s .start .now) (s .end .now)) (s .one .now) (s .two .now) (s .capacity .now) (s .trimmed .now)) 0 (top .loop .j) (top .loop .j)
           (omega arith) (top .loop .inv .1) (unfold linkLine in (w .0)),

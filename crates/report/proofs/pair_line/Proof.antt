@@ -1,35 +1,36 @@
+-- `pair_line` meets its contract: its four fields, one after the other.
+use native.Mathlib.Omega.{arith}
+use Rattle.report.specs.Report.{pairLine}
+use Rattle.report.proofs.Writing.{field-before, last-field}
 use borrow.Author.Needs.{needs}
 use Rattle.report.proofs.pair_line.Statement.{statement}
 use Rattle.report.proofs.pair_line.Tie as tie
-use Rattle.report.proofs.pair_line.Reads as reads
-use Rattle.report.proofs.pair_line.Lts as lts
-use Rattle.report.proofs.put_letter.Reads as put-letter-reads
-use Rattle.report.proofs.put_name.Reads as put-name-reads
-use Rattle.report.proofs.put_number.Reads as put-number-reads
 
--- src/lib.rt:255:9
 put-letter-requires : tie.Need-put-letter-requires
 put-letter-requires c κs = search needs
 
--- src/lib.rt:256:9
 put-name-requires : tie.Need-put-name-requires
 put-name-requires c κs = search needs
 
--- src/lib.rt:257:9
 put-name-requires-2 : tie.Need-put-name-requires-2
 put-name-requires-2 c κs = search needs
 
--- src/lib.rt:258:5
 put-number-requires : tie.Need-put-number-requires
 put-number-requires c κs = search needs
 
--- src/lib.rt:249:1
 same-length : tie.Need-same-length
 same-length c = search needs
 
--- src/lib.rt:249:1
 returns : tie.Need-returns
-returns c = ?
+unfolding pairLine
+returns c =
+    let amount = c .before .before .put-number .ensures in
+    let second = c .before .before .before .before .before .before .put-name2 .ensures in
+    let first = c .before .before .before .before .before .before .before .before .before .before .put-name .ensures in
+    let letter = c .before .before .before .before .before .before .before .before .before .before .before .before .before .before .put-letter .ensures in (
+      field-before _ _ _ letter (field-before _ _ _ (first .0) (field-before _ _ _ (second .0) (last-field _ (amount .0)))),
+      omega (arith, letter .next, first .1, second .1, amount .1),
+    )
 
 pub pair-line-spec : {M : Type 1} → statement M
 pair-line-spec =

@@ -1,50 +1,60 @@
+-- `pair_lines` meets its contract. The loop's invariant: the lines of the first i pairs are written.
+use mathlib.Core.Path.{_≡_}
+use Prim.Native.Nat.{_+_, _-_, _*_, _≤_}
+use native.Mathlib.Omega.{arith}
+use lib.ListN.{take}
+use Rattle.report.specs.Report.{lines, pairLine}
+use Rattle.report.specs.Wrote.{Wrote, nameBy}
+use Rattle.report.proofs.Writing.{nothing, same-size, pairs-next}
 use Rattle.report.proofs.pair_lines.Statement.{statement}
 use Rattle.report.proofs.pair_lines.Tie as tie
-use Rattle.report.proofs.pair_lines.Reads as reads
-use Rattle.report.proofs.pair_lines.Lts as lts
-use Rattle.report.proofs.pair_line.Reads as pair-line-reads
 
 abbrev Inv-loop : tie.InvT-loop
-Inv-loop sheet start end n buf₀ at pairs next₀ i₀ buf next i = ?
+Inv-loop sheet start end n buf₀ at pairs next₀ i₀ buf next i =
+    (i ≤ n) × Wrote buf₀ at (lines (pairLine (nameBy sheet start end)) (take i pairs)) buf next × (next ≤ at + 49 * i)
 
 abbrev μ-loop : tie.MeasureT-loop
-μ-loop sheet start end n buf₀ at pairs next₀ i₀ buf next i = ?
+μ-loop sheet start end n buf₀ at pairs next₀ i₀ buf next i = n - i
 
--- src/lib.rt:270:5
 loop-holds : tie.Need-loop-holds Inv-loop μ-loop
-loop-holds c = ?
+loop-holds c = (omega arith, unfold lines in (nothing (c .before .before .before .before .args .buf .now) (c .before .before .before .before .args .at)), omega arith)
 
--- src/lib.rt:271:20
 mul-pair : tie.Need-mul-pair Inv-loop μ-loop
-mul-pair c = ?
+mul-pair c = omega arith
 
--- src/lib.rt:271:20
 array-copy-out-pair : tie.Need-array-copy-out-pair Inv-loop μ-loop
-array-copy-out-pair c = ?
+array-copy-out-pair c = omega (arith, c .before .before .before .before .before .before .pre .1 .few)
 
--- src/lib.rt:272:9
 pair-line-requires : tie.Need-pair-line-requires Inv-loop μ-loop
-pair-line-requires c κs = ?
+pair-line-requires c κs =
+    let top = c .before .before .before in
+    let pre = top .before .before .before .before .before .pre in
+    let named = pre .1 .named (top .loop .i) (omega arith) in
+    (omega (arith, pre .1 .few), named .0, named .1)
 
--- src/lib.rt:273:9
 add-i : tie.Need-add-i Inv-loop μ-loop
-add-i c = ?
+add-i c = omega arith
 
--- src/lib.rt:270:5
 loop-less : tie.Need-loop-less Inv-loop μ-loop
-loop-less c = ?
+loop-less c = omega arith
 
--- src/lib.rt:270:5
 loop-again : tie.Need-loop-again Inv-loop μ-loop
-loop-again c = ?
+loop-again c =
+    let top = c .before .before .before .before .before .before in
+    let s = top .before .before .before .before .before .args in
+    let w = c .before .before .pair-line .ensures in (
+      omega arith,
+      pairs-next (pairLine (nameBy (s .sheet .now) (s .start .now) (s .end .now))) (s .t4) (top .loop .i) (omega (arith, top .before .before .before .before .before .pre .1 .held)) (top .loop .inv .1) (w .0),
+      omega (arith, w .1, top .loop .inv .2),
+    )
 
--- src/lib.rt:262:1
 same-length : tie.Need-same-length Inv-loop μ-loop
-same-length c = ?
+same-length c = same-size (c .before .loop .inv .1)
 
--- src/lib.rt:262:1
 returns : tie.Need-returns Inv-loop μ-loop
-returns c = ?
+returns c =
+    let e : c .before .loop .i ≡ c .before .before .before .before .before .before .args .n = omega arith in
+    (rw e at (c .before .loop .inv .1), rw e at (c .before .loop .inv .2))
 
 pub pair-lines-spec : {M : Type 1} → statement M
 pair-lines-spec =

@@ -1,38 +1,40 @@
+-- `put_owner` meets its contract: `-` for no owner, else its name.
+use mathlib.Core.Path.{refl}
+use native.Mathlib.Omega.{arith}
+use Rattle.theory.specs.Sums.{pick-same, pick-other}
+use Rattle.report.specs.Report.{ownerName}
+use Rattle.report.proofs.Writing.{then}
 use borrow.Author.Needs.{needs}
 use Rattle.report.proofs.put_owner.Statement.{statement}
 use Rattle.report.proofs.put_owner.Tie as tie
-use Rattle.report.proofs.put_owner.Reads as reads
-use Rattle.report.proofs.put_owner.Lts as lts
-use Rattle.report.proofs.put_byte.Reads as put-byte-reads
-use Rattle.report.proofs.put_name.Reads as put-name-reads
 
--- src/lib.rt:144:13
 put-byte-requires : tie.Need-put-byte-requires
 put-byte-requires c κs = search needs
 
--- src/lib.rt:145:9
 put-byte-requires-2 : tie.Need-put-byte-requires-2
 put-byte-requires-2 c κs = search needs
 
--- src/lib.rt:145:9
 same-length : tie.Need-same-length
 same-length c = search needs
 
--- src/lib.rt:145:9
 returns : tie.Need-returns
-returns c = ?
+unfolding ownerName
+returns c =
+    let stop = c .before .before .put-byte2 .ensures in
+    let dash = c .before .before .before .before .before .before .put-byte .ensures in
+    (rw (pick-same (c .before .before .before .before .before .before .before .before .if1 .taken)) (then dash stop), omega (arith, dash .next, stop .next))
 
--- src/lib.rt:147:5
 put-name-requires : tie.Need-put-name-requires
-put-name-requires c κs = ?
+put-name-requires c κs = (omega arith, c .before .before .before .before .before .before .pre .1 (c .before .if1 .left))
 
--- src/lib.rt:137:1
 same-length-2 : tie.Need-same-length-2
 same-length-2 c = search needs
 
--- src/lib.rt:137:1
 returns-2 : tie.Need-returns-2
-returns-2 c = ?
+unfolding ownerName
+returns-2 c =
+    let name = c .before .before .put-name .ensures in
+    (rw (pick-other (c .before .before .before .before .if1 .left)) (name .0), name .1)
 
 pub put-owner-spec : {M : Type 1} → statement M
 put-owner-spec =

@@ -1,46 +1,60 @@
+-- `site_lines` meets its contract. The loop's invariant: the lines of the first i sites are written.
+use mathlib.Core.Path.{_≡_}
+use Prim.Native.Nat.{_+_, _-_, _*_, _≤_}
+use native.Mathlib.Omega.{arith}
+use lib.ListN.{length}
+use Rattle.network.specs.Network.{sites}
+use Rattle.report.specs.Wrote.{Wrote, nameBy}
+use Rattle.report.proofs.Writing.{same-size, lines-none, lines-next}
+use Rattle.report.specs.Report.{lines, siteLine}
 use Rattle.report.proofs.site_lines.Statement.{statement}
 use Rattle.report.proofs.site_lines.Tie as tie
-use Rattle.report.proofs.site_lines.Reads as reads
-use Rattle.report.proofs.site_lines.Lts as lts
-use Rattle.report.proofs.site_line.Reads as site-line-reads
 
 abbrev Inv-loop : tie.InvT-loop
-Inv-loop sheet start end owner n buf₀ at next₀ i₀ buf next i = ?
+Inv-loop sheet start end owner n buf₀ at next₀ i₀ buf next i =
+    (i ≤ n) × Wrote buf₀ at (lines (siteLine (nameBy sheet start end) owner) (sites i)) buf next × (next ≤ at + 28 * i)
 
 abbrev μ-loop : tie.MeasureT-loop
-μ-loop sheet start end owner n buf₀ at next₀ i₀ buf next i = ?
+μ-loop sheet start end owner n buf₀ at next₀ i₀ buf next i = n - i
 
--- src/lib.rt:173:5
 loop-holds : tie.Need-loop-holds Inv-loop μ-loop
-loop-holds c = ?
+loop-holds c =
+    let s = c .before .before .before .before .before .args in
+    (omega arith, lines-none (s .buf .now) (s .at) (siteLine (nameBy (s .sheet .now) (s .start .now) (s .end .now)) (s .owner .now)) 1, omega arith)
 
--- src/lib.rt:174:52
 add-site-line : tie.Need-add-site-line Inv-loop μ-loop
-add-site-line c = ?
+add-site-line c = omega arith
 
--- src/lib.rt:174:9
 site-line-requires : tie.Need-site-line-requires Inv-loop μ-loop
-site-line-requires c κs = ?
+site-line-requires c κs =
+    let top = c .before .before in
+    let pre = top .before .before .before .before .before .before .pre in
+    let x = top .loop .i + 1 in
+    (omega (arith, pre .1), pre .2 x (omega arith) (omega arith), pre .3 x (omega arith) (omega arith))
 
--- src/lib.rt:175:9
 add-i : tie.Need-add-i Inv-loop μ-loop
-add-i c = ?
+add-i c = omega arith
 
--- src/lib.rt:173:5
 loop-less : tie.Need-loop-less Inv-loop μ-loop
-loop-less c = ?
+loop-less c = omega arith
 
--- src/lib.rt:173:5
 loop-again : tie.Need-loop-again Inv-loop μ-loop
-loop-again c = ?
+loop-again c =
+    let top = c .before .before .before .before .before in
+    let s = top .before .before .before .before .before .before .args in
+    let w = c .before .before .site-line .ensures in (
+      omega arith,
+      lines-next (siteLine (nameBy (s .sheet .now) (s .start .now) (s .end .now)) (s .owner .now)) 1 (top .loop .i) (top .loop .i + 1) (omega arith) (top .loop .inv .1) (w .0),
+      omega (arith, w .1, top .loop .inv .2),
+    )
 
--- src/lib.rt:163:1
 same-length : tie.Need-same-length Inv-loop μ-loop
-same-length c = ?
+same-length c = same-size (c .before .loop .inv .1)
 
--- src/lib.rt:163:1
 returns : tie.Need-returns Inv-loop μ-loop
-returns c = ?
+returns c =
+    let e : c .before .loop .i ≡ c .before .before .before .before .before .before .before .args .n = omega arith in
+    (rw e at (c .before .loop .inv .1), rw e at (c .before .loop .inv .2))
 
 pub site-lines-spec : {M : Type 1} → statement M
 site-lines-spec =
