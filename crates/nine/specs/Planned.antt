@@ -14,7 +14,7 @@ use Rattle.network.specs.Pairing.{lowerFirst, before, insert, ordered, pairList
 use Rattle.lines.specs.Lines.{lineLength, lineAt, afterLine, hasLine}
 use Rattle.sheet.specs.Sheet.{same, push, fields, all, isName, isNumber, valueFrom, isHeading, isSite, isLink, linkLine as sheetLink, kindOf, kind}
 use Rattle.sheet.specs.Sheet.{lookupFrom, newName, addSite, newLink, addLink, readHeading, readRecord, readLine, andThen, readLines, allJoined, finish, readSheet}
-use Rattle.report.specs.Report.{digits, decimal, line, lines, planOf, ownerName, planLine, linkLine, siteLine, cutLine, pairLine, reportOf, report}
+use Rattle.report.specs.Report.{digits, decimal, line, lines, planOf, ownerName, planRecord, linkRecord, linkLine, siteLine, cutRecord, cutLine, pairLine, reportOf, report}
 use Rattle.planner.specs.Outcome.{Planned, deliver, planRead, planned}
 use Rattle.planner.specs.declared.Outcome.the-variants.{Report}
 use Rattle.nine.specs.Sheets.{Example, sheets}
@@ -28,5 +28,5 @@ expected : Example → Planned
 expected e = record { outcome = Report (length (e .report)); buffer = e .report }
 
 nine-sheets : map plannedFor sheets ≡ map expected sheets
-unfolding plannedFor expected planned planRead deliver ℕ-discrete decLe decLt pick is differ less sum over count upfrom at sumAt leaf relabel label joined total cutAt cutSite cutSites unvisited first remove taken elimination balancedAlong balanced kept group inCut cutSize cutCount ownerAmong owner put takeHalves dropHalves halves give match joins between children gather alone settle walk pairsFrom lowestInner pairs lowerFirst before insert ordered pairList lineLength lineAt afterLine hasLine same push fields all isName isNumber valueFrom isHeading isSite isLink sheetLink kindOf kind lookupFrom newName addSite newLink addLink readHeading readRecord readLine andThen readLines allJoined finish readSheet digits decimal line lines planOf ownerName planLine linkLine siteLine cutLine pairLine reportOf report
+unfolding plannedFor expected planned planRead deliver ℕ-discrete decLe decLt pick is differ less sum over count upfrom at sumAt leaf relabel label joined total cutAt cutSite cutSites unvisited first remove taken elimination balancedAlong balanced kept group inCut cutSize cutCount ownerAmong owner put takeHalves dropHalves halves give match joins between children gather alone settle walk pairsFrom lowestInner pairs lowerFirst before insert ordered pairList lineLength lineAt afterLine hasLine same push fields all isName isNumber valueFrom isHeading isSite isLink sheetLink kindOf kind lookupFrom newName addSite newLink addLink readHeading readRecord readLine andThen readLines allJoined finish readSheet digits decimal line lines planOf ownerName planRecord linkRecord linkLine siteLine cutRecord cutLine pairLine reportOf report
 nine-sheets = refl

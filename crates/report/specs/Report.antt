@@ -116,3 +116,7 @@ reportOf p =
 -- the report of a network whose names stand in the sheet s
 unfoldable pub report : List ℕ → Network → List ℕ
 report s net = reportOf (planOf s net)
+
+-- the line that the program prints for a refusal: `refused`, number, line
+unfoldable pub refusalLine : ℕ → ℕ → List ℕ
+refusalLine number k = line (bytes "refused" ∷ decimal number ∷ decimal k ∷ [])

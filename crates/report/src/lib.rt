@@ -8,7 +8,7 @@ ghost use Rattle.network.specs.Numbers.{pick, upfrom};
 ghost use Rattle.network.specs.Network.{sites, total};
 ghost use Rattle.network.specs.Text.{bytes};
 ghost use Rattle.network.specs.declared.Pair.{Pair};
-ghost use Rattle.report.specs.Report.{decimal, lines, planRecord, linkRecord, linkLine, ownerName, siteLine, cutRecord, cutLine, pairLine, reportOf};
+ghost use Rattle.report.specs.Report.{decimal, lines, planRecord, linkRecord, linkLine, ownerName, siteLine, cutRecord, cutLine, pairLine, reportOf, refusalLine};
 ghost use Rattle.report.specs.Wrote.{Wrote, nameBy, Named, AllNamed, Links, Owned, Cuts, Paired, shown, Shown};
 use network::Pair;
 
@@ -372,4 +372,14 @@ pub fn write(
     let sites = site_lines(sheet, start, end, owner, n, buf, links);
     let cuts = cut_lines(sheet, start, end, degree, size, count, n, buf, sites);
     pair_lines(sheet, start, end, pairs, k, buf, cuts)
+}
+
+// The line of a refusal, from the start of the buffer, and its length.
+pub fn write_refusal(number: u64, line: usize, buf: &mut [u8]) -> usize
+    ensures { λ r. ⌜ Wrote (now (buf .entry)) 0 (refusalLine number line) (now (buf .exit)) r × (r ≤ 50) ⌝ }
+{
+    let word = [b'r', b'e', b'f', b'u', b's', b'e', b'd'];
+    let first = put_bytes(buf, 0, &word, 9);
+    let second = put_number(buf, first, number, 9);
+    put_number(buf, second, line as u64, 10)
 }

@@ -9,8 +9,8 @@ use borrow.Author.Tests.{eq-eqb, ne-eqb}
 use lib.Dec.{eqb}
 use lib.Seq.{drop-cons}
 use lib.ListN.{length, drop, getD, drop-of-length-le}
-use Rattle.network.specs.Numbers.{look, upfrom}
-use Rattle.network.specs.Network.{Links, one, two, label, relabel, sites}
+use Rattle.network.specs.Numbers.{pick, is, look, upfrom}
+use Rattle.network.specs.Network.{Links, one, two, at, label, relabel, sites}
 use Rattle.theory.specs.Sites.{look-values}
 use Rattle.tree.specs.Offer.{links, labelled}
 
@@ -33,6 +33,11 @@ links-one a b j h k = ap (λ l. l .0) (links-at a b j h k)
 
 pub links-two : (a b : List ℕ) (j : ℕ) → j < length a → j < length b → two (links a b) j ≡ look b j
 links-two a b j h k = ap (λ l. l .1) (links-at a b j h k)
+
+-- so v is a site of link j just if it stands at place j of a list
+pub links-at-site : (a b : List ℕ) (v j : ℕ) → j < length a → j < length b → at (links a b) v j ≡ pick (look a j) v 1 (is (look b j) v)
+unfolding at
+links-at-site a b v j h k = ap (λ l. pick (l .0) v 1 (is (l .1) v)) (links-at a b j h k)
 
 -- ---- the labels by the links from position j on, as a table over the sites
 

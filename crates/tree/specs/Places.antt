@@ -9,10 +9,10 @@ use native.Mathlib.Numerals.{add-one}
 use native.Mathlib.Nat.{add-zero, zero-add, add-suc, suc-add}
 use borrow.Author.Tests.{le-leb, lt-leb}
 use lib.Dec.{leb}
-use lib.Seq.{drop-cons, drop-length, getD-append-add, getD-drop}
-use lib.ListN.{length, drop, set, getD, length-map, length-append, length-drop, drop-of-length-le}
-use Rattle.network.specs.Numbers.{look, upfrom}
-use Rattle.theory.specs.Sites.{length-upfrom}
+use lib.Seq.{drop-cons, drop-length, getD-append-add, getD-drop, getD-take, length-take-le, ext-getD}
+use lib.ListN.{length, drop, set, getD, length-map, length-append, length-drop, take, take-append-drop, drop-of-length-le}
+use Rattle.network.specs.Numbers.{look, sum, upfrom}
+use Rattle.theory.specs.Sites.{length-upfrom, look-values}
 use Rattle.tree.specs.Offer.{within}
 
 -- the list l with f i at every place i below k
@@ -53,6 +53,19 @@ module _ (f : ℕ → ℕ) where
   unfolding filled
   length-filled k l h = length-append (map f (upfrom 0 k)) (drop k l) ∙ omega (arith, length-table k, length-drop k l)
 
+-- the same values make the same list
+pub same-values : (f g : ℕ → ℕ) (n : ℕ) → ((i : ℕ) → i < n → f i ≡ g i) → map f (upfrom 0 n) ≡ map g (upfrom 0 n)
+same-values f g n h = ext-getD 0 (map f (upfrom 0 n)) (map g (upfrom 0 n)) (length-table f n ∙ sym (length-table g n))
+    (λ i k. let l : i < n = omega (arith, length-table f n) in look-values f n i l ∙ h i l ∙ sym (look-values g n i l))
+
+-- filled with what stands there a list stays
+pub filled-same : (f : ℕ → ℕ) (k : ℕ) (l : List ℕ) → k ≤ length l → ((i : ℕ) → i < k → f i ≡ look l i) → filled f k l ≡ l
+unfolding filled
+filled-same f k l h e =
+    ap (λ r. r ++ drop k l) (ext-getD 0 (map f (upfrom 0 k)) (take k l) (length-table f k ∙ sym (length-take-le k l h))
+    (λ i p. let q : i < k = omega (arith, length-table f k) in look-values f k i q ∙ e i q ∙ sym (getD-take k l i 0 q)))
+    ∙ take-append-drop k l
+
 -- a list is the table of its places
 map-from : (f : ℕ → ℕ) (l : List ℕ) (g : ℕ → ℕ) (b : ℕ) → ((i : ℕ) → i < length l → g (b + i) ≡ f (look l i)) → map g (upfrom b (length l)) ≡ map f l
 unfolding upfrom
@@ -83,3 +96,9 @@ module _ (low high : ℕ) (l : List ℕ) (i : ℕ) (h : i < length l) where
 pub within-end : (low high : ℕ) (l : List ℕ) (i : ℕ) → length l ≤ i → within low high (drop i l) ≡ true
 unfolding within
 within-end low high l i h = rw (drop-of-length-le l h) refl
+
+-- ---- a sum over the places passed
+
+pub sum-next : {a b : ℕ} (f : ℕ → ℕ) (j : ℕ) → a ≡ sum j f → b ≡ f j → a + b ≡ sum (j + 1) f
+unfolding sum
+sum-next f j e g = rw (e, g, add-one) refl

@@ -5,7 +5,7 @@ ghost use mathlib.Core.Bool.{Bool, true, false};
 ghost use mathlib.Core.List.{map};
 ghost use Prim.Native.Nat.{ℕ, suc, _<_, _≤_};
 ghost use lib.ListN.{length};
-ghost use Rattle.network.specs.Numbers.{look, upfrom};
+ghost use Rattle.network.specs.Numbers.{pick, is, upfrom};
 ghost use Rattle.network.specs.Network.{label, relabel, sites};
 ghost use Rattle.network.specs.Edition.{edition1};
 ghost use Rattle.tree.specs.Offer.{links, within, labelled, isTree, offer};
@@ -18,6 +18,16 @@ pub enum Offer {
     TooLarge,
     // a tree whose capacities are within the limit
     Accepted,
+}
+
+// 1 if v is a site of the link between a and b, 0 if not.
+pub fn at_link(a: usize, b: usize, v: usize) -> u64
+    ensures { λ r. ⌜ r ≡ pick a v 1 (is b v) ⌝ }
+{
+    if a == v {
+        return 1;
+    }
+    if b == v { 1 } else { 0 }
 }
 
 // Whether every site number of a list lies between two limits.
@@ -49,7 +59,7 @@ fn capacities_within(most: u64, list: &[u64]) -> bool
 }
 
 // Every place with its own number: the labels while there is no link.
-fn own_labels() -> [usize; 257]
+pub fn own_labels() -> [usize; 257]
     ensures { λ r. ⌜ r ≡ upfrom 0 257 ⌝ }
 {
     let mut labels = [0usize; 257];
@@ -67,7 +77,7 @@ fn relabel_one(p: usize, q: usize, u: usize) -> usize
 }
 
 // All labels with p in the place of q.
-fn relabel_all(p: usize, q: usize, labels: [usize; 257]) -> [usize; 257]
+pub fn relabel_all(p: usize, q: usize, labels: [usize; 257]) -> [usize; 257]
     ensures { λ r. ⌜ r ≡ map (relabel p q) labels ⌝ }
 {
     let mut next = labels;

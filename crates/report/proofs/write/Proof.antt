@@ -21,8 +21,7 @@ site-lines-requires c κs = search needs
 
 cut-lines-requires : tie.Need-cut-lines-requires
 cut-lines-requires c κs =
-    let shown = c .before .before .before .before .before .before .before .before .before .before .before .before .before .before .before .before .before .before .before .before .before .before .before .before .before .before .pre in
-    (
+    let shown = c .before .before .before .before .before .before .before .before .before .before .before .before .before .before .before .before .before .before .before .before .before .before .before .before .before .before .pre in (
       omega (arith, shown .linked .few, c .before .before .before .before .before .before .before .before .before .before .before .plan-line .ensures .1, c .before .before .before .before .before .before .before .link-lines .ensures .1, c .before .before .before .site-lines .ensures .1, shown .few),
       shown .few,
       shown .named,
@@ -31,8 +30,7 @@ cut-lines-requires c κs =
 
 pair-lines-requires : tie.Need-pair-lines-requires
 pair-lines-requires c κs =
-    let shown = c .before .before .before .before .before .before .before .before .before .before .before .before .before .before .before .before .before .before .before .before .before .before .before .before .before .before .before .before .before .before .pre in
-    (
+    let shown = c .before .before .before .before .before .before .before .before .before .before .before .before .before .before .before .before .before .before .before .before .before .before .before .before .before .before .before .before .before .before .pre in (
       omega (arith, shown .linked .few, c .before .before .before .before .before .before .before .before .before .before .before .before .before .before .before .plan-line .ensures .1, c .before .before .before .before .before .before .before .before .before .before .before .link-lines .ensures .1, c .before .before .before .before .before .before .before .site-lines .ensures .1, c .before .before .before .cut-lines .ensures .1, shown .few),
       shown .paired,
     )
@@ -50,8 +48,7 @@ returns c =
     let sites = c .before .before .before .before .before .before .before .before .before .before .site-lines .ensures in
     let links = c .before .before .before .before .before .before .before .before .before .before .before .before .before .before .link-lines .ensures in
     let e = length-take-le (s .k) (s .pairs) (shown .paired .held) in
-    let heading = rw (c .before .before .before .before .before .before .before .before .before .before .before .before .before .before .before .before .before .before .before .before .amounts .ensures) at (c .before .before .before .before .before .before .before .before .before .before .before .before .before .before .before .before .before .before .plan-line .ensures .0) in
-    (
+    let heading = rw (c .before .before .before .before .before .before .before .before .before .before .before .before .before .before .before .before .before .before .before .before .amounts .ensures) at (c .before .before .before .before .before .before .before .before .before .before .before .before .before .before .before .before .before .before .plan-line .ensures .0) in (
       rw e (then (then (then (then heading (links .0)) (sites .0)) (cuts .0)) (pairs .0)),
       omega (arith, shown .linked .few, c .before .before .before .before .before .before .before .before .before .before .before .before .before .before .before .before .before .before .plan-line .ensures .1, links .1, sites .1, cuts .1, pairs .1, shown .few, shown .paired .few),
     )

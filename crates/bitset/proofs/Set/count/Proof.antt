@@ -1,0 +1,78 @@
+-- `Set::count` meets its contract: after i words the total is the number of members below 64 · i.
+use mathlib.Core.Path.{_≡_, refl, _∙_}
+use Prim.Native.Nat.{_+_, _-_, _*_, _≤_}
+use native.Mathlib.Omega.{arith}
+use borrow.Author.Needs.{needs}
+use lib.Count.{ones, ones-le}
+use lib.ListN.{getD}
+use mir.Syntax.{w64}
+use mir.Val.{Fits}
+use Rattle.network.specs.Numbers.{sum}
+use Rattle.bitset.specs.Members.{member}
+use Rattle.bitset.proofs.Words.{count-word}
+use Rattle.bitset.proofs.Set.count.Statement.{statement}
+use Rattle.bitset.proofs.Set.count.Tie as tie
+
+abbrev Inv-loop : tie.InvT-loop
+Inv-loop self total₀ i₀ total i = (i ≤ 4) × (total ≤ i * 64) × (total ≡ sum (i * 64) (member self))
+
+abbrev μ-loop : tie.MeasureT-loop
+μ-loop self total₀ i₀ total i = 4 - i
+
+loop-holds : tie.Need-loop-holds Inv-loop μ-loop
+unfolding sum
+loop-holds c = (omega arith, omega arith, refl)
+
+mul-ones : tie.Need-mul-ones Inv-loop μ-loop
+mul-ones c = search needs
+
+element-copy-out-ones : tie.Need-element-copy-out-ones Inv-loop μ-loop
+element-copy-out-ones c = search needs
+
+-- a word has at most 64 bits, and is counted
+counted : (c : tie.After-ones Inv-loop μ-loop) →
+    let s = c .before .before .before .args .t1 in
+    let i = c .before .before .loop .i in
+    (ones (getD (s .words) i 0) ≤ 64) × (sum ((i + 1) * 64) (member s) ≡ sum (i * 64) (member s) + ones (getD (s .words) i 0))
+counted c =
+    let s = c .before .before .before .args .t1 in
+    let i = c .before .before .loop .i in
+    let w : Fits w64 (getD (s .words) i 0) = search needs in
+    let e : (i + 1) * 64 ≡ i * 64 + 64 = omega arith in
+    (ones-le 64 (getD (s .words) i 0) (w .fits), rw e (count-word s i (w .fits)))
+
+cast-total : tie.Need-cast-total Inv-loop μ-loop
+cast-total c = omega (arith, counted c)
+
+add-total : tie.Need-add-total Inv-loop μ-loop
+add-total c = omega (arith, counted c)
+
+add-i : tie.Need-add-i Inv-loop μ-loop
+add-i c = search needs
+
+loop-less : tie.Need-loop-less Inv-loop μ-loop
+loop-less c = search needs
+
+loop-again : tie.Need-loop-again Inv-loop μ-loop
+loop-again c = omega (arith, counted c)
+
+returns : tie.Need-returns Inv-loop μ-loop
+returns c =
+    let e : c .before .loop .i * 64 ≡ 256 = omega arith in
+    c .before .loop .inv .2 ∙ rw e refl
+
+pub count-spec : {M : Type 1} → statement M
+count-spec =
+    tie.close
+    (tie.spec
+    Inv-loop
+    μ-loop
+    loop-holds
+    mul-ones
+    element-copy-out-ones
+    cast-total
+    add-total
+    add-i
+    loop-less
+    loop-again
+    returns)

@@ -1,0 +1,37 @@
+-- `Set::insert` meets its contract: `|` with a power of two sets just one bit.
+use mathlib.Core.Path.{_≡_}
+use borrow.Author.Needs.{needs}
+use lib.ListN.{length}
+use Rattle.bitset.proofs.Words.{insert-out, insert-in}
+use Rattle.bitset.proofs.Set.insert.Statement.{statement}
+use Rattle.bitset.proofs.Set.insert.Tie as tie
+
+returns : tie.Need-returns
+returns c =
+    let s = c .before .args in
+    let l : length (s .t1 .words) ≡ 4 = search needs in
+    λ j. insert-out (s .t1) (s .m) j l (c .if1 .taken)
+
+mul-word : tie.Need-mul-word
+mul-word c = search needs
+
+element-copy-out-word : tie.Need-element-copy-out-word
+element-copy-out-word c = search needs
+
+shl-word : tie.Need-shl-word
+shl-word c = search needs
+
+mul-self : tie.Need-mul-self
+mul-self c = search needs
+
+element-write-self : tie.Need-element-write-self
+element-write-self c = search needs
+
+returns-2 : tie.Need-returns-2
+returns-2 c =
+    let s = c .before .before .args in
+    let l : length (s .t1 .words) ≡ 4 = search needs in
+    λ j. insert-in (s .t1) (s .m) j l (c .before .if1 .left)
+
+pub insert-spec : {M : Type 1} → statement M
+insert-spec = tie.close (tie.spec returns mul-word element-copy-out-word shl-word mul-self element-write-self returns-2)

@@ -1,0 +1,6 @@
+pub mod Accepted
+pub mod Kept
+pub mod Terminals
+pub mod Cut
+pub mod Owners
+pub mod Next

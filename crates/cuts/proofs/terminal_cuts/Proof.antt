@@ -1,0 +1,67 @@
+-- `terminal_cuts` meets its contract, answer by answer.
+use mathlib.Core.Path.{_≡_, refl, sym, _∙_}
+use native.Mathlib.Omega.{arith}
+use borrow.Author.Needs.{needs}
+use borrow.Author.Tests.{eq-eqb, ne-eqb}
+use lib.ListN.{length}
+use Rattle.network.specs.Edition.{edition1}
+use Rattle.tree.specs.Offer.{offer}
+use Rattle.tree.specs.declared.Offer.the-variants.{Accepted}
+use Rattle.tree.specs.Accepted.{accepted-is-a-tree-within-the-limits}
+use Rattle.cuts.specs.Outcome.{decide, outcome}
+use Rattle.cuts.proofs.Accepted.{offered}
+use Rattle.cuts.proofs.terminal_cuts.Statement.{statement}
+use Rattle.cuts.proofs.terminal_cuts.Tie as tie
+
+no-tree : tie.Need-returns-2
+unfolding outcome decide
+no-tree c =
+    let said = sym (c .before .before .before .test .ensures) ∙ c .before .enum-told .given .1 in
+    c .nothing .ensures ∙ rw said refl
+
+too-large : tie.Need-returns-3
+unfolding outcome decide
+too-large c =
+    let said = sym (c .before .before .before .test .ensures) ∙ c .before .enum-told2 .given .1 in
+    c .nothing2 .ensures ∙ rw said refl
+
+-- the offer was accepted
+accepted : (c : tie.After-enum-told3) →
+    let a = c .before .before .before .before .before .before .before .args in
+    offer edition1 (a .n) (a .one .now) (a .two .now) (a .capacity .now) ≡ Accepted
+accepted c = sym (c .before .before .test .ensures) ∙ c .enum-told3 .given .1
+
+unequal : tie.Need-returns
+unfolding outcome decide
+unequal c =
+    let a = c .before .before .before .before .before .before .before .before .before .args in
+    c .nothing3 .ensures ∙ rw (accepted (c .before .before), ne-eqb (length (a .balanced .now)) (length (a .one .now)) (c .before .if1 .taken)) refl
+
+made : tie.Need-returns-4
+unfolding outcome decide
+made c =
+    let a = c .before .before .before .before .before .before .before .before .before .args in
+    c .cuts-of .ensures ∙ rw (accepted (c .before .before), eq-eqb (length (a .balanced .now)) (length (a .one .now)) (c .before .if1 .left)) refl
+
+cuts-of-requires : tie.Need-cuts-of-requires
+cuts-of-requires c κs =
+    let a = c .before .before .before .before .before .before .before .before .args in
+    let tree = accepted-is-a-tree-within-the-limits edition1 (a .n) (a .one .now) (a .two .now) (a .capacity .now) (accepted (c .before)) in
+    (tree .few, offered tree, c .if1 .left)
+
+pub terminal-cuts-spec : {M : Type 1} → statement M
+terminal-cuts-spec =
+    tie.close
+    (tie.spec
+    (λ c κs. tt)
+    (λ c. search needs)
+    (λ c κs. tt)
+    (λ c. search needs)
+    (λ c κs. tt)
+    (λ c. search needs)
+    (λ c κs. tt)
+    unequal
+    cuts-of-requires
+    no-tree
+    too-large
+    made)

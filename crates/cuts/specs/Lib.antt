@@ -1,0 +1,4 @@
+pub mod Outcome
+pub mod Places
+pub mod Promise
+pub mod Steps

@@ -1,0 +1,49 @@
+-- The outcome of `terminal_cuts`: what is said of the offer, and the owner of each site and the size and count of each cut.
+-- Document 01, "Plans, trimmed sizes, end sets" (end set, owner, size, count) and "Pairing" (what is said before anything else).
+use mathlib.Core.Bool.{Bool, true, false}
+use mathlib.Core.List.{List, _++_, map}
+use Prim.Native.Nat.{ℕ, _-_}
+use lib.Dec.{eqb}
+use lib.ListN.{length, replicate}
+use Rattle.network.specs.Numbers.{pick, look}
+use Rattle.network.specs.Edition.{edition1}
+use Rattle.network.specs.Network.{Links, sites, leaf}
+use Rattle.network.specs.Cuts.{cutSize, cutCount, owner}
+use Rattle.tree.specs.Offer.{links, offer}
+use Rattle.tree.specs.declared.Offer.{Offer}
+use Rattle.tree.specs.declared.Offer.the-variants as offered
+use Rattle.cuts.specs.declared.Answer.{Answer}
+use Rattle.cuts.specs.declared.Answer.the-variants.{NoTree, TooLarge, Unequal, Done}
+use Rattle.cuts.specs.declared.Cuts.{Cuts}
+
+-- f at the sites 1 .. n, then 0 up to 256 places: place x - 1 is that of site x
+unfoldable pub places : ℕ → (ℕ → ℕ) → List ℕ
+places n f = map f (sites n) ++ replicate (256 - n) 0
+
+-- f at a terminal, 0 at an inner site
+unfoldable pub ofTerminal : Links → (ℕ → ℕ) → ℕ → ℕ
+ofTerminal ls f x = pick (leaf ls x) 1 (f x) 0
+
+-- an answer without cuts: all 256 places without an owner (01), every size and count 0
+unfoldable pub nothing : Answer → Cuts
+nothing a = record { owner = replicate 256 0; size = replicate 256 0; count = replicate 256 0; answer = a }
+
+-- the cuts of a network with n sites; the terminals are the sites with just one link
+unfoldable pub cuts : Links → ℕ → (ℕ → ℕ) → (ℕ → ℕ) → Cuts
+cuts ls n c t = record {
+  owner = places n (owner ls c t (leaf ls) n);
+  size = places n (ofTerminal ls (cutSize ls c t));
+  count = places n (ofTerminal ls (cutCount ls c t n));
+  answer = Done;
+}
+
+-- the outcome by what is said of the offer, and by whether there is a balanced capacity for each link
+unfoldable pub decide : Offer → Bool → Cuts → Cuts
+decide offered.NoTree b r = nothing NoTree
+decide offered.TooLarge b r = nothing TooLarge
+decide offered.Accepted false r = nothing Unequal
+decide offered.Accepted true r = r
+
+-- the outcome of n sites, the first and second sites of the links, the given and the balanced capacities
+unfoldable pub outcome : ℕ → List ℕ → List ℕ → List ℕ → List ℕ → Cuts
+outcome n one two c t = decide (offer edition1 n one two c) (eqb (length t) (length one)) (cuts (links one two) n (look c) (look t))

@@ -1,0 +1,95 @@
+-- Lists with a place for each of the sites 1 .. n, and zeros behind: what they hold, and one site more.
+use mathlib.Core.Path.{_≡_, refl, sym, ap, _∙_}
+use mathlib.Core.List.{List, [], _∷_, _++_, map}
+use Prim.Native.Nat.{ℕ, zero, suc, _+_, _-_, _≤_, _<_}
+use native.Mathlib.Nat.{add-zero, add-suc, suc-add}
+use native.Mathlib.Numerals.{one-add}
+use native.Mathlib.Decide.{decLt}
+use native.Mathlib.Omega.{arith}
+use lib.ListN.{length, set, replicate, length-append, length-map, length-set, length-replicate, List·getD-append}
+use lib.Seq.{ext-getD, getD-append-add, getD-set-same, getD-set-other}
+use Rattle.network.specs.Numbers.{is, sum, over, count, look, upfrom}
+use Rattle.network.specs.Network.{sites}
+use Rattle.theory.specs.Sums.{is-other, cases, same?, sum-eq}
+use Rattle.theory.specs.Sites.{length-upfrom}
+use Rattle.bitset.specs.Parts.{sum-past, over-upfrom}
+use Rattle.cuts.specs.Outcome.{places}
+
+zeros : (m q : ℕ) → look (replicate m 0) q ≡ 0
+zeros zero q = refl
+zeros (suc m) zero = refl
+zeros (suc m) (suc q) = zeros m q
+
+module _ (f : ℕ → ℕ) where
+  length-sites : (n : ℕ) → length (map f (sites n)) ≡ n
+  length-sites n = length-map (sites n) f ∙ length-upfrom 1 n
+
+  pub length-places : (n : ℕ) → n ≤ 256 → length (places n f) ≡ 256
+  unfolding places
+  length-places n h = omega (arith, length-append (map f (sites n)) (replicate (256 - n) 0), length-sites n, length-replicate {A = ℕ} (256 - n) 0)
+
+  look-from : (b n i : ℕ) → i < n → look (map f (upfrom b n)) i ≡ f (b + i)
+  unfolding upfrom
+  look-from b zero i h = absurd (omega arith)
+  look-from b (suc n) zero h = rw (add-zero b) refl
+  look-from b (suc n) (suc i) h = rw (add-suc b i, ← (suc-add b i)) (look-from (suc b) n i (omega arith))
+
+  pub look-places : (n i : ℕ) → i < n → look (places n f) i ≡ f (suc i)
+  unfolding places
+  look-places n i h =
+      List·getD-append (map f (sites n)) (replicate (256 - n) 0) 0 i (omega (arith, length-sites n))
+      ∙ look-from 1 n i h
+      ∙ ap f (one-add i)
+
+  pub past-places : (n i : ℕ) → n ≤ i → look (places n f) i ≡ 0
+  unfolding places
+  past-places n i h =
+      let e : i ≡ length (map f (sites n)) + (i - n) = omega (arith, length-sites n) in
+      ap (look (map f (sites n) ++ replicate (256 - n) 0)) e ∙ getD-append-add (map f (sites n)) (replicate (256 - n) 0) (i - n) 0 ∙ zeros (256 - n) (i - n)
+
+  -- a list of 256 places is told by what it holds at the sites
+  pub places-is : (n : ℕ) (l : List ℕ) → n ≤ 256 → length l ≡ 256 → ((i : ℕ) → i < n → look l i ≡ f (suc i)) → ((i : ℕ) → n ≤ i → i < 256 → look l i ≡ 0) → l ≡ places n f
+  places-is n l h e at past = ext-getD 0 l (places n f) (e ∙ sym (length-places n h)) (λ i lt. cases (decLt i n)
+      (λ k. at i k ∙ sym (look-places n i k))
+      (λ k. past i (omega arith) (omega arith) ∙ sym (past-places n i (omega arith))))
+
+  -- the next site's place is set, or keeps its 0
+  pub places-next : (n : ℕ) → n < 256 → set (places n f) n (f (suc n)) ≡ places (suc n) f
+  places-next n h = places-is (suc n) (set (places n f) n (f (suc n))) h (length-set (places n f) n (f (suc n)) ∙ length-places n (omega arith))
+      (λ i lt. same? i n
+      (λ e. rw e (getD-set-same (places n f) n (f (suc n)) 0 (omega (arith, length-places n (omega arith)))))
+      (λ d. getD-set-other (places n f) n i (f (suc n)) 0 d ∙ look-places n i (omega arith)))
+      (λ i le lt. getD-set-other (places n f) n i (f (suc n)) 0 (λ e. omega arith) ∙ past-places n i (omega arith))
+
+  pub places-skip : (n : ℕ) → n < 256 → f (suc n) ≡ 0 → places n f ≡ places (suc n) f
+  places-skip n h z = places-is (suc n) (places n f) h (length-places n (omega arith))
+      (λ i lt. same? i n (λ e. rw e (past-places n n (omega arith) ∙ sym z)) (λ d. look-places n i (omega arith)))
+      (λ i le lt. past-places n i (omega arith))
+
+pub places-same : (f g : ℕ → ℕ) (n : ℕ) → n ≤ 256 → ((x : ℕ) → f x ≡ g x) → places n f ≡ places n g
+places-same f g n h e = places-is g n (places n f) h (length-places f n h) (λ i lt. look-places f n i lt ∙ e (suc i)) (λ i le lt. past-places f n i le)
+
+-- where f is 0 there are zeros only
+pub places-zero : (f : ℕ → ℕ) (n : ℕ) → n ≤ 256 → ((x : ℕ) → f x ≡ 0) → replicate 256 0 ≡ places n f
+places-zero f n h z = places-is f n (replicate 256 0) h (length-replicate {A = ℕ} 256 0) (λ i lt. zeros 256 i ∙ sym (z (suc i))) (λ i le lt. zeros 256 i)
+
+pub places-sum : (f : ℕ → ℕ) (n : ℕ) → n ≤ 256 → sum 256 (look (places n f)) ≡ over (sites n) f
+places-sum f n h =
+    let all : 256 ≡ n + (256 - n) = omega arith in
+    ap (λ m. sum m (look (places n f))) all
+    ∙ sum-past (look (places n f)) n (256 - n) (past-places f n)
+    ∙ sum-eq n (look (places n f)) (λ i. f (1 + i)) (λ i lt. look-places f n i lt ∙ ap f (sym (one-add i)))
+    ∙ sym (over-upfrom f 1 n)
+
+-- how often a number other than 0 stands in the places
+pub places-count : (f : ℕ → ℕ) (n w : ℕ) → 1 ≤ w → count (places n f) w ≡ over (sites n) (λ x. is (f x) w)
+unfolding places count over
+places-count f n w h = values (sites n)
+  where
+    none : (m : ℕ) → count (replicate m 0) w ≡ 0
+    none zero = refl
+    none (suc m) = omega (arith, none m, is-other {u = 0} {v = w} (λ e. omega arith))
+
+    values : (us : List ℕ) → count (map f us ++ replicate (256 - n) 0) w ≡ over us (λ x. is (f x) w)
+    values [] = none (256 - n)
+    values (u ∷ us) = ap (λ k. is (f u) w + k) (values us)

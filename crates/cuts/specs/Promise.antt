@@ -1,0 +1,110 @@
+-- What the outcome of `terminal_cuts` promises: it is given for accepted offers and no others, each place holds what is defined of its
+-- site, and for balanced capacities that are the greatest no site is in two cuts and the sizes sum to what leaves the terminals.
+use mathlib.Core.Path.{_≡_, refl, sym, ap, _∙_}
+use mathlib.Core.Bool.{Bool, true, false}
+use mathlib.Core.Logic.{_↔_}
+use mathlib.Core.List.{List}
+use Prim.Native.Nat.{ℕ, _-_, _*_, _≤_}
+use native.Mathlib.Omega.{arith}
+use borrow.Author.Tests.{eqb-true, eq-eqb}
+use lib.Dec.{eqb}
+use lib.ListN.{length}
+use Rattle.network.specs.Numbers.{is, sum, over, count, look}
+use Rattle.network.specs.Edition.{edition1}
+use Rattle.network.specs.Network.{Links, Site, sites, leaf, atTerminals}
+use Rattle.network.specs.Trimming.{Greatest}
+use Rattle.network.specs.Cuts.{group, inCut, cutSize, cutCount, owner}
+use Rattle.theory.specs.Sums.{pick-same, pick-other, is-same, is-other, is-one, is-iff, same?}
+use Rattle.theory.specs.Sites.{over-eq}
+use Rattle.theory.specs.TerminalCuts.{cut-sizes-sum-to-the-terminals}
+use Rattle.theory.specs.Owners.{owner-iff-in-cut, a-terminal-owns-itself}
+use Rattle.tree.specs.Offer.{links, offer}
+use Rattle.tree.specs.Accepted.{TreeWithin, accepted-is-a-tree-within-the-limits, a-tree-within-the-limits-is-accepted}
+use Rattle.tree.specs.declared.Offer.{Offer}
+use Rattle.tree.specs.declared.Offer.the-variants as offered
+use Rattle.cuts.specs.declared.Answer.the-variants.{Done}
+use Rattle.cuts.specs.declared.Cuts.{Cuts}
+use Rattle.cuts.specs.Outcome.{places, ofTerminal, nothing, cuts, decide, outcome}
+use Rattle.cuts.specs.Places.{look-places, places-sum, places-count}
+
+-- ---- for accepted offers and no others
+
+decided : (o : Offer) (b : Bool) (r : Cuts) → decide o b r .answer ≡ Done → (o ≡ offered.Accepted) × (b ≡ true)
+unfolding decide nothing
+decided offered.NoTree b r e = absurd (let z : _≡_ {A = ℕ} 0 1 = cc in omega arith)
+decided offered.TooLarge b r e = absurd (let z : _≡_ {A = ℕ} 0 1 = cc in omega arith)
+decided offered.Accepted false r e = absurd (let z : _≡_ {A = ℕ} 0 1 = cc in omega arith)
+decided offered.Accepted true r e = (refl, refl)
+
+module _ (n : ℕ) (a b c t : List ℕ) where
+  pub accepted-offers-get-their-cuts : TreeWithin edition1 n a b c → length t ≡ length a → outcome n a b c t ≡ cuts (links a b) n (look c) (look t)
+  unfolding outcome decide
+  accepted-offers-get-their-cuts w e = rw (a-tree-within-the-limits-is-accepted edition1 n a b c w, eq-eqb (length t) (length a) e) refl
+
+  pub cuts-are-for-accepted-offers : outcome n a b c t .answer ≡ Done → TreeWithin edition1 n a b c × (length t ≡ length a)
+  unfolding outcome
+  cuts-are-for-accepted-offers e =
+      let d = decided (offer edition1 n a b c) (eqb (length t) (length a)) (cuts (links a b) n (look c) (look t)) e in
+      (accepted-is-a-tree-within-the-limits edition1 n a b c (d .0), eqb-true (length t) (length a) (d .1))
+
+  -- ---- what the places hold
+
+  module _ (done : outcome n a b c t .answer ≡ Done) where
+    abbrev ls : Links
+    ls = links a b
+
+    within : TreeWithin edition1 n a b c
+    within = cuts-are-for-accepted-offers done .0
+
+    whole : outcome n a b c t ≡ cuts ls n (look c) (look t)
+    whole = accepted-offers-get-their-cuts within (cuts-are-for-accepted-offers done .1)
+
+    at-site : (f : ℕ → ℕ) (x : ℕ) → Site n x → look (places n f) (x - 1) ≡ f x
+    at-site f x p = look-places f n (x - 1) (omega arith) ∙ ap f (omega arith)
+
+    at-terminal : (f : ℕ → ℕ) (x : ℕ) → Site n x → leaf ls x ≡ 1 → look (places n (ofTerminal ls f)) (x - 1) ≡ f x
+    unfolding ofTerminal
+    at-terminal f x p m = at-site (ofTerminal ls f) x p ∙ pick-same m (f x) 0
+
+    pub owner-of-a-site : (x : ℕ) → Site n x → look (outcome n a b c t .owner) (x - 1) ≡ owner ls (look c) (look t) (leaf ls) n x
+    unfolding cuts
+    owner-of-a-site x p = rw whole (at-site (owner ls (look c) (look t) (leaf ls) n) x p)
+
+    pub size-of-a-cut : (w : ℕ) → Site n w → leaf ls w ≡ 1 → look (outcome n a b c t .size) (w - 1) ≡ cutSize ls (look c) (look t) w
+    unfolding cuts
+    size-of-a-cut w p m = rw whole (at-terminal (cutSize ls (look c) (look t)) w p m)
+
+    pub count-of-a-cut : (w : ℕ) → Site n w → leaf ls w ≡ 1 → look (outcome n a b c t .count) (w - 1) ≡ cutCount ls (look c) (look t) n w
+    unfolding cuts
+    count-of-a-cut w p m = rw whole (at-terminal (cutCount ls (look c) (look t) n) w p m)
+
+    -- ---- for the greatest balanced capacities
+
+    module _ (g : Greatest ls (leaf ls) (look c) (look t)) where
+      -- a place has one owner, so no site is in two cuts
+      pub a-terminal-owns-just-its-cut : (w x : ℕ) → Site n w → leaf ls w ≡ 1 → Site n x
+          → (look (outcome n a b c t .owner) (x - 1) ≡ w) ↔ (inCut ls (look c) (look t) w x ≡ 1)
+      a-terminal-owns-just-its-cut w x p m q = rw (owner-of-a-site x q) (owner-iff-in-cut (within .tree) (leaf ls) g w p m x)
+
+      pub a-terminal-owns-its-own-place : (w : ℕ) → Site n w → leaf ls w ≡ 1 → look (outcome n a b c t .owner) (w - 1) ≡ w
+      a-terminal-owns-its-own-place w p m = owner-of-a-site w p ∙ a-terminal-owns-itself (within .tree) (leaf ls) g w p m
+
+      pub a-count-is-how-often-its-terminal-is-owner : (w : ℕ) → Site n w → leaf ls w ≡ 1
+          → look (outcome n a b c t .count) (w - 1) ≡ count (outcome n a b c t .owner) w
+      unfolding cuts cutCount inCut
+      a-count-is-how-often-its-terminal-is-owner w p m =
+          let own = owner ls (look c) (look t) (leaf ls) n in
+          let labels = group ls (look c) (look t) in
+          let iff = owner-iff-in-cut (within .tree) (leaf ls) g w p m in
+          count-of-a-cut w p m
+          ∙ over-eq (sites n) (λ x. is (labels x) (labels w)) (λ x. is (own x) w)
+          (λ x q. is-iff (labels x) (labels w) (own x) w (λ e. iff x .1 (is-same e)) (λ e. is-one (iff x .0 e)))
+          ∙ sym (rw whole (places-count own n w (p .0)))
+
+      pub sizes-sum-to-the-terminals : sum 256 (look (outcome n a b c t .size)) ≡ atTerminals ls n (leaf ls) (look t)
+      unfolding cuts ofTerminal
+      sizes-sum-to-the-terminals = rw whole (
+          places-sum (ofTerminal ls (cutSize ls (look c) (look t))) n (within .few)
+          ∙ over-eq (sites n) (ofTerminal ls (cutSize ls (look c) (look t))) (λ w. is (leaf ls w) 1 * cutSize ls (look c) (look t) w)
+          (λ w p. same? (leaf ls w) 1 (λ e. rw (pick-same e, is-same e) (omega arith)) (λ d. rw (pick-other d, is-other d) (omega arith)))
+          ∙ cut-sizes-sum-to-the-terminals (within .tree) (leaf ls) g)

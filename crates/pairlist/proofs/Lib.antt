@@ -1,0 +1,5 @@
+pub mod Steps
+pub mod Locals
+pub mod Elements
+pub mod Again
+pub mod Arrays

@@ -1,0 +1,3 @@
+pub mod PairList
+pub mod Choice
+pub mod Laws

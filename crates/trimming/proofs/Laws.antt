@@ -1,0 +1,108 @@
+-- Cutting in a lent list, place by place: what one cut leaves is what the definition says, and cuts follow each other.
+use mathlib.Core.Path.{_≡_, refl, sym, ap, ap₂, _∙_}
+use mathlib.Core.Logic.{_≢_}
+use mathlib.Core.List.{List, [], _∷_, _++_, map}
+use Prim.Native.Nat.{ℕ, suc, _+_, _-_, _*_, _≤_, _<_, min}
+use native.Mathlib.Omega.{arith}
+use lib.Seq.{getD-take, take-at, drop-at, length-take-le}
+use lib.ListN.{length, take, drop, take-append-drop, length-append, List·getD-append}
+use Rattle.network.specs.Numbers.{pick, is, sum, look, upfrom}
+use Rattle.network.specs.Network.{Links, at, sumAt, leaf}
+use Rattle.network.specs.Trimming.{cutAt, cutSite, cutSites}
+use Rattle.theory.specs.Sums.{pick-same, pick-other, is-same, is-other, sum-ge}
+use Rattle.theory.specs.Sites.{sumAt-same}
+use Rattle.theory.specs.Cutting.{cutAt-le}
+use Rattle.theory.specs.Passes.{length-cutSites, look-cutSite}
+use Rattle.tree.specs.Offer.{links}
+use Rattle.tree.specs.Links.{length-links}
+use Rattle.tree.specs.Places.{filled, filled-same, same-values}
+use Rattle.trimming.specs.Steps.{Limited, cutFirst}
+
+-- ---- one link
+
+module _ (ls : Links) (v : ℕ) (c : ℕ → ℕ) (j : ℕ) where
+  -- a link at v has no more than all links at v together
+  pub at-most-all : j < length ls → at ls v j ≡ 1 → c j ≤ sumAt ls v c
+  unfolding sumAt
+  at-most-all h a = omega (arith, rw a at (sum-ge (length ls) j (λ i. at ls v i * c i) h))
+
+  pub cut-inner : leaf ls v ≢ 1 → {a t s : ℕ} → a ≡ at ls v j → t ≡ c j → s ≡ sumAt ls v c → pick a 1 (min t (s - t)) t ≡ cutAt ls (leaf ls) v c j
+  unfolding cutAt
+  cut-inner d e f g = rw (e, f, g) (sym (pick-other d _ _))
+
+  pub cut-terminal : leaf ls v ≡ 1 → cutAt ls (leaf ls) v c j ≡ c j
+  unfolding cutAt
+  cut-terminal e = pick-same e _ _
+
+cut-same : (ls : Links) (terminal : ℕ → ℕ) (v : ℕ) (c d : ℕ → ℕ) → ((i : ℕ) → i < length ls → c i ≡ d i) → (j : ℕ) → j < length ls → cutAt ls terminal v c j ≡ cutAt ls terminal v d j
+unfolding cutAt
+cut-same ls terminal v c d h j l = rw (h j l, sumAt-same ls v c d (λ i k a. h i k)) refl
+
+cut-sites-append : (ls : Links) (terminal : ℕ → ℕ) (vs ws c : List ℕ) → cutSites ls terminal ws (cutSites ls terminal vs c) ≡ cutSites ls terminal (vs ++ ws) c
+unfolding cutSites
+cut-sites-append ls terminal [] ws c = refl
+cut-sites-append ls terminal (v ∷ vs) ws c = cut-sites-append ls terminal vs ws (cutSite ls terminal v c)
+
+cut-sites-le : (ls : Links) (terminal : ℕ → ℕ) (vs c : List ℕ) (j : ℕ) → j < length ls → look (cutSites ls terminal vs c) j ≤ look c j
+unfolding cutSites
+cut-sites-le ls terminal [] c j h = omega arith
+cut-sites-le ls terminal (v ∷ vs) c j h =
+    omega (arith, cut-sites-le ls terminal vs (cutSite ls terminal v c) j h, look-cutSite ls terminal v c j h, cutAt-le ls terminal v (look c) j)
+
+-- ---- the lent list
+
+module _ (a b : List ℕ) (same : length b ≡ length a) where
+  -- filled from the front with the cut capacities it is cut at v
+  pub cut-filled : (v : ℕ) (l : List ℕ) → filled (cutAt (links a b) (leaf (links a b)) v (look l)) (length a) l ≡ cutFirst a b (v ∷ []) l
+  unfolding filled cutFirst cutSites cutSite
+  cut-filled v l =
+      let ls = links a b in
+      let all : length ls ≡ length a = length-links a b (sym same) in
+      rw all (ap (λ r. r ++ drop (length a) l) (same-values _ _ (length a)
+      (λ j h. cut-same ls (leaf ls) v (look l) (look (take (length a) l)) (λ i k. sym (getD-take (length a) l i 0 (omega arith))) j (omega arith))))
+
+  -- at a terminal nothing is cut
+  pub cut-none : (v : ℕ) (l : List ℕ) → length a ≤ length l → leaf (links a b) v ≡ 1 → l ≡ cutFirst a b (v ∷ []) l
+  cut-none v l h e =
+      let ls = links a b in
+      sym (filled-same (cutAt ls (leaf ls) v (look l)) (length a) l h (λ j k. cut-terminal ls v (look l) j e)) ∙ cut-filled v l
+
+  -- ---- cuts in turn
+
+  pub first-none : (l : List ℕ) → l ≡ cutFirst a b [] l
+  unfolding cutFirst cutSites
+  first-none l = sym (take-append-drop (length a) l)
+
+  length-done : (vs l : List ℕ) → length a ≤ length l → length (cutSites (links a b) (leaf (links a b)) vs (take (length a) l)) ≡ length a
+  length-done vs l h =
+      let ls = links a b in
+      let all : length ls ≡ length a = length-links a b (sym same) in
+      length-cutSites ls (leaf ls) vs (take (length a) l) (length-take-le (length a) l h ∙ sym all) ∙ all
+
+  pub first-more : (vs ws l : List ℕ) → length a ≤ length l → cutFirst a b ws (cutFirst a b vs l) ≡ cutFirst a b (vs ++ ws) l
+  unfolding cutFirst
+  first-more vs ws l h =
+      let ls = links a b in
+      let done = cutSites ls (leaf ls) vs (take (length a) l) in
+      let long = length-done vs l h in
+      rw (take-at done (drop (length a) l) (length a) long, drop-at done (drop (length a) l) (length a) long, cut-sites-append ls (leaf ls) vs ws (take (length a) l)) refl
+
+  -- the places stay within the limits
+  pub first-limited : (vs l : List ℕ) → Limited a b l → Limited a b (cutFirst a b vs l)
+  unfolding cutFirst
+  first-limited vs l h =
+      let ls = links a b in
+      let done = cutSites ls (leaf ls) vs (take (length a) l) in
+      let long = length-done vs l (h .places) in
+      record {
+        few = h .few;
+        seconds = h .seconds;
+        places = omega (arith, length-append done (drop (length a) l));
+        small = λ j k. omega (
+          arith,
+          List·getD-append done (drop (length a) l) 0 j (omega arith),
+          cut-sites-le ls (leaf ls) vs (take (length a) l) j (omega (arith, length-links a b (sym same))),
+          getD-take (length a) l j 0 k,
+          h .small j k,
+        );
+      }
