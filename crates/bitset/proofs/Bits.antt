@@ -1,24 +1,19 @@
 -- The bits of a number: how many are set, the lowest that is set, and one set by `|`.
-use mathlib.Core.Path.{_≡_, refl, sym, ap, _∙_}
+use mathlib.Core.Path.{_≡_, sym, ap, _∙_}
 use mathlib.Core.Logic.{_≢_, ⊎-elim}
 use Prim.Native.Nat.{ℕ, zero, suc, _+_, _-_, _*_, _/_, _%_, _^_, _≤_, _<_, max}
 use native.Mathlib.Nat.{div-eq-of-lt, pow-suc, mul-mod-left, one-mul, zero-div, eq-zero-or-pos, lt-of-lt-of-le, lt-of-le-of-lt}
 use native.Mathlib.Decide.{decLt}
-use native.Mathlib.Numerals.{add-one, one-add}
+use native.Mathlib.Numerals.{add-one}
 use native.Mathlib.Omega.{arith}
 use lib.Bits.{bitOr, or-shr, or-step}
-use lib.Count.{ones, ones-le, ones-step, trailingZeros, under}
+use lib.Count.{ones, ones-le, ones-step, trailingZeros}
 use lib.Pow.{shr-shr, pow-lt, pow-mono, shl-shr, shl-exact, pow-add, shr-lt, shr-le}
 use Rattle.network.specs.Numbers.{pick, is, sum}
 use Rattle.theory.specs.Sums.{pick-same, pick-other, is-same, is-other, cases, same?, sum-eq}
+use Rattle.bitset.specs.Laws.{bit-low, bit-up}
 use Rattle.bitset.specs.Parts.{sum-front}
 use Rattle.bitset.specs.Members.{bit}
-
-bit-low : (x : ℕ) → bit x 0 ≡ x % 2
-bit-low x = omega arith
-
-bit-up : (x k : ℕ) → bit x (suc k) ≡ bit (x / 2) k
-bit-up x k = ap (λ n. n % 2) (sym (rw (one-add k) at (shr-shr x 1 k)))
 
 bit-shr : (x k j : ℕ) → bit x (k + j) ≡ bit (x / 2 ^ k) j
 bit-shr x k j = ap (λ n. n % 2) (sym (shr-shr x k j))

@@ -1,7 +1,6 @@
 -- Four words as a set: one member more, the members of a word counted, and the next member of a word.
-use mathlib.Core.Path.{_≡_, refl, sym, ap, _∙_}
+use mathlib.Core.Path.{_≡_, refl, ap, _∙_}
 use mathlib.Core.Logic.{_≢_}
-use mathlib.Core.List.{List}
 use Prim.Native.Nat.{ℕ, zero, suc, _+_, _-_, _*_, _/_, _%_, _^_, _≤_, _<_}
 use native.Mathlib.Nat.{zero-div, add-assoc}
 use native.Mathlib.Omega.{arith}
@@ -9,15 +8,15 @@ use lib.Bits.{bitOr}
 use lib.Count.{ones, trailingZeros}
 use lib.ListN.{length, getD, set, replicate, List·getD-eq-default}
 use lib.Seq.{getD-set-same, getD-set-other}
-use Rattle.network.specs.Numbers.{pick, less, sum, look}
+use Rattle.network.specs.Numbers.{sum, look}
 use Rattle.theory.specs.Sums.{pick-same, pick-other, same?, less-one, less-none, sum-eq}
 use Rattle.bitset.specs.Members.{bit, member, adding, firstFrom}
 use Rattle.bitset.specs.declared.Set.{Set}
 use Rattle.bitset.specs.declared.Found.{Found}
 use Rattle.bitset.specs.declared.Found.the-variants.{At, Absent}
 use Rattle.bitset.specs.Parts.{sum-split}
-use Rattle.bitset.specs.Walks.{first-skip, first-hit}
-use Rattle.bitset.proofs.Bits.{ones-sum, NextBit, next-bit, no-bit, or-bit}
+use Rattle.bitset.specs.Laws.{member-bit, first-skip, first-hit}
+use Rattle.bitset.proofs.Bits.{ones-sum, next-bit, no-bit, or-bit}
 
 -- a number from 256 up is in no set
 pub member-out : (s : Set) (m : ℕ) → length (s .words) ≡ 4 → 256 ≤ m → member s m ≡ 0
@@ -34,14 +33,6 @@ member-empty j = rw (zeros 4 (j / 64), zero-div)
     zeros zero q = refl
     zeros (suc n) zero = refl
     zeros (suc n) (suc q) = zeros n q
-
--- bit r of the word q
-pub member-bit : (s : Set) (q r : ℕ) → r < 64 → member s (q * 64 + r) ≡ bit (getD (s .words) q 0) r
-unfolding member
-member-bit s q r h =
-    let a : (q * 64 + r) / 64 ≡ q = omega arith in
-    let b : (q * 64 + r) % 64 ≡ r = omega arith in
-    rw (a, b)
 
 pub insert-out : (s : Set) (m j : ℕ) → length (s .words) ≡ 4 → 256 ≤ m → member s j ≡ adding (member s) m j
 unfolding adding

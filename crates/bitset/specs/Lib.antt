@@ -1,3 +1,3 @@
 pub mod Members
-pub mod Walks
+pub mod Laws
 pub mod Parts

@@ -1,11 +1,10 @@
 -- What the helper functions require of an accepted offer.
 use mathlib.Core.Path.{_≡_}
 use mathlib.Core.List.{List}
-use Prim.Native.Nat.{ℕ, suc, _≤_, _<_}
+use Prim.Native.Nat.{ℕ, _≤_}
 use native.Mathlib.Omega.{arith}
 use lib.ListN.{length}
 use Rattle.network.specs.Edition.{edition1}
-use Rattle.network.specs.Numbers.{look}
 use Rattle.tree.specs.Accepted.{TreeWithin}
 use Rattle.tree.specs.Links.{length-links, links-one, links-two}
 use Rattle.cuts.specs.Steps.{Offered}

@@ -1,30 +1,23 @@
 -- The cut of one terminal as a set of places: made site by site, its size link by link.
-use mathlib.Core.Path.{_≡_, refl, sym, ap, _∙_}
+use mathlib.Core.Path.{_≡_, refl, sym, _∙_}
 use mathlib.Core.Logic.{_≢_}
 use mathlib.Core.List.{List}
-use Prim.Native.Nat.{ℕ, zero, suc, _+_, _-_, _*_, _≤_, _<_}
+use Prim.Native.Nat.{ℕ, _+_, _-_, _*_, _≤_, _<_}
 use native.Mathlib.Omega.{arith}
-use native.Mathlib.Numerals.{add-one}
 use native.Mathlib.Decide.{decLt}
-use Rattle.network.specs.Numbers.{pick, is, differ, less, sum, look}
-use Rattle.theory.specs.Sums.{pick-same, pick-other, cases, same?, is-same, is-other, differ-same, differ-other, differ-le, less-one, less-none}
+use Rattle.network.specs.Numbers.{less, look}
+use Rattle.theory.specs.Sums.{pick-same, pick-other, cases, same?, differ-same, differ-other, less-one, less-none}
 use Rattle.bitset.specs.Members.{member, adding}
 use Rattle.bitset.specs.declared.Set.{Set}
 use Rattle.cuts.specs.Steps.{crosses}
 
--- ---- the size, a link more
-
-pub crosses-none : (cut : Set) (one two c : List ℕ) → crosses cut one two c 0 ≡ 0
-unfolding crosses sum
-crosses-none cut one two c = refl
-
-pub crosses-next : (cut : Set) (one two c : List ℕ) (k : ℕ)
-    → crosses cut one two c (k + 1) ≡ crosses cut one two c k + differ (member cut (look one k - 1)) (member cut (look two k - 1)) * look c k
-unfolding crosses sum
-crosses-next cut one two c k = rw add-one
-
-pub crosses-le : (u v : ℕ) {c m : ℕ} → c ≤ m → differ u v * c ≤ m
-crosses-le u v h = same? u v (λ e. rw (differ-same e) (omega arith)) (λ d. rw (differ-other d) (omega arith))
+-- a link adds at most its capacity
+pub crosses-le : (cut : Set) (one two c : List ℕ) (j m : ℕ) → look c j ≤ m → crosses cut one two c j ≤ m
+unfolding crosses
+crosses-le cut one two c j m h =
+    let u = member cut (look one j - 1) in
+    let v = member cut (look two j - 1) in
+    same? u v (λ e. rw (differ-same e) (omega arith)) (λ d. rw (differ-other d) (omega arith))
 
 -- ---- the places below k at which g is 1
 

@@ -1,5 +1,5 @@
 -- The owners: a terminal put at the places of its cut that have none yet.
-use mathlib.Core.Path.{_≡_, refl, sym, ap, _∙_}
+use mathlib.Core.Path.{_≡_, refl, sym, _∙_}
 use mathlib.Core.Logic.{_≢_}
 use mathlib.Core.List.{List, _∷_, map}
 use Prim.Native.Nat.{ℕ, zero, suc, _+_, _-_, _*_, _≤_, _<_}
@@ -15,7 +15,7 @@ use Rattle.network.specs.Cuts.{inCut, ownerAmong}
 use Rattle.theory.specs.Sums.{pick-same, pick-other, is-same, is-other, cases, same?}
 use Rattle.theory.specs.Sites.{length-upfrom, look-values}
 use Rattle.bitset.specs.Members.{member}
-use Rattle.bitset.specs.Walks.{First, member-le}
+use Rattle.bitset.specs.Laws.{First}
 use Rattle.bitset.specs.declared.Set.{Set}
 use Rattle.cuts.specs.Steps.{claim}
 

@@ -21,29 +21,33 @@ unfoldable pub places : ℕ → (ℕ → ℕ) → List ℕ
 places n f = map f (sites n) ++ replicate (256 - n) 0
 
 -- f at a terminal, 0 at an inner site
-unfoldable pub ofTerminal : Links → (ℕ → ℕ) → ℕ → ℕ
-ofTerminal ls f x = pick (leaf ls x) 1 (f x) 0
+unfoldable pub ofTerminal : (ℕ → ℕ) → (ℕ → ℕ) → ℕ → ℕ
+ofTerminal terminal f x = pick (terminal x) 1 (f x) 0
 
 -- an answer without cuts: all 256 places without an owner (01), every size and count 0
-unfoldable pub nothing : Answer → Cuts
-nothing a = record { owner = replicate 256 0; size = replicate 256 0; count = replicate 256 0; answer = a }
+unfoldable pub noCuts : Answer → Cuts
+noCuts a = record { owner = replicate 256 0; size = replicate 256 0; count = replicate 256 0; answer = a }
 
--- the cuts of a network with n sites; the terminals are the sites with just one link
-unfoldable pub cuts : Links → ℕ → (ℕ → ℕ) → (ℕ → ℕ) → Cuts
-cuts ls n c t = record {
-  owner = places n (owner ls c t (leaf ls) n);
-  size = places n (ofTerminal ls (cutSize ls c t));
-  count = places n (ofTerminal ls (cutCount ls c t n));
+-- the cuts of the terminals of a network with n sites
+unfoldable pub cuts : Links → ℕ → (ℕ → ℕ) → (ℕ → ℕ) → (ℕ → ℕ) → Cuts
+cuts ls n terminal c t = record {
+  owner = places n (owner ls c t terminal n);
+  size = places n (ofTerminal terminal (cutSize ls c t));
+  count = places n (ofTerminal terminal (cutCount ls c t n));
   answer = Done;
 }
 
+-- the cuts of an offer; its terminals are the sites with just one link
+abbrev pub offeredCuts : ℕ → List ℕ → List ℕ → List ℕ → List ℕ → Cuts
+offeredCuts n one two c t = cuts (links one two) n (leaf (links one two)) (look c) (look t)
+
 -- the outcome by what is said of the offer, and by whether there is a balanced capacity for each link
 unfoldable pub decide : Offer → Bool → Cuts → Cuts
-decide offered.NoTree b r = nothing NoTree
-decide offered.TooLarge b r = nothing TooLarge
-decide offered.Accepted false r = nothing Unequal
+decide offered.NoTree b r = noCuts NoTree
+decide offered.TooLarge b r = noCuts TooLarge
+decide offered.Accepted false r = noCuts Unequal
 decide offered.Accepted true r = r
 
 -- the outcome of n sites, the first and second sites of the links, the given and the balanced capacities
 unfoldable pub outcome : ℕ → List ℕ → List ℕ → List ℕ → List ℕ → Cuts
-outcome n one two c t = decide (offer edition1 n one two c) (eqb (length t) (length one)) (cuts (links one two) n (look c) (look t))
+outcome n one two c t = decide (offer edition1 n one two c) (eqb (length t) (length one)) (offeredCuts n one two c t)

@@ -1,5 +1,6 @@
--- Lists with a place for each of the sites 1 .. n, and zeros behind: what they hold, and one site more.
+-- Laws of the places of an outcome: what the list for the sites 1 .. n holds, one site more, its sum, and how often a number stands in it.
 use mathlib.Core.Path.{_≡_, refl, sym, ap, _∙_}
+use mathlib.Core.Logic.{_≢_}
 use mathlib.Core.List.{List, [], _∷_, _++_, map}
 use Prim.Native.Nat.{ℕ, zero, suc, _+_, _-_, _≤_, _<_}
 use native.Mathlib.Nat.{add-zero, add-suc, suc-add}
@@ -10,10 +11,22 @@ use lib.ListN.{length, set, replicate, length-append, length-map, length-set, le
 use lib.Seq.{ext-getD, getD-append-add, getD-set-same, getD-set-other}
 use Rattle.network.specs.Numbers.{is, sum, over, count, look, upfrom}
 use Rattle.network.specs.Network.{sites}
-use Rattle.theory.specs.Sums.{is-other, cases, same?, sum-eq}
+use Rattle.theory.specs.Sums.{pick-same, pick-other, is-other, cases, same?, sum-eq}
 use Rattle.theory.specs.Sites.{length-upfrom}
 use Rattle.bitset.specs.Parts.{sum-past, over-upfrom}
-use Rattle.cuts.specs.Outcome.{places}
+use Rattle.cuts.specs.Outcome.{places, ofTerminal}
+
+-- ---- f at terminals
+
+pub of-inner : (terminal f : ℕ → ℕ) (x : ℕ) → terminal x ≢ 1 → ofTerminal terminal f x ≡ 0
+unfolding ofTerminal
+of-inner terminal f x d = pick-other d (f x) 0
+
+pub of-terminal : (terminal f : ℕ → ℕ) (x : ℕ) → terminal x ≡ 1 → ofTerminal terminal f x ≡ f x
+unfolding ofTerminal
+of-terminal terminal f x e = pick-same e (f x) 0
+
+-- ---- the places
 
 zeros : (m q : ℕ) → look (replicate m 0) q ≡ 0
 zeros zero q = refl

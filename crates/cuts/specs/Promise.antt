@@ -4,17 +4,17 @@ use mathlib.Core.Path.{_≡_, refl, sym, ap, _∙_}
 use mathlib.Core.Bool.{Bool, true, false}
 use mathlib.Core.Logic.{_↔_}
 use mathlib.Core.List.{List}
-use Prim.Native.Nat.{ℕ, _-_, _*_, _≤_}
+use Prim.Native.Nat.{ℕ, _-_, _*_}
 use native.Mathlib.Omega.{arith}
 use borrow.Author.Tests.{eqb-true, eq-eqb}
 use lib.Dec.{eqb}
 use lib.ListN.{length}
-use Rattle.network.specs.Numbers.{is, sum, over, count, look}
+use Rattle.network.specs.Numbers.{is, sum, count, look}
 use Rattle.network.specs.Edition.{edition1}
 use Rattle.network.specs.Network.{Links, Site, sites, leaf, atTerminals}
 use Rattle.network.specs.Trimming.{Greatest}
 use Rattle.network.specs.Cuts.{group, inCut, cutSize, cutCount, owner}
-use Rattle.theory.specs.Sums.{pick-same, pick-other, is-same, is-other, is-one, is-iff, same?}
+use Rattle.theory.specs.Sums.{is-same, is-other, is-one, is-iff, same?}
 use Rattle.theory.specs.Sites.{over-eq}
 use Rattle.theory.specs.TerminalCuts.{cut-sizes-sum-to-the-terminals}
 use Rattle.theory.specs.Owners.{owner-iff-in-cut, a-terminal-owns-itself}
@@ -24,27 +24,27 @@ use Rattle.tree.specs.declared.Offer.{Offer}
 use Rattle.tree.specs.declared.Offer.the-variants as offered
 use Rattle.cuts.specs.declared.Answer.the-variants.{Done}
 use Rattle.cuts.specs.declared.Cuts.{Cuts}
-use Rattle.cuts.specs.Outcome.{places, ofTerminal, nothing, cuts, decide, outcome}
-use Rattle.cuts.specs.Places.{look-places, places-sum, places-count}
+use Rattle.cuts.specs.Outcome.{places, ofTerminal, noCuts, cuts, offeredCuts, decide, outcome}
+use Rattle.cuts.specs.Places.{of-inner, of-terminal, look-places, places-sum, places-count}
 
 -- ---- for accepted offers and no others
 
 decided : (o : Offer) (b : Bool) (r : Cuts) → decide o b r .answer ≡ Done → (o ≡ offered.Accepted) × (b ≡ true)
-unfolding decide nothing
+unfolding decide noCuts
 decided offered.NoTree b r e = absurd (let z : _≡_ {A = ℕ} 0 1 = cc in omega arith)
 decided offered.TooLarge b r e = absurd (let z : _≡_ {A = ℕ} 0 1 = cc in omega arith)
 decided offered.Accepted false r e = absurd (let z : _≡_ {A = ℕ} 0 1 = cc in omega arith)
 decided offered.Accepted true r e = (refl, refl)
 
 module _ (n : ℕ) (a b c t : List ℕ) where
-  pub accepted-offers-get-their-cuts : TreeWithin edition1 n a b c → length t ≡ length a → outcome n a b c t ≡ cuts (links a b) n (look c) (look t)
+  pub accepted-offers-get-their-cuts : TreeWithin edition1 n a b c → length t ≡ length a → outcome n a b c t ≡ offeredCuts n a b c t
   unfolding outcome decide
   accepted-offers-get-their-cuts w e = rw (a-tree-within-the-limits-is-accepted edition1 n a b c w, eq-eqb (length t) (length a) e) refl
 
   pub cuts-are-for-accepted-offers : outcome n a b c t .answer ≡ Done → TreeWithin edition1 n a b c × (length t ≡ length a)
   unfolding outcome
   cuts-are-for-accepted-offers e =
-      let d = decided (offer edition1 n a b c) (eqb (length t) (length a)) (cuts (links a b) n (look c) (look t)) e in
+      let d = decided (offer edition1 n a b c) (eqb (length t) (length a)) (offeredCuts n a b c t) e in
       (accepted-is-a-tree-within-the-limits edition1 n a b c (d .0), eqb-true (length t) (length a) (d .1))
 
   -- ---- what the places hold
@@ -56,15 +56,14 @@ module _ (n : ℕ) (a b c t : List ℕ) where
     within : TreeWithin edition1 n a b c
     within = cuts-are-for-accepted-offers done .0
 
-    whole : outcome n a b c t ≡ cuts ls n (look c) (look t)
+    whole : outcome n a b c t ≡ offeredCuts n a b c t
     whole = accepted-offers-get-their-cuts within (cuts-are-for-accepted-offers done .1)
 
     at-site : (f : ℕ → ℕ) (x : ℕ) → Site n x → look (places n f) (x - 1) ≡ f x
     at-site f x p = look-places f n (x - 1) (omega arith) ∙ ap f (omega arith)
 
-    at-terminal : (f : ℕ → ℕ) (x : ℕ) → Site n x → leaf ls x ≡ 1 → look (places n (ofTerminal ls f)) (x - 1) ≡ f x
-    unfolding ofTerminal
-    at-terminal f x p m = at-site (ofTerminal ls f) x p ∙ pick-same m (f x) 0
+    at-terminal : (f : ℕ → ℕ) (x : ℕ) → Site n x → leaf ls x ≡ 1 → look (places n (ofTerminal (leaf ls) f)) (x - 1) ≡ f x
+    at-terminal f x p m = at-site (ofTerminal (leaf ls) f) x p ∙ of-terminal (leaf ls) f x m
 
     pub owner-of-a-site : (x : ℕ) → Site n x → look (outcome n a b c t .owner) (x - 1) ≡ owner ls (look c) (look t) (leaf ls) n x
     unfolding cuts
@@ -102,9 +101,11 @@ module _ (n : ℕ) (a b c t : List ℕ) where
           ∙ sym (rw whole (places-count own n w (p .0)))
 
       pub sizes-sum-to-the-terminals : sum 256 (look (outcome n a b c t .size)) ≡ atTerminals ls n (leaf ls) (look t)
-      unfolding cuts ofTerminal
+      unfolding cuts
       sizes-sum-to-the-terminals = rw whole (
-          places-sum (ofTerminal ls (cutSize ls (look c) (look t))) n (within .few)
-          ∙ over-eq (sites n) (ofTerminal ls (cutSize ls (look c) (look t))) (λ w. is (leaf ls w) 1 * cutSize ls (look c) (look t) w)
-          (λ w p. same? (leaf ls w) 1 (λ e. rw (pick-same e, is-same e) (omega arith)) (λ d. rw (pick-other d, is-other d) (omega arith)))
+          places-sum (ofTerminal (leaf ls) (cutSize ls (look c) (look t))) n (within .few)
+          ∙ over-eq (sites n) (ofTerminal (leaf ls) (cutSize ls (look c) (look t))) (λ w. is (leaf ls w) 1 * cutSize ls (look c) (look t) w)
+          (λ w p. same? (leaf ls w) 1
+          (λ e. rw (of-terminal (leaf ls) (cutSize ls (look c) (look t)) w e, is-same e) (omega arith))
+          (λ d. rw (of-inner (leaf ls) (cutSize ls (look c) (look t)) w d, is-other d) (omega arith)))
           ∙ cut-sizes-sum-to-the-terminals (within .tree) (leaf ls) g)

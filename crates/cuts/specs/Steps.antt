@@ -4,7 +4,7 @@ use mathlib.Core.List.{List, map}
 use Prim.Native.Nat.{ℕ, _+_, _-_, _*_, _≤_, _<_}
 use lib.ListN.{length, set}
 use Rattle.network.specs.Numbers.{pick, differ, sum, upfrom, look}
-use Rattle.network.specs.Network.{Links, Site, sites, leaf}
+use Rattle.network.specs.Network.{Links, Site, sites}
 use Rattle.network.specs.Cuts.{cutSize, cutCount, ownerAmong}
 use Rattle.bitset.specs.Members.{member}
 use Rattle.bitset.specs.declared.Set.{Set}
@@ -24,24 +24,24 @@ pub record Offered (n : ℕ) (one two c : List ℕ) : Type 0 where
 unfoldable pub claim : List ℕ → Set → ℕ → ℕ → ℕ
 claim owner cut a i = pick (look owner i) 0 (pick (member cut i) 1 a 0) (look owner i)
 
--- the capacities of the first k links with just one site in the cut, summed
+-- the capacity of link j if just one of its sites is in the cut, else 0
 unfoldable pub crosses : Set → List ℕ → List ℕ → List ℕ → ℕ → ℕ
-crosses cut one two c k = sum k (λ j. differ (member cut (look one j - 1)) (member cut (look two j - 1)) * look c j)
+crosses cut one two c j = differ (member cut (look one j - 1)) (member cut (look two j - 1)) * look c j
 
 -- the cuts with that of the terminal at place i added
 unfoldable pub adding : Cuts → Set → ℕ → List ℕ → List ℕ → List ℕ → Cuts
 adding r cut i one two c = record {
   owner = map (claim (r .owner) cut (i + 1)) (upfrom 0 256);
-  size = set (r .size) i (crosses cut one two c (length one));
+  size = set (r .size) i (sum (length one) (crosses cut one two c));
   count = set (r .count) i (sum 256 (member cut));
   answer = r .answer;
 }
 
 -- the cuts of the terminals among the first k of n sites
-unfoldable pub cutsTo : Links → (ℕ → ℕ) → (ℕ → ℕ) → ℕ → ℕ → Cuts
-cutsTo ls c t n k = record {
-  owner = places n (ownerAmong ls c t (leaf ls) (sites k));
-  size = places k (ofTerminal ls (cutSize ls c t));
-  count = places k (ofTerminal ls (cutCount ls c t n));
+unfoldable pub cutsTo : Links → ℕ → (ℕ → ℕ) → (ℕ → ℕ) → (ℕ → ℕ) → ℕ → Cuts
+cutsTo ls n terminal c t k = record {
+  owner = places n (ownerAmong ls c t terminal (sites k));
+  size = places k (ofTerminal terminal (cutSize ls c t));
+  count = places k (ofTerminal terminal (cutCount ls c t n));
   answer = Done;
 }

@@ -4,17 +4,16 @@ use bitset::Set;
 use tree::Offer;
 ghost use mathlib.Core.Path.{_≡_};
 ghost use mathlib.Core.List.{map};
-ghost use Prim.Native.Nat.{ℕ, suc, _+_, _-_, _*_, _≤_, _<_};
+ghost use Prim.Native.Nat.{ℕ, _+_, _-_, _*_, _≤_, _<_};
 ghost use lib.Dec.{eqb};
 ghost use lib.ListN.{length};
-ghost use Rattle.network.specs.Numbers.{pick, is, differ, less, sum, upfrom, look};
+ghost use Rattle.network.specs.Numbers.{is, differ, less, sum, upfrom, look};
 ghost use Rattle.network.specs.Network.{leaf};
 ghost use Rattle.network.specs.Cuts.{group};
 ghost use Rattle.bitset.specs.Members.{member};
 ghost use Rattle.tree.specs.Offer.{links};
 ghost use Rattle.cuts.specs.Steps.{Offered, claim, crosses, adding};
-ghost use Rattle.cuts.specs.Outcome.{cuts, outcome};
-ghost use Rattle.cuts.specs.Outcome;
+ghost use Rattle.cuts.specs.Outcome.{noCuts, offeredCuts, outcome};
 
 // What is said of an offer of a tree with given and balanced capacities.
 pub enum Answer {
@@ -41,8 +40,8 @@ pub struct Cuts {
 const NONE: usize = 0;
 
 // An answer without cuts.
-fn nothing(answer: Answer) -> Cuts
-    ensures { λ r. ⌜ r ≡ Outcome.nothing answer ⌝ }
+fn no_cuts(answer: Answer) -> Cuts
+    ensures { λ r. ⌜ r ≡ noCuts answer ⌝ }
 {
     Cuts {
         owner: [NONE; 256],
@@ -68,24 +67,14 @@ fn groups(one: &[usize], two: &[usize], capacity: &[u64], balanced: &[u64]) -> [
     labels
 }
 
-// 1 if v is a site of the link between a and b, else 0.
-fn at_site(a: usize, b: usize, v: usize) -> usize
-    ensures { λ r. ⌜ r ≡ pick a v 1 (is b v) ⌝ }
-{
-    if a == v {
-        return 1;
-    }
-    if b == v { 1 } else { 0 }
-}
-
 // Whether site v has just one link.
 fn is_terminal(one: &[usize], two: &[usize], v: usize) -> bool
     requires { ⌜ length (now two) ≡ length (now one) ⌝ }
     ensures { λ r. ⌜ r ≡ eqb (leaf (links (now (one .entry)) (now (two .entry))) v) 1 ⌝ }
 {
-    let mut degree: usize = 0;
+    let mut degree: u64 = 0;
     for j in 0..one.len() {
-        degree += at_site(one[j], two[j], v);
+        degree += tree::at_link(one[j], two[j], v);
     }
     degree == 1
 }
@@ -121,22 +110,28 @@ fn claimed(owner: [usize; 256], cut: Set, a: usize) -> [usize; 256]
     }
 }
 
+// 1 if the cut holds site x, 0 if not.
+fn inside(cut: Set, x: usize) -> u64
+    requires { ⌜ 1 ≤ x ⌝ }
+    ensures { λ r. ⌜ r ≡ member cut (x - 1) ⌝ }
+{
+    if cut.has(x - 1) { 1 } else { 0 }
+}
+
 // 1 if the cut holds just one of the sites a and b, 0 if not.
 fn crossing(cut: Set, a: usize, b: usize) -> u64
     requires { ⌜ (1 ≤ a) × (1 ≤ b) ⌝ }
     ensures { λ r. ⌜ r ≡ differ (member cut (a - 1)) (member cut (b - 1)) ⌝ }
 {
-    if cut.has(a - 1) {
-        if cut.has(b - 1) { 0 } else { 1 }
-    } else {
-        if cut.has(b - 1) { 1 } else { 0 }
-    }
+    let first = inside(cut, a);
+    let second = inside(cut, b);
+    if first == second { 0 } else { 1 }
 }
 
 // The given capacities of the links with just one site in the cut, summed.
 fn size_of(cut: Set, one: &[usize], two: &[usize], capacity: &[u64]) -> u64
     requires { ⌜ Offered 256 (now one) (now two) (now capacity) ⌝ }
-    ensures { λ r. ⌜ r ≡ crosses cut (now (one .entry)) (now (two .entry)) (now (capacity .entry)) (length (now (one .entry))) ⌝ }
+    ensures { λ r. ⌜ r ≡ sum (length (now (one .entry))) (crosses cut (now (one .entry)) (now (two .entry)) (now (capacity .entry))) ⌝ }
 {
     let mut size: u64 = 0;
     for j in 0..one.len() {
@@ -161,10 +156,10 @@ fn with_cut(cuts: Cuts, cut: Set, i: usize, one: &[usize], two: &[usize], capaci
 // The cuts of the terminals of a tree of n sites.
 fn cuts_of(n: usize, one: &[usize], two: &[usize], capacity: &[u64], balanced: &[u64]) -> Cuts
     requires { ⌜ (n ≤ 256) × Offered n (now one) (now two) (now capacity) × (length (now balanced) ≡ length (now one)) ⌝ }
-    ensures { λ r. ⌜ r ≡ cuts (links (now (one .entry)) (now (two .entry))) n (look (now (capacity .entry))) (look (now (balanced .entry))) ⌝ }
+    ensures { λ r. ⌜ r ≡ offeredCuts n (now (one .entry)) (now (two .entry)) (now (capacity .entry)) (now (balanced .entry)) ⌝ }
 {
     let labels = groups(one, two, capacity, balanced);
-    let mut cuts = nothing(Answer::Done);
+    let mut cuts = no_cuts(Answer::Done);
     for i in 0..n {
         if is_terminal(one, two, i + 1) {
             let cut = cut_of(n, labels, i + 1);
@@ -185,11 +180,11 @@ pub fn terminal_cuts(
     ensures { λ r. ⌜ r ≡ outcome n (now (one .entry)) (now (two .entry)) (now (capacity .entry)) (now (balanced .entry)) ⌝ }
 {
     match tree::test(n, one, two, capacity) {
-        Offer::NoTree => nothing(Answer::NoTree),
-        Offer::TooLarge => nothing(Answer::TooLarge),
+        Offer::NoTree => no_cuts(Answer::NoTree),
+        Offer::TooLarge => no_cuts(Answer::TooLarge),
         Offer::Accepted => {
             if balanced.len() != one.len() {
-                return nothing(Answer::Unequal);
+                return no_cuts(Answer::Unequal);
             }
             cuts_of(n, one, two, capacity, balanced)
         }

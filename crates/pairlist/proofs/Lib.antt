@@ -3,3 +3,4 @@ pub mod Locals
 pub mod Elements
 pub mod Again
 pub mod Arrays
+pub mod Calls

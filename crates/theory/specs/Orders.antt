@@ -43,18 +43,18 @@ remove-fewer (u ∷ us) v x = same? u v
     (λ e. rw (pick-same e) (omega arith))
     (λ d. rw (pick-other d) (omega (arith, remove-fewer us v x)))
 
-abbrev Ascending : List ℕ → Type 0
+abbrev pub Ascending : List ℕ → Type 0
 Ascending [] = Unit {0}
 Ascending (u ∷ us) = ((x : ℕ) → 1 ≤ count us x → u ≤ x) × Ascending us
 
-remove-ascending : (us : List ℕ) (v : ℕ) → Ascending us → Ascending (remove v us)
+pub remove-ascending : (us : List ℕ) (v : ℕ) → Ascending us → Ascending (remove v us)
 unfolding remove
 remove-ascending [] v h = tt
 remove-ascending (u ∷ us) v h = same? u v
     (λ e. rw (pick-same e) (h .1))
     (λ d. rw (pick-other d) (λ x p. h .0 x (omega (arith, remove-fewer us v x)), remove-ascending us v (h .1)))
 
-upfrom-ascending : (b n : ℕ) → Ascending (upfrom b n)
+pub upfrom-ascending : (b n : ℕ) → Ascending (upfrom b n)
 unfolding upfrom
 upfrom-ascending b zero = tt
 upfrom-ascending b (suc n) =

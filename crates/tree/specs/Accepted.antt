@@ -1,22 +1,33 @@
 -- An offer is accepted just if it is a tree within the limits: the tests one by one, and the same said by places.
-use mathlib.Core.Path.{_≡_, refl, sym, ap, ap₂, _∙_}
-use mathlib.Core.Logic.{_↔_}
+use mathlib.Core.Path.{_≡_, refl}
 use mathlib.Core.Bool.{Bool, true, false, cond, _&&_}
 use mathlib.Core.List.{List, [], _∷_}
-use Prim.Native.Nat.{ℕ, zero, suc, _≤_, _<_}
+use Prim.Native.Nat.{ℕ, zero, suc, _-_, _≤_, _<_}
 use native.Mathlib.Omega.{arith}
-use borrow.Author.Tests.{leb-true, eqb-true, le-leb, eq-eqb}
+use borrow.Author.Tests.{leb-true, eqb-true, le-leb, eq-eqb, ne-eqb}
 use lib.Dec.{eqb, leb}
-use lib.ListN.{length}
+use lib.Seq.{take-at}
+use lib.ListN.{length, take, replicate}
 use Rattle.network.specs.Numbers.{count, look}
 use Rattle.network.specs.Network.{Links, Site, Tree, label, sites}
+use Rattle.network.specs.Trimming.{elimination}
+use Rattle.network.specs.Edition.{edition1}
 use Rattle.network.specs.declared.Edition.{Edition}
 use Rattle.theory.specs.Sums.{is-same, is-other, same?}
 use Rattle.theory.specs.Sites.{sites-once, sites-site}
+use Rattle.theory.specs.TreeTest.{length-elimination}
 use Rattle.tree.specs.declared.Offer.{Offer}
 use Rattle.tree.specs.declared.Offer.the-variants.{NoTree, TooLarge, Accepted}
 use Rattle.tree.specs.Offer.{links, within, labelled, isTree, offer}
+use Rattle.tree.specs.Elimination.{orderIn, decide, eliminated}
 use Rattle.tree.specs.Links.{length-links, links-one, links-two}
+
+-- a tree of at most `most` sites, offered as lists
+pub record TreeOf (most n : ℕ) (one two : List ℕ) : Type 0 where
+  pub tree : Tree (links one two) n
+  pub few : n ≤ most
+  pub firsts : n ≡ suc (length one)
+  pub seconds : n ≡ suc (length two)
 
 -- a tree within the limits of an edition, offered as lists
 pub record TreeWithin (ed : Edition) (n : ℕ) (one two c : List ℕ) : Type 0 where
@@ -33,7 +44,7 @@ both-true false b e = absurd (let z : _≡_ {A = ℕ} 0 1 = cc in omega arith)
 
 -- ---- the tests of lists, place by place
 
-pub within-look : (low high : ℕ) (l : List ℕ) → within low high l ≡ true → (i : ℕ) → i < length l → (low ≤ look l i) × (look l i ≤ high)
+within-look : (low high : ℕ) (l : List ℕ) → within low high l ≡ true → (i : ℕ) → i < length l → (low ≤ look l i) × (look l i ≤ high)
 unfolding within
 within-look low high [] e i h = absurd (omega arith)
 within-look low high (x ∷ l) e zero h =
@@ -48,9 +59,6 @@ within-all low high (x ∷ l) h =
     let t = h zero (omega arith) in
     rw (le-leb low x (t .0), le-leb x high (t .1)) (within-all low high l (λ i k. h (suc i) (omega arith)))
 
-pub within-wider : (low mid high : ℕ) (l : List ℕ) → mid ≤ high → within low mid l ≡ true → within low high l ≡ true
-within-wider low mid high l h e = within-all low high l (λ i k. let t = within-look low mid l e i k in (t .0, omega arith))
-
 labelled-each : (ls : Links) (r : ℕ) (vs : List ℕ) → labelled ls r vs ≡ true → (x : ℕ) → 1 ≤ count vs x → label ls x ≡ r
 unfolding labelled count
 labelled-each ls r [] e x h = absurd (omega arith)
@@ -64,30 +72,22 @@ labelled-all ls r [] h = refl
 labelled-all ls r (v ∷ vs) h =
     rw (eq-eqb (label ls v) r (h v (omega (arith, is-same {u = v} refl)))) (labelled-all ls r vs (λ x k. h x (omega arith)))
 
--- ---- the whole offer
+-- ---- the tree
 
-accepted-tests : (a b : Bool) → cond a (cond b Accepted TooLarge) NoTree ≡ Accepted → (a ≡ true) × (b ≡ true)
-accepted-tests true true e = (refl, refl)
-accepted-tests true false e = absurd (let z : _≡_ {A = ℕ} 0 1 = cc in omega arith)
-accepted-tests false b e = absurd (let z : _≡_ {A = ℕ} 0 1 = cc in omega arith)
-
-module _ (ed : Edition) (n : ℕ) (a b c : List ℕ) where
-  pub accepted-is-a-tree-within-the-limits : offer ed n a b c ≡ Accepted → TreeWithin ed n a b c
-  unfolding offer isTree
-  accepted-is-a-tree-within-the-limits e =
+module _ (most n : ℕ) (a b : List ℕ) where
+  pub is-tree-is-a-tree : isTree most n a b ≡ true → TreeOf most n a b
+  unfolding isTree
+  is-tree-is-a-tree e =
       let ls = links a b in
-      let t = accepted-tests (isTree (ed .sites) n a b && eqb (length c) (length a)) (within 0 (ed .size) c) e in
-      let lengths = both-true (isTree (ed .sites) n a b) (eqb (length c) (length a)) (t .0) in
-      let t6 = both-true (leb 2 n && leb n (ed .sites) && eqb n (suc (length a)) && eqb n (suc (length b)) && within 1 n a && within 1 n b) (labelled ls (label ls 1) (sites n)) (lengths .0) in
-      let t5 = both-true (leb 2 n && leb n (ed .sites) && eqb n (suc (length a)) && eqb n (suc (length b)) && within 1 n a) (within 1 n b) (t6 .0) in
-      let t4 = both-true (leb 2 n && leb n (ed .sites) && eqb n (suc (length a)) && eqb n (suc (length b))) (within 1 n a) (t5 .0) in
-      let t3 = both-true (leb 2 n && leb n (ed .sites) && eqb n (suc (length a))) (eqb n (suc (length b))) (t4 .0) in
-      let t2 = both-true (leb 2 n && leb n (ed .sites)) (eqb n (suc (length a))) (t3 .0) in
-      let t1 = both-true (leb 2 n) (leb n (ed .sites)) (t2 .0) in
+      let t6 = both-true (leb 2 n && leb n most && eqb n (suc (length a)) && eqb n (suc (length b)) && within 1 n a && within 1 n b) (labelled ls (label ls 1) (sites n)) e in
+      let t5 = both-true (leb 2 n && leb n most && eqb n (suc (length a)) && eqb n (suc (length b)) && within 1 n a) (within 1 n b) (t6 .0) in
+      let t4 = both-true (leb 2 n && leb n most && eqb n (suc (length a)) && eqb n (suc (length b))) (within 1 n a) (t5 .0) in
+      let t3 = both-true (leb 2 n && leb n most && eqb n (suc (length a))) (eqb n (suc (length b))) (t4 .0) in
+      let t2 = both-true (leb 2 n && leb n most) (eqb n (suc (length a))) (t3 .0) in
+      let t1 = both-true (leb 2 n) (leb n most) (t2 .0) in
       let firsts : n ≡ suc (length a) = eqb-true n (suc (length a)) (t2 .1) in
       let seconds : n ≡ suc (length b) = eqb-true n (suc (length b)) (t3 .1) in
-      let same : length a ≡ length b = omega arith in
-      let all = length-links a b same in
+      let all = length-links a b (omega arith) in
       record {
         tree = record {
           big = leb-true 2 n (t1 .0);
@@ -98,27 +98,88 @@ module _ (ed : Edition) (n : ℕ) (a b c : List ℕ) where
           links = omega arith;
           whole = λ x p. labelled-each ls (label ls 1) (sites n) (t6 .1) x (omega (arith, sites-once n x p));
         };
-        few = leb-true n (ed .sites) (t1 .1);
+        few = leb-true n most (t1 .1);
         firsts = firsts;
         seconds = seconds;
-        capacities = omega (arith, eqb-true (length c) (length a) (lengths .1));
-        limited = λ j h. within-look 0 (ed .size) c (t .1) j h .1;
       }
 
-  pub a-tree-within-the-limits-is-accepted : TreeWithin ed n a b c → offer ed n a b c ≡ Accepted
-  unfolding offer isTree
-  a-tree-within-the-limits-is-accepted w =
+  pub a-tree-is-tree : TreeOf most n a b → isTree most n a b ≡ true
+  unfolding isTree
+  a-tree-is-tree w =
       let ls = links a b in
-      let same : length a ≡ length b = omega arith in
-      let all = length-links a b same in
+      let all = length-links a b (omega arith) in
       rw (
         le-leb 2 n (w .tree .big),
-        le-leb n (ed .sites) (w .few),
+        le-leb n most (w .few),
         eq-eqb n (suc (length a)) (w .firsts),
         eq-eqb n (suc (length b)) (w .seconds),
         within-all 1 n a (λ j h. rw (links-one a b j h (omega arith)) at (w .tree .ends j (omega arith) .0)),
         within-all 1 n b (λ j h. rw (links-two a b j (omega arith) h) at (w .tree .ends j (omega arith) .1)),
         labelled-all ls (label ls 1) (sites n) (λ x h. w .tree .whole x (sites-site n x h)),
-        eq-eqb (length c) (length a) (omega arith),
-        within-all 0 (ed .size) c (λ j h. (omega arith, w .limited j h)),
       ) refl
+
+-- ---- the whole offer
+
+accepted-tests : (a b : Bool) → cond a (cond b Accepted TooLarge) NoTree ≡ Accepted → (a ≡ true) × (b ≡ true)
+accepted-tests true true e = (refl, refl)
+accepted-tests true false e = absurd (let z : _≡_ {A = ℕ} 0 1 = cc in omega arith)
+accepted-tests false b e = absurd (let z : _≡_ {A = ℕ} 0 1 = cc in omega arith)
+
+is-false : (a : Bool) → (a ≡ true → ⊥) → a ≡ false
+is-false true h = absurd (h refl)
+is-false false h = refl
+
+module _ (ed : Edition) (n : ℕ) (a b c : List ℕ) where
+  -- what is said, test by test
+  pub no-tree-is-said : (TreeOf (ed .sites) n a b → ⊥) → offer ed n a b c ≡ NoTree
+  unfolding offer
+  no-tree-is-said h = rw (is-false (isTree (ed .sites) n a b) (λ e. h (is-tree-is-a-tree (ed .sites) n a b e))) refl
+
+  module _ (t : TreeOf (ed .sites) n a b) where
+    pub no-capacities-is-said : (length c ≡ length a → ⊥) → offer ed n a b c ≡ NoTree
+    unfolding offer
+    no-capacities-is-said d = rw (a-tree-is-tree (ed .sites) n a b t, ne-eqb (length c) (length a) d) refl
+
+    pub too-large-is-said : length c ≡ length a → within 0 (ed .size) c ≡ false → offer ed n a b c ≡ TooLarge
+    unfolding offer
+    too-large-is-said e f = rw (a-tree-is-tree (ed .sites) n a b t, eq-eqb (length c) (length a) e, f) refl
+
+    pub accepted-is-said : length c ≡ length a → within 0 (ed .size) c ≡ true → offer ed n a b c ≡ Accepted
+    unfolding offer
+    accepted-is-said e f = rw (a-tree-is-tree (ed .sites) n a b t, eq-eqb (length c) (length a) e, f) refl
+
+  pub accepted-is-a-tree-within-the-limits : offer ed n a b c ≡ Accepted → TreeWithin ed n a b c
+  unfolding offer
+  accepted-is-a-tree-within-the-limits e =
+      let t = accepted-tests (isTree (ed .sites) n a b && eqb (length c) (length a)) (within 0 (ed .size) c) e in
+      let lengths = both-true (isTree (ed .sites) n a b) (eqb (length c) (length a)) (t .0) in
+      let w = is-tree-is-a-tree (ed .sites) n a b (lengths .0) in
+      record {
+        tree = w .tree;
+        few = w .few;
+        firsts = w .firsts;
+        seconds = w .seconds;
+        capacities = omega (arith, eqb-true (length c) (length a) (lengths .1));
+        limited = λ j h. within-look 0 (ed .size) c (t .1) j h .1;
+      }
+
+  pub a-tree-within-the-limits-is-accepted : TreeWithin ed n a b c → offer ed n a b c ≡ Accepted
+  a-tree-within-the-limits-is-accepted w =
+      accepted-is-said record { tree = w .tree; few = w .few; firsts = w .firsts; seconds = w .seconds } (omega arith)
+      (within-all 0 (ed .size) c (λ j h. (omega arith, w .limited j h)))
+
+-- ---- the answer of an elimination
+
+said : (o : Offer) (ls : Links) (n : ℕ) → decide o ls n .offer ≡ o
+unfolding decide
+said NoTree ls n = refl
+said TooLarge ls n = refl
+said Accepted ls n = refl
+
+pub eliminated-says : (n : ℕ) (a b c : List ℕ) → eliminated n a b c .offer ≡ offer edition1 n a b c
+unfolding eliminated
+eliminated-says n a b c = said (offer edition1 n a b c) (links a b) n
+
+pub eliminated-in-order : (n : ℕ) (a b c : List ℕ) → offer edition1 n a b c ≡ Accepted → take n (eliminated n a b c .sites) ≡ elimination (links a b) n
+unfolding eliminated decide orderIn
+eliminated-in-order n a b c e = rw e (take-at (elimination (links a b) n) (replicate (256 - n) 0) n (length-elimination (links a b) n))

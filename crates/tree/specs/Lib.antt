@@ -2,3 +2,5 @@ pub mod Offer
 pub mod Places
 pub mod Links
 pub mod Accepted
+pub mod Elimination
+pub mod Steps

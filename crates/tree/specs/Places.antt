@@ -87,9 +87,6 @@ module _ (low high : ℕ) (l : List ℕ) (i : ℕ) (h : i < length l) where
   pub within-next : low ≤ look l i → look l i ≤ high → within low high (drop i l) ≡ within low high (drop (i + 1) l)
   within-next p q = within-at ∙ rw (le-leb low (look l i) p, le-leb (look l i) high q, add-one) refl
 
-  pub within-low : look l i < low → within low high (drop i l) ≡ false
-  within-low p = within-at ∙ rw (lt-leb low (look l i) p) refl
-
   pub within-high : low ≤ look l i → high < look l i → within low high (drop i l) ≡ false
   within-high p q = within-at ∙ rw (le-leb low (look l i) p, lt-leb (look l i) high q) refl
 

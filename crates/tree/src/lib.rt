@@ -1,14 +1,16 @@
 // The test whether an offer of sites, links and capacities is a tree within the limits of the edition.
 use network::Edition;
 ghost use mathlib.Core.Path.{_≡_};
-ghost use mathlib.Core.Bool.{Bool, true, false};
+ghost use mathlib.Core.Logic.{_≢_};
 ghost use mathlib.Core.List.{map};
-ghost use Prim.Native.Nat.{ℕ, suc, _<_, _≤_};
+ghost use Prim.Native.Nat.{ℕ, _+_, _*_, _≤_, _<_};
 ghost use lib.ListN.{length};
-ghost use Rattle.network.specs.Numbers.{pick, is, upfrom};
-ghost use Rattle.network.specs.Network.{label, relabel, sites};
+ghost use Rattle.network.specs.Numbers.{pick, is, look, upfrom};
+ghost use Rattle.network.specs.Network.{relabel};
 ghost use Rattle.network.specs.Edition.{edition1};
-ghost use Rattle.tree.specs.Offer.{links, within, labelled, isTree, offer};
+ghost use Rattle.tree.specs.Offer.{within, offer};
+ghost use Rattle.tree.specs.Elimination.{unordered, eliminated};
+ghost use Rattle.tree.specs.Steps.{Tells, Link, Proper, Counted, Lowest, Eliminated};
 
 // What a function that is offered a tree with capacities says of the offer.
 pub enum Offer {
@@ -28,22 +30,6 @@ pub fn at_link(a: usize, b: usize, v: usize) -> u64
         return 1;
     }
     if b == v { 1 } else { 0 }
-}
-
-// Whether every site number of a list lies between two limits.
-fn sites_within(low: usize, high: usize, list: &[usize]) -> bool
-    ensures { λ r. ⌜ r ≡ within low high (now (list .entry)) ⌝ }
-{
-    for i in 0..list.len() {
-        let x = list[i];
-        if x < low {
-            return false;
-        }
-        if high < x {
-            return false;
-        }
-    }
-    true
 }
 
 // Whether every capacity of a list is within a limit.
@@ -87,37 +73,118 @@ pub fn relabel_all(p: usize, q: usize, labels: [usize; 257]) -> [usize; 257]
     next
 }
 
-// The label of each site by the links, the last link first.
-fn labels_by(one: &[usize], two: &[usize]) -> [usize; 257]
-    requires { ⌜ (length (now one) ≡ length (now two)) × (within 1 256 (now one) ≡ true) × (within 1 256 (now two) ≡ true) ⌝ }
-    ensures { λ r. ⌜ r ≡ map (label (links (now (one .entry)) (now (two .entry)))) (upfrom 0 257) ⌝ }
-{
-    let mut labels = own_labels();
-    let mut j = one.len();
-    while 0 < j {
-        j -= 1;
-        labels = relabel_all(labels[one[j]], labels[two[j]], labels);
-    }
-    labels
+// For each site the number of its unvisited links and the sum of their positions.
+struct Unvisited {
+    numbers: [usize; 257],
+    positions: [usize; 257],
 }
 
-// Whether the links join all sites from 1 to n.
-fn all_joined(n: usize, one: &[usize], two: &[usize]) -> bool
-    requires { ⌜ (n < 257) × (length (now one) ≡ length (now two)) × (within 1 256 (now one) ≡ true) × (within 1 256 (now two) ≡ true) ⌝ }
-    ensures { λ r. ⌜ r ≡ labelled (links (now (one .entry)) (now (two .entry))) (label (links (now (one .entry)) (now (two .entry))) 1) (sites n) ⌝ }
+// Adds d at two places of a list.
+fn add_at(list: &mut [usize; 257], a: usize, b: usize, d: usize)
+    requires { ⌜ (length (now list) ≡ 257) × (a < 257) × (b < 257) × (a ≢ b) × (d ≤ 255) × ((x : ℕ) → look (now list) x ≤ 65536) ⌝ }
+    ensures { λ _. ⌜ (length (now (list .exit)) ≡ 257) × ((x : ℕ) → look (now (list .exit)) x ≡ look (now (list .entry)) x + pick a x 1 (is b x) * d) ⌝ }
 {
-    let labels = labels_by(one, two);
+    list[a] += d;
+    list[b] += d;
+}
+
+// The number of links at each site, and the sum of their positions.
+fn count_links(n: usize, one: &[usize], two: &[usize]) -> Unvisited
+    requires { ⌜ Proper n (now one) (now two) ⌝ }
+    ensures { λ r. ⌜ Counted (now (one .entry)) (now (two .entry)) r ⌝ }
+{
+    let mut numbers = [0usize; 257];
+    let mut positions = [0usize; 257];
+    for j in 0..one.len() {
+        add_at(&mut numbers, one[j], two[j], 1);
+        add_at(&mut positions, one[j], two[j], j);
+    }
+    Unvisited { numbers, positions }
+}
+
+// The lowest site from 1 to n with a number of at most 1, 0 if there is none.
+fn lowest(n: usize, numbers: &[usize; 257]) -> usize
+    requires { ⌜ n ≤ 256 ⌝ }
+    ensures { λ r. ⌜ Lowest n (now (numbers .entry)) r ⌝ }
+{
     for x in 1..n + 1 {
-        if labels[x] != labels[1] {
+        if numbers[x] < 2 {
+            return x;
+        }
+    }
+    0
+}
+
+// Sites in the order taken, and whether all could be taken.
+struct Order {
+    sites: [usize; 256],
+    all: bool,
+}
+
+// Takes always the lowest untaken site with at most one unvisited link. A taken site has the number 2.
+fn order_of(n: usize, one: &[usize], two: &[usize]) -> Order
+    requires { ⌜ Proper n (now one) (now two) ⌝ }
+    ensures { λ r. ⌜ Eliminated n (now (one .entry)) (now (two .entry)) r ⌝ }
+{
+    let unvisited = count_links(n, one, two);
+    let mut numbers = unvisited.numbers;
+    let mut positions = unvisited.positions;
+    let mut sites = [0usize; 256];
+    for i in 0..n {
+        let v = lowest(n, &numbers);
+        if v == 0 {
+            return Order { sites, all: false };
+        }
+        sites[i] = v;
+        if numbers[v] == 1 {
+            let j = positions[v];
+            let w = one[j] + two[j] - v;
+            numbers[w] -= 1;
+            positions[w] -= j;
+        }
+        numbers[v] = 2;
+    }
+    Order { sites, all: true }
+}
+
+// Whether a and b are two different sites from 1 to n.
+fn is_link(n: usize, a: usize, b: usize) -> bool
+    ensures { λ r. ⌜ Tells r (Link n a b) ⌝ }
+{
+    if a < 1 {
+        return false;
+    }
+    if n < a {
+        return false;
+    }
+    if b < 1 {
+        return false;
+    }
+    if n < b {
+        return false;
+    }
+    if a == b {
+        return false;
+    }
+    true
+}
+
+// Whether every link joins two different sites from 1 to n.
+fn all_links(n: usize, one: &[usize], two: &[usize]) -> bool
+    requires { ⌜ length (now one) ≡ length (now two) ⌝ }
+    ensures { λ r. ⌜ Tells r ((j : ℕ) → j < length (now (one .entry)) → Link n (look (now (one .entry)) j) (look (now (two .entry)) j)) ⌝ }
+{
+    for j in 0..one.len() {
+        if !is_link(n, one[j], two[j]) {
             return false;
         }
     }
     true
 }
 
-// Whether n sites and the links are a tree of two or more sites within the limit.
-fn is_tree(n: usize, one: &[usize], two: &[usize]) -> bool
-    ensures { λ r. ⌜ r ≡ isTree (edition1 .sites) n (now (one .entry)) (now (two .entry)) ⌝ }
+// Whether there are 2 to 256 sites and one link less, each between two different sites.
+fn is_proper(n: usize, one: &[usize], two: &[usize]) -> bool
+    ensures { λ r. ⌜ Tells r (Proper n (now (one .entry)) (now (two .entry))) ⌝ }
 {
     if n < 2 {
         return false;
@@ -131,27 +198,52 @@ fn is_tree(n: usize, one: &[usize], two: &[usize]) -> bool
     if two.len() != n - 1 {
         return false;
     }
-    if !sites_within(1, n, one) {
-        return false;
+    all_links(n, one, two)
+}
+
+// What is said of an offered tree, and the elimination order of its sites: 0 past the last site, and everywhere if it is refused.
+pub struct Elimination {
+    pub offer: Offer,
+    pub sites: [usize; 256],
+}
+
+fn refused(offer: Offer) -> Elimination
+    ensures { λ r. ⌜ r ≡ unordered offer ⌝ }
+{
+    Elimination {
+        offer,
+        sites: [0usize; 256],
     }
-    if !sites_within(1, n, two) {
-        return false;
+}
+
+// What is said of an offer of n sites, the two sites of each link and the capacities, and the elimination order.
+pub fn eliminate(n: usize, one: &[usize], two: &[usize], capacity: &[u64]) -> Elimination
+    ensures { λ r. ⌜ r ≡ eliminated n (now (one .entry)) (now (two .entry)) (now (capacity .entry)) ⌝ }
+{
+    if !is_proper(n, one, two) {
+        return refused(Offer::NoTree);
     }
-    all_joined(n, one, two)
+    let order = order_of(n, one, two);
+    if !order.all {
+        return refused(Offer::NoTree);
+    }
+    if capacity.len() != one.len() {
+        return refused(Offer::NoTree);
+    }
+    if !capacities_within(Edition::SIZE, capacity) {
+        return refused(Offer::TooLarge);
+    }
+    let sites = order.sites;
+    Elimination {
+        offer: Offer::Accepted,
+        sites,
+    }
 }
 
 // What is said of an offer of n sites, the two sites of each link and the capacities.
 pub fn test(n: usize, one: &[usize], two: &[usize], capacity: &[u64]) -> Offer
     ensures { λ r. ⌜ r ≡ offer edition1 n (now (one .entry)) (now (two .entry)) (now (capacity .entry)) ⌝ }
 {
-    if !is_tree(n, one, two) {
-        return Offer::NoTree;
-    }
-    if capacity.len() != one.len() {
-        return Offer::NoTree;
-    }
-    if !capacities_within(Edition::SIZE, capacity) {
-        return Offer::TooLarge;
-    }
-    Offer::Accepted
+    let answer = eliminate(n, one, two, capacity);
+    answer.offer
 }

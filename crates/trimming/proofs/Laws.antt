@@ -1,22 +1,26 @@
 -- Cutting in a lent list, place by place: what one cut leaves is what the definition says, and cuts follow each other.
 use mathlib.Core.Path.{_≡_, refl, sym, ap, ap₂, _∙_}
 use mathlib.Core.Logic.{_≢_}
-use mathlib.Core.List.{List, [], _∷_, _++_, map}
+use mathlib.Core.List.{List, [], _∷_, _++_, map, map-id, reverse, reverse-cons}
 use Prim.Native.Nat.{ℕ, suc, _+_, _-_, _*_, _≤_, _<_, min}
 use native.Mathlib.Omega.{arith}
-use lib.Seq.{getD-take, take-at, drop-at, length-take-le}
-use lib.ListN.{length, take, drop, take-append-drop, length-append, List·getD-append}
-use Rattle.network.specs.Numbers.{pick, is, sum, look, upfrom}
+use lib.Seq.{getD-take, getD-append-seam, take-at, drop-at, length-take-le, ext-getD}
+use lib.ListN.{length, take, drop, take-append-drop, length-map, length-append, length-reverse, List·getD-append}
+use Rattle.network.specs.Numbers.{pick, look, upfrom}
 use Rattle.network.specs.Network.{Links, at, sumAt, leaf}
-use Rattle.network.specs.Trimming.{cutAt, cutSite, cutSites}
-use Rattle.theory.specs.Sums.{pick-same, pick-other, is-same, is-other, sum-ge}
-use Rattle.theory.specs.Sites.{sumAt-same}
+use Rattle.network.specs.Edition.{edition1}
+use Rattle.network.specs.Trimming.{cutAt, cutSite, cutSites, elimination, balancedAlong, balanced}
+use Rattle.theory.specs.Sums.{pick-same, pick-other, same?, sum-ge}
+use Rattle.theory.specs.Sites.{length-upfrom, look-values, sumAt-same}
 use Rattle.theory.specs.Cutting.{cutAt-le}
 use Rattle.theory.specs.Passes.{length-cutSites, look-cutSite}
+use Rattle.theory.specs.Greatest.{balanced-has-each-link}
 use Rattle.tree.specs.Offer.{links}
+use Rattle.tree.specs.Accepted.{TreeWithin}
 use Rattle.tree.specs.Links.{length-links}
-use Rattle.tree.specs.Places.{filled, filled-same, same-values}
+use Rattle.tree.specs.Places.{filled, filled-same, same-values, map-table}
 use Rattle.trimming.specs.Steps.{Limited, cutFirst}
+use Rattle.trimming.specs.Outcome.{capacities}
 
 -- ---- one link
 
@@ -106,3 +110,65 @@ module _ (a b : List ℕ) (same : length b ≡ length a) where
           h .small j k,
         );
       }
+
+-- ---- the order turned round
+
+look-reverse : (l : List ℕ) (i : ℕ) → i < length l → look (reverse l) i ≡ look l (length l - 1 - i)
+look-reverse [] i h = absurd (omega arith)
+look-reverse (x ∷ l) i h =
+    let turned = length-reverse l in
+    ap (λ t. look t i) (reverse-cons x l) ∙ same? i (length l)
+    (λ e. let last : i ≡ length (reverse l) = omega arith in
+    let first : 0 ≡ suc (length l) - 1 - i = omega arith in
+    ap (look (reverse l ++ (x ∷ []))) last ∙ getD-append-seam (reverse l) x [] 0 ∙ ap (look (x ∷ l)) first)
+    (λ d. let behind : suc (length l - 1 - i) ≡ suc (length l) - 1 - i = omega arith in
+    List·getD-append (reverse l) (x ∷ []) 0 i (omega arith) ∙ look-reverse l i (omega arith) ∙ ap (look (x ∷ l)) behind)
+
+-- a list filled from the back of another holds it turned round
+pub take-filled-reverse : (n : ℕ) (order l : List ℕ) → n ≤ length order → take n (filled (λ i. look order (n - 1 - i)) n l) ≡ reverse (take n order)
+unfolding filled
+take-filled-reverse n order l h =
+    let f : ℕ → ℕ = λ i. look order (n - 1 - i) in
+    let long : length (map f (upfrom 0 n)) ≡ n = length-map (upfrom 0 n) f ∙ length-upfrom 0 n in
+    let part : length (take n order) ≡ n = length-take-le n order h in
+    take-at (map f (upfrom 0 n)) (drop n l) n long
+    ∙ ext-getD 0 (map f (upfrom 0 n)) (reverse (take n order)) (omega (arith, length-reverse (take n order)))
+    (λ i k. let q : i < n = omega arith in
+    look-values f n i q ∙ sym (look-reverse (take n order) i (omega arith) ∙ ap (λ m. look (take n order) (m - 1 - i)) part ∙ getD-take n order (n - 1 - i) 0 (omega arith)))
+
+-- ---- a copy
+
+pub filled-copy : (c l : List ℕ) → filled (look c) (length c) l ≡ c ++ drop (length c) l
+unfolding filled
+filled-copy c l = ap (λ r. r ++ drop (length c) l) (map-table (λ x. x) c (length c) refl ∙ map-id c)
+
+-- ---- a whole offer
+
+module _ {n : ℕ} {a b c : List ℕ} (w : TreeWithin edition1 n a b c) (lent : List ℕ) (enough : length a ≤ length lent) where
+  same-places : length c ≡ length a
+  same-places = omega arith
+
+  pub copied-limited : Limited a b (c ++ drop (length c) lent)
+  copied-limited = record {
+    few = omega arith;
+    seconds = omega arith;
+    places = omega (arith, length-append c (drop (length c) lent));
+    small = λ j h. rw (List·getD-append c (drop (length c) lent) 0 j (omega arith)) (w .limited j (omega arith));
+  }
+
+  -- cut along the elimination order and back, a copy of the given capacities holds the balanced ones
+  pub both-ways-balance : let o = elimination (links a b) n in
+      cutFirst a b (o ++ reverse o) (c ++ drop (length c) lent) ≡ capacities n a b c ++ drop (length (capacities n a b c)) lent
+  unfolding cutFirst capacities balanced balancedAlong
+  both-ways-balance =
+      let ls = links a b in
+      let o = elimination ls n in
+      let links-long = length-links a b (omega arith) in
+      let long : length (cutSites ls (leaf ls) (reverse o) (cutSites ls (leaf ls) o c)) ≡ length a = balanced-has-each-link (w .tree) (leaf ls) c ∙ links-long in
+      rw (
+        take-at c (drop (length c) lent) (length a) same-places,
+        drop-at c (drop (length c) lent) (length a) same-places,
+        ← (cut-sites-append ls (leaf ls) o (reverse o) c),
+        long,
+        same-places,
+      ) refl

@@ -1,12 +1,29 @@
 // Balanced capacities of a tree (01: trimming): cut at each site inward along the elimination order, then outward against it.
+use tree::Offer;
 ghost use mathlib.Core.Path.{_≡_};
-ghost use mathlib.Core.List.{List, [], _∷_, reverse};
-ghost use Prim.Native.Nat.{ℕ, _+_, _-_, _*_, _≤_, _<_, min};
+ghost use mathlib.Core.List.{List, [], _∷_, _++_, reverse};
+ghost use Prim.Native.Nat.{_-_, _≤_, min};
 ghost use lib.ListN.{length, take, drop};
-ghost use Rattle.network.specs.Numbers.{pick, is, look};
-ghost use Rattle.network.specs.Network.{sumAt, leaf};
+ghost use Rattle.network.specs.Numbers.{pick, look};
+ghost use Rattle.network.specs.Network.{sumAt};
+ghost use Rattle.network.specs.Edition.{edition1};
 ghost use Rattle.tree.specs.Offer.{links};
+ghost use Rattle.tree.specs.Accepted.{TreeWithin};
+ghost use Rattle.tree.specs.Elimination.{orderIn};
 ghost use Rattle.trimming.specs.Steps.{Limited, cutFirst};
+ghost use Rattle.trimming.specs.Outcome.{capacities, answer, trimmed};
+
+// What is said of an offered tree whose capacities are to be balanced.
+pub enum Trimming {
+    // no tree of two or more sites within the limits
+    NoTree,
+    // a capacity above the limit
+    TooLarge,
+    // fewer lent places than links
+    Short,
+    // the lent places hold the balanced capacities
+    Balanced,
+}
 
 // The links at a site: how many, and their capacities summed.
 struct AtSite {
@@ -66,5 +83,58 @@ fn cut_along(sites: &[usize], one: &[usize], two: &[usize], capacity: &mut [u64]
 {
     for i in 0..sites.len() {
         cut(sites[i], one, two, capacity);
+    }
+}
+
+// Copies a list to the front of a lent one.
+fn copy(from: &[u64], to: &mut [u64])
+    requires { ⌜ length (now from) ≤ length (now to) ⌝ }
+    ensures { λ _. ⌜ now (to .exit) ≡ now (from .entry) ++ drop (length (now (from .entry))) (now (to .entry)) ⌝ }
+{
+    for j in 0..from.len() {
+        to[j] = from[j];
+    }
+}
+
+// The first n places in reverse.
+fn reversed(n: usize, order: [usize; 256]) -> [usize; 256]
+    requires { ⌜ n ≤ 256 ⌝ }
+    ensures { λ r. ⌜ take n r ≡ reverse (take n order) ⌝ }
+{
+    let mut back = [0usize; 256];
+    for i in 0..n {
+        back[i] = order[n - 1 - i];
+    }
+    back
+}
+
+// Cuts the capacities along an order of the sites, and back against it.
+fn cut_both_ways(n: usize, order: [usize; 256], one: &[usize], two: &[usize], capacity: &mut [u64])
+    requires { ⌜ (n ≤ 256) × Limited (now one) (now two) (now capacity) ⌝ }
+    ensures { λ _. ⌜ now (capacity .exit) ≡ cutFirst (now (one .entry)) (now (two .entry)) (take n order ++ reverse (take n order)) (now (capacity .entry)) ⌝ }
+{
+    let back = reversed(n, order);
+    cut_along(&order[..n], one, two, capacity);
+    cut_along(&back[..n], one, two, capacity);
+}
+
+// Balances the capacities of an offered tree into a lent list.
+pub fn trim(n: usize, one: &[usize], two: &[usize], capacity: &[u64], lent: &mut [u64]) -> Trimming
+    ensures { λ r. ⌜ (r ≡ answer n (now (one .entry)) (now (two .entry)) (now (capacity .entry)) (now (lent .entry))) × (now (lent .exit) ≡ trimmed n (now (one .entry)) (now (two .entry)) (now (capacity .entry)) (now (lent .entry))) ⌝ }
+{
+    let tree = tree::eliminate(n, one, two, capacity);
+    let offer = tree.offer;
+    let order = tree.sites;
+    match offer {
+        Offer::NoTree => Trimming::NoTree,
+        Offer::TooLarge => Trimming::TooLarge,
+        Offer::Accepted => {
+            if lent.len() < one.len() {
+                return Trimming::Short;
+            }
+            copy(capacity, lent);
+            cut_both_ways(n, order, one, two, lent);
+            Trimming::Balanced
+        }
     }
 }

@@ -1,13 +1,12 @@
 -- `claimed` meets its contract: the places below p are as they will be, the others as they were.
-use mathlib.Core.Path.{_≡_, refl, sym, subst, _∙_}
+use mathlib.Core.Path.{_≡_, sym, _∙_}
 use mathlib.Core.Logic.{⊎-elim}
-use Prim.Native.Nat.{ℕ, _-_, _≤_, _<_}
+use Prim.Native.Nat.{_-_, _≤_}
 use native.Mathlib.Omega.{arith}
 use borrow.Author.Needs.{needs}
 use lib.ListN.{length}
 use Rattle.bitset.specs.Members.{member}
-use Rattle.bitset.specs.Walks.{First, first-at, first-absent}
-use Rattle.cuts.specs.Steps.{claim}
+use Rattle.bitset.specs.Laws.{First, first-at, first-absent}
 use Rattle.cuts.proofs.Owners.{Claiming, claiming-start, claiming-kept, claiming-new, claiming-end}
 use Rattle.cuts.proofs.claimed.Statement.{statement}
 use Rattle.cuts.proofs.claimed.Tie as tie

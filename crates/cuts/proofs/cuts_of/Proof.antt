@@ -1,8 +1,7 @@
 -- `cuts_of` meets its contract: after i sites the cuts are those of the terminals among them.
-use mathlib.Core.Path.{_≡_, refl, sym, ap, _∙_}
+use mathlib.Core.Path.{_≡_, sym, ap, _∙_}
 use mathlib.Core.Logic.{⊎-elim}
 use Prim.Native.Nat.{_+_, _-_, _≤_}
-use native.Mathlib.Numerals.{add-one}
 use native.Mathlib.Omega.{arith}
 use borrow.Author.Needs.{needs}
 use borrow.Author.Tests.{eqb-true, eqb-false}
@@ -16,7 +15,7 @@ use Rattle.cuts.proofs.cuts_of.Statement.{statement}
 use Rattle.cuts.proofs.cuts_of.Tie as tie
 
 abbrev Inv-loop : tie.InvT-loop
-Inv-loop n one two capacity balanced labels cuts₀ i₀ cuts i = (i ≤ n) × (cuts ≡ cutsTo (links one two) (look capacity) (look balanced) n i)
+Inv-loop n one two capacity balanced labels cuts₀ i₀ cuts i = (i ≤ n) × (cuts ≡ cutsTo (links one two) n (leaf (links one two)) (look capacity) (look balanced) i)
 
 abbrev μ-loop : tie.MeasureT-loop
 μ-loop n one two capacity balanced labels cuts₀ i₀ cuts i = n - i
@@ -25,7 +24,8 @@ loop-holds : tie.Need-loop-holds Inv-loop μ-loop
 loop-holds c =
     let s = c .before .before .before .before .before .before in
     let a = s .args in
-    (omega arith, c .nothing .ensures ∙ cuts-none (links (a .one .now) (a .two .now)) (look (a .capacity .now)) (look (a .balanced .now)) (a .n) (s .pre .0))
+    let ls = links (a .one .now) (a .two .now) in
+    (omega arith, c .no-cuts .ensures ∙ cuts-none ls (a .n) (leaf ls) (look (a .capacity .now)) (look (a .balanced .now)) (s .pre .0))
 
 loop-again : tie.Need-loop-again Inv-loop μ-loop
 loop-again c =
@@ -33,26 +33,27 @@ loop-again c =
     let a = s .args in
     let top = c .before .before .before .loop in
     let terminal = c .before .is-terminal .ensures in
-    let leaf-at = leaf (links (a .one .now) (a .two .now)) (top .i + 1) in (
+    let terminals = leaf (links (a .one .now) (a .two .now)) in (
       omega arith,
       ⊎-elim
           (λ w.
           w .3 ∙ w .2 .ensures ∙ ap (λ r. adding r (w .1 .result) (top .i) (a .one .now) (a .two .now) (a .capacity .now)) (top .inv .1)
-          ∙ next-terminal (a .n) (a .one .now) (a .two .now) (a .capacity .now) (a .balanced .now) (s .pre .0) (s .pre .1) (top .i) (c .before .before .loop-test .taken)
+          ∙ next-terminal (a .n) (a .one .now) (a .two .now) (a .capacity .now) (a .balanced .now) terminals (s .pre .0) (s .pre .1) (top .i) (c .before .before .loop-test .taken)
           (c .before .before .before .before .before .groups .result) (w .1 .result) (c .before .before .before .before .before .groups .ensures) (w .1 .ensures)
-          (eqb-true leaf-at 1 (sym terminal ∙ w .0 .taken)))
+          (eqb-true (terminals (top .i + 1)) 1 (sym terminal ∙ w .0 .taken)))
           (λ w.
           w .1 ∙ top .inv .1
-          ∙ next-inner (a .n) (a .one .now) (a .two .now) (a .capacity .now) (a .balanced .now) (s .pre .0) (s .pre .1) (top .i) (c .before .before .loop-test .taken)
-          (eqb-false leaf-at 1 (sym terminal ∙ w .0 .left)))
+          ∙ next-inner (a .n) (a .one .now) (a .two .now) (a .capacity .now) (a .balanced .now) terminals (s .pre .0) (s .pre .1) (top .i) (c .before .before .loop-test .taken)
+          (eqb-false (terminals (top .i + 1)) 1 (sym terminal ∙ w .0 .left)))
           (c .if1 .came),
     )
 
 returns : tie.Need-returns Inv-loop μ-loop
 returns c =
     let a = c .before .before .before .before .before .before .before .before .args in
+    let ls = links (a .one .now) (a .two .now) in
     let all : c .before .loop .i ≡ a .n = omega arith in
-    rw all at (c .before .loop .inv .1) ∙ cuts-all (links (a .one .now) (a .two .now)) (look (a .capacity .now)) (look (a .balanced .now)) (a .n)
+    rw all at (c .before .loop .inv .1) ∙ cuts-all ls (a .n) (leaf ls) (look (a .capacity .now)) (look (a .balanced .now))
 
 pub cuts-of-spec : {M : Type 1} → statement M
 cuts-of-spec =

@@ -1,6 +1,5 @@
 -- `terminal_cuts` meets its contract, answer by answer.
 use mathlib.Core.Path.{_≡_, refl, sym, _∙_}
-use native.Mathlib.Omega.{arith}
 use borrow.Author.Needs.{needs}
 use borrow.Author.Tests.{eq-eqb, ne-eqb}
 use lib.ListN.{length}
@@ -17,13 +16,13 @@ no-tree : tie.Need-returns-2
 unfolding outcome decide
 no-tree c =
     let said = sym (c .before .before .before .test .ensures) ∙ c .before .enum-told .given .1 in
-    c .nothing .ensures ∙ rw said refl
+    c .no-cuts .ensures ∙ rw said refl
 
 too-large : tie.Need-returns-3
 unfolding outcome decide
 too-large c =
     let said = sym (c .before .before .before .test .ensures) ∙ c .before .enum-told2 .given .1 in
-    c .nothing2 .ensures ∙ rw said refl
+    c .no-cuts2 .ensures ∙ rw said refl
 
 -- the offer was accepted
 accepted : (c : tie.After-enum-told3) →
@@ -35,7 +34,7 @@ unequal : tie.Need-returns
 unfolding outcome decide
 unequal c =
     let a = c .before .before .before .before .before .before .before .before .before .args in
-    c .nothing3 .ensures ∙ rw (accepted (c .before .before), ne-eqb (length (a .balanced .now)) (length (a .one .now)) (c .before .if1 .taken)) refl
+    c .no-cuts3 .ensures ∙ rw (accepted (c .before .before), ne-eqb (length (a .balanced .now)) (length (a .one .now)) (c .before .if1 .taken)) refl
 
 made : tie.Need-returns-4
 unfolding outcome decide

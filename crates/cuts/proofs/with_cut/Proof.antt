@@ -1,6 +1,5 @@
 -- `with_cut` meets its contract: what its callees ensure, put together.
 use mathlib.Core.Path.{refl}
-use native.Mathlib.Omega.{arith}
 use borrow.Author.Needs.{needs}
 use Rattle.cuts.specs.Steps.{adding}
 use Rattle.cuts.proofs.with_cut.Statement.{statement}

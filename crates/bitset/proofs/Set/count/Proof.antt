@@ -14,20 +14,14 @@ use Rattle.bitset.proofs.Set.count.Statement.{statement}
 use Rattle.bitset.proofs.Set.count.Tie as tie
 
 abbrev Inv-loop : tie.InvT-loop
-Inv-loop self total₀ i₀ total i = (i ≤ 4) × (total ≤ i * 64) × (total ≡ sum (i * 64) (member self))
+Inv-loop self total₀ i₀ total i = (i ≤ 4) × (total ≡ sum (i * 64) (member self)) × (total ≤ i * 64)
 
 abbrev μ-loop : tie.MeasureT-loop
 μ-loop self total₀ i₀ total i = 4 - i
 
 loop-holds : tie.Need-loop-holds Inv-loop μ-loop
 unfolding sum
-loop-holds c = (omega arith, omega arith, refl)
-
-mul-ones : tie.Need-mul-ones Inv-loop μ-loop
-mul-ones c = search needs
-
-element-copy-out-ones : tie.Need-element-copy-out-ones Inv-loop μ-loop
-element-copy-out-ones c = search needs
+loop-holds c = (omega arith, refl, omega arith)
 
 -- a word has at most 64 bits, and is counted
 counted : (c : tie.After-ones Inv-loop μ-loop) →
@@ -41,25 +35,19 @@ counted c =
     let e : (i + 1) * 64 ≡ i * 64 + 64 = omega arith in
     (ones-le 64 (getD (s .words) i 0) (w .fits), rw e (count-word s i (w .fits)))
 
+loop-again : tie.Need-loop-again Inv-loop μ-loop
+loop-again c = omega (arith, counted c)
+
 cast-total : tie.Need-cast-total Inv-loop μ-loop
 cast-total c = omega (arith, counted c)
 
 add-total : tie.Need-add-total Inv-loop μ-loop
 add-total c = omega (arith, counted c)
 
-add-i : tie.Need-add-i Inv-loop μ-loop
-add-i c = search needs
-
-loop-less : tie.Need-loop-less Inv-loop μ-loop
-loop-less c = search needs
-
-loop-again : tie.Need-loop-again Inv-loop μ-loop
-loop-again c = omega (arith, counted c)
-
 returns : tie.Need-returns Inv-loop μ-loop
 returns c =
     let e : c .before .loop .i * 64 ≡ 256 = omega arith in
-    c .before .loop .inv .2 ∙ rw e refl
+    c .before .loop .inv .1 ∙ rw e refl
 
 pub count-spec : {M : Type 1} → statement M
 count-spec =
@@ -68,11 +56,11 @@ count-spec =
     Inv-loop
     μ-loop
     loop-holds
-    mul-ones
-    element-copy-out-ones
+    (λ c. search needs)
+    (λ c. search needs)
     cast-total
     add-total
-    add-i
-    loop-less
+    (λ c. search needs)
+    (λ c. search needs)
     loop-again
     returns)

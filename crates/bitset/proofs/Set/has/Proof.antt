@@ -16,15 +16,6 @@ returns c =
     let l : length (s .t1 .words) ≡ 4 = search needs in
     sym (ap (λ n. eqb n 1) (member-out (s .t1) (s .m) l (c .if1 .taken)))
 
-mul-result : tie.Need-mul-result
-mul-result c = search needs
-
-element-copy-out-result : tie.Need-element-copy-out-result
-element-copy-out-result c = search needs
-
-shr-result : tie.Need-shr-result
-shr-result c = search needs
-
 returns-2 : tie.Need-returns-2
 unfolding member
 returns-2 c =
@@ -32,4 +23,4 @@ returns-2 c =
     ap (λ n. eqb n 1) (and-mask (getD (s .t1 .words) (s .m / 64) 0 / 2 ^ (s .m % 64)) 1)
 
 pub has-spec : {M : Type 1} → statement M
-has-spec = tie.close (tie.spec returns mul-result element-copy-out-result shr-result returns-2)
+has-spec = tie.close (tie.spec returns (λ c. search needs) (λ c. search needs) (λ c. search needs) returns-2)

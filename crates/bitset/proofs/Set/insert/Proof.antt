@@ -12,21 +12,6 @@ returns c =
     let l : length (s .t1 .words) ≡ 4 = search needs in
     λ j. insert-out (s .t1) (s .m) j l (c .if1 .taken)
 
-mul-word : tie.Need-mul-word
-mul-word c = search needs
-
-element-copy-out-word : tie.Need-element-copy-out-word
-element-copy-out-word c = search needs
-
-shl-word : tie.Need-shl-word
-shl-word c = search needs
-
-mul-self : tie.Need-mul-self
-mul-self c = search needs
-
-element-write-self : tie.Need-element-write-self
-element-write-self c = search needs
-
 returns-2 : tie.Need-returns-2
 returns-2 c =
     let s = c .before .before .args in
@@ -34,4 +19,4 @@ returns-2 c =
     λ j. insert-in (s .t1) (s .m) j l (c .before .if1 .left)
 
 pub insert-spec : {M : Type 1} → statement M
-insert-spec = tie.close (tie.spec returns mul-word element-copy-out-word shl-word mul-self element-write-self returns-2)
+insert-spec = tie.close (tie.spec returns (λ c. search needs) (λ c. search needs) (λ c. search needs) (λ c. search needs) (λ c. search needs) returns-2)

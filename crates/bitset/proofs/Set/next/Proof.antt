@@ -1,5 +1,5 @@
 -- `Set::next` meets its contract: what is still to be found, from bit k of word i up, is what was to be found from p up.
-use mathlib.Core.Path.{_≡_, refl, sym, ap, _∙_}
+use mathlib.Core.Path.{_≡_, sym, ap, _∙_}
 use Prim.Native.Nat.{_+_, _-_, _*_, _/_, _%_, _^_, _<_}
 use native.Mathlib.Omega.{arith}
 use borrow.Author.Needs.{needs}
@@ -25,21 +25,6 @@ loop-holds c =
     let e : p ≡ p / 64 * 64 + p % 64 = omega arith in
     (omega arith, ap (rest (c .args .t1)) e)
 
-mul-left : tie.Need-mul-left Inv-loop μ-loop
-mul-left c = search needs
-
-element-copy-out-left : tie.Need-element-copy-out-left Inv-loop μ-loop
-element-copy-out-left c = search needs
-
-shr-left : tie.Need-shr-left Inv-loop μ-loop
-shr-left c = search needs
-
-mul-t14 : tie.Need-mul-t14 Inv-loop μ-loop
-mul-t14 c = search needs
-
-add-t15 : tie.Need-add-t15 Inv-loop μ-loop
-add-t15 c = search needs
-
 -- the trailing zeros lead to the next member
 here : (c : tie.Then1 Inv-loop μ-loop) →
     let s = c .before .before .before .before .args .t1 in
@@ -61,12 +46,6 @@ add-t17 c = omega (arith, here c .0)
 returns : tie.Need-returns Inv-loop μ-loop
 returns c = sym (c .before .before .before .loop .inv .1 ∙ here c .1)
 
-add-i : tie.Need-add-i Inv-loop μ-loop
-add-i c = search needs
-
-loop-less : tie.Need-loop-less Inv-loop μ-loop
-loop-less c = search needs
-
 loop-again : tie.Need-loop-again Inv-loop μ-loop
 loop-again c =
     let top = c .before .before .before .loop in
@@ -84,15 +63,15 @@ next-spec =
     Inv-loop
     μ-loop
     loop-holds
-    mul-left
-    element-copy-out-left
-    shr-left
-    mul-t14
-    add-t15
+    (λ c. search needs)
+    (λ c. search needs)
+    (λ c. search needs)
+    (λ c. search needs)
+    (λ c. search needs)
     cast-t16
     add-t17
     returns
-    add-i
-    loop-less
+    (λ c. search needs)
+    (λ c. search needs)
     loop-again
     returns-2)

@@ -1,0 +1,102 @@
+//! The time of one plan, by both libraries in turn.
+
+use second::{Outcome, REPORT_BYTES};
+use std::hint::black_box;
+use std::time::{Duration, Instant};
+
+/// How often each library is timed on a sheet.
+const ROUNDS: usize = 201;
+/// A timing covers as many plans as take about this long, after one that is not timed.
+const TIMING: Duration = Duration::from_micros(200);
+
+/// Microseconds of one plan, the median of many, and the length of the report.
+pub struct Times {
+    pub proved: f64,
+    pub second: f64,
+    pub report_bytes: usize,
+}
+
+/// Times both libraries on a sheet.
+///
+/// # Panics
+///
+/// If one of them refuses the sheet.
+pub fn time(sheet: &[u8]) -> Times {
+    let mut buffer = vec![0; REPORT_BYTES];
+    let report_bytes = plan_proved(sheet, &mut buffer);
+    assert_eq!(report_bytes, plan_second(sheet, &mut buffer));
+
+    let mut proved = Timer::new(plan_proved, sheet, &mut buffer);
+    let mut second = Timer::new(plan_second, sheet, &mut buffer);
+    for _ in 0..ROUNDS {
+        proved.run(sheet, &mut buffer);
+        second.run(sheet, &mut buffer);
+    }
+    Times {
+        proved: median(&mut proved.timings),
+        second: median(&mut second.timings),
+        report_bytes,
+    }
+}
+
+type Plan = fn(&[u8], &mut [u8]) -> usize;
+
+fn plan_proved(sheet: &[u8], buffer: &mut [u8]) -> usize {
+    waderarmoire::plan(sheet, buffer)
+        .expect("the sheet is accepted")
+        .len()
+}
+
+fn plan_second(sheet: &[u8], buffer: &mut [u8]) -> usize {
+    match second::plan(sheet, buffer) {
+        Outcome::Report { length } => length,
+        Outcome::Refused { .. } => panic!("the sheet is accepted"),
+    }
+}
+
+/// One library and its timings.
+struct Timer {
+    plan: Plan,
+    plans: u32,
+    timings: Vec<f64>,
+}
+
+impl Timer {
+    fn new(plan: Plan, sheet: &[u8], buffer: &mut [u8]) -> Self {
+        let mut timer = Timer {
+            plan,
+            plans: 1,
+            timings: Vec::with_capacity(ROUNDS),
+        };
+        while timer.elapsed(sheet, buffer) < TIMING {
+            timer.plans *= 2;
+        }
+        timer
+    }
+
+    fn elapsed(&self, sheet: &[u8], buffer: &mut [u8]) -> Duration {
+        black_box((self.plan)(black_box(sheet), buffer));
+        let start = Instant::now();
+        for _ in 0..self.plans {
+            black_box((self.plan)(black_box(sheet), buffer));
+        }
+        start.elapsed()
+    }
+
+    fn run(&mut self, sheet: &[u8], buffer: &mut [u8]) {
+        let elapsed = self.elapsed(sheet, buffer);
+        self.timings
+            .push(microseconds(elapsed) / f64::from(self.plans));
+    }
+}
+
+/// A time in microseconds.
+pub fn microseconds(time: Duration) -> f64 {
+    time.as_secs_f64() * 1e6
+}
+
+/// The middle one of an odd number of timings.
+pub fn median(timings: &mut [f64]) -> f64 {
+    timings.sort_by(f64::total_cmp);
+    timings[timings.len() / 2]
+}

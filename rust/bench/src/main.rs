@@ -1,0 +1,186 @@
+//! Measures the proved planner beside the second one.
+//!
+//! ```text
+//! bench [--program FILE] [--second FILE] [--into FILE]
+//! ```
+//!
+//! Prints tables in Markdown, or puts them into a file between the lines `<!-- measured -->` and
+//! `<!-- end -->`.
+
+mod library;
+mod machine;
+mod program;
+
+use sheets::{Layout, Names, Network, Random, SHAPES, Shape, Sizes};
+use std::fmt::Write;
+use std::path::PathBuf;
+use std::process::ExitCode;
+
+const SITES: [usize; 5] = [16, 32, 64, 128, 256];
+
+struct Options {
+    program: PathBuf,
+    second: PathBuf,
+    into: Option<PathBuf>,
+}
+
+fn main() -> ExitCode {
+    let outcome = options().and_then(|options| {
+        let text = tables(&options).map_err(|error| error.to_string())?;
+        publish(&text, &options)
+    });
+    if let Err(text) = outcome {
+        eprintln!("bench: {text}");
+        return ExitCode::FAILURE;
+    }
+    ExitCode::SUCCESS
+}
+
+fn options() -> Result<Options, String> {
+    let this = std::env::current_exe().unwrap_or_default();
+    let mut options = Options {
+        program: PathBuf::from("target/bin/plan"),
+        second: this.with_file_name("second-plan"),
+        into: None,
+    };
+    let mut arguments = std::env::args().skip(1);
+    while let Some(option) = arguments.next() {
+        let value = arguments
+            .next()
+            .ok_or_else(|| format!("{option} needs a value"))?;
+        match option.as_str() {
+            "--program" => options.program = value.into(),
+            "--second" => options.second = value.into(),
+            "--into" => options.into = Some(value.into()),
+            _ => return Err(format!("unknown option {option}")),
+        }
+    }
+    Ok(options)
+}
+
+/// Prints the tables, or puts them into the file that was named.
+fn publish(tables: &str, options: &Options) -> Result<(), String> {
+    const START: &str = "<!-- measured -->\n";
+    const END: &str = "<!-- end -->\n";
+    let Some(file) = &options.into else {
+        print!("{tables}");
+        return Ok(());
+    };
+    let told = |error: std::io::Error| format!("{}: {error}", file.display());
+    let text = std::fs::read_to_string(file).map_err(told)?;
+    let (before, rest) = text
+        .split_once(START)
+        .ok_or("the file has no place for tables")?;
+    let (_, after) = rest
+        .split_once(END)
+        .ok_or("the file has no place for tables")?;
+    let text = format!("{before}{START}\n{tables}\n{END}{after}");
+    std::fs::write(file, text).map_err(told)
+}
+
+/// The largest sheet of a shape with a number of sites: long names and large sizes.
+fn largest_sheet(shape: Shape, sites: usize) -> Vec<u8> {
+    let mut random = Random::new(sites as u64);
+    let network = Network::random(shape, sites, Sizes::Large, Names::Long, &mut random);
+    network.sheet(Layout::Mixed, &mut random)
+}
+
+/// All tables.
+fn tables(options: &Options) -> Result<String, Box<dyn std::error::Error>> {
+    let mut text = String::new();
+    for line in machine::description() {
+        writeln!(text, "- {line}")?;
+    }
+    library_tables(&mut text)?;
+    program_table(&mut text, options)?;
+    Ok(text)
+}
+
+fn library_tables(text: &mut String) -> std::fmt::Result {
+    let measured = SHAPES.map(|shape| {
+        SITES.map(|sites| {
+            let sheet = largest_sheet(shape, sites);
+            (sheet.len(), library::time(&sheet))
+        })
+    });
+
+    writeln!(text, "\n### One plan of 256 sites, in microseconds\n")?;
+    writeln!(
+        text,
+        "| shape | sheet bytes | report bytes | proved | second | ratio |"
+    )?;
+    writeln!(text, "|---|---:|---:|---:|---:|---:|")?;
+    for (shape, by_sites) in SHAPES.iter().zip(&measured) {
+        let (sheet_bytes, times) = &by_sites[SITES.len() - 1];
+        writeln!(
+            text,
+            "| {} | {sheet_bytes} | {} | {:.1} | {:.1} | {:.2} |",
+            shape.name(),
+            times.report_bytes,
+            times.proved,
+            times.second,
+            times.proved / times.second
+        )?;
+    }
+
+    writeln!(
+        text,
+        "\n### Growth with the number of sites, in microseconds\n"
+    )?;
+    let columns = SITES.map(|sites| format!(" {sites} |")).concat();
+    writeln!(text, "| shape | planner |{columns} 256 : 128 |")?;
+    writeln!(text, "|---|---|{}---:|", "---:|".repeat(SITES.len()))?;
+    for (shape, by_sites) in SHAPES.iter().zip(&measured) {
+        let proved: Vec<f64> = by_sites.iter().map(|(_, times)| times.proved).collect();
+        let second: Vec<f64> = by_sites.iter().map(|(_, times)| times.second).collect();
+        for (planner, times) in [("proved", proved), ("second", second)] {
+            write!(text, "| {} | {planner} |", shape.name())?;
+            for time in &times {
+                write!(text, " {time:.1} |")?;
+            }
+            let growth = times[SITES.len() - 1] / times[SITES.len() - 2];
+            writeln!(text, " {growth:.2} |")?;
+        }
+    }
+    Ok(())
+}
+
+fn program_table(text: &mut String, options: &Options) -> Result<(), Box<dyn std::error::Error>> {
+    let programs = [options.program.as_path(), options.second.as_path()];
+    if let Some(missing) = programs.iter().find(|program| !program.is_file()) {
+        return Err(format!("{} is missing", missing.display()).into());
+    }
+    let two_sites = b"network\t1\nN\ta\nN\tb\nL\ta\tb\t4\n".to_vec();
+    let sheets = [
+        ("two sites", two_sites),
+        ("star of 256 sites", largest_sheet(Shape::Star, 256)),
+        ("path of 256 sites", largest_sheet(Shape::Path, 256)),
+        (
+            "random labelled tree of 256 sites",
+            largest_sheet(Shape::Prufer, 256),
+        ),
+    ];
+    let file = std::env::temp_dir().join(format!("bench-{}.sheet", std::process::id()));
+
+    writeln!(text, "\n### Whole programs, from start to end\n")?;
+    writeln!(
+        text,
+        "| sheet | proved, µs | second, µs | ratio | proved, peak KiB | second, peak KiB |"
+    )?;
+    writeln!(text, "|---|---:|---:|---:|---:|---:|")?;
+    for (title, sheet) in sheets {
+        std::fs::write(&file, sheet)?;
+        let [proved, second] = program::times(programs, &file)?;
+        let [proved_peak, second_peak] =
+            programs.map(|program| program::peak_memory(program, &file));
+        writeln!(
+            text,
+            "| {title} | {proved:.0} | {second:.0} | {:.2} | {} | {} |",
+            proved / second,
+            proved_peak?,
+            second_peak?
+        )?;
+    }
+    std::fs::remove_file(&file)?;
+    Ok(())
+}

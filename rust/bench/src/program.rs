@@ -1,0 +1,69 @@
+//! Time and memory of the whole programs.
+
+use crate::library::{median, microseconds};
+use std::fs::File;
+use std::io::{Result, Write, pipe};
+use std::path::Path;
+use std::process::{Command, Stdio};
+use std::thread::sleep;
+use std::time::{Duration, Instant};
+
+/// How often each program is run.
+const RUNS: usize = 501;
+
+/// Microseconds from starting each of two programs on a sheet to its end, the median of many
+/// runs in turn.
+pub fn times(programs: [&Path; 2], sheet: &Path) -> Result<[f64; 2]> {
+    let mut timings = [Vec::with_capacity(RUNS), Vec::with_capacity(RUNS)];
+    for _ in 0..RUNS {
+        for (program, timings) in programs.iter().zip(&mut timings) {
+            let input = File::open(sheet)?;
+            let start = Instant::now();
+            Command::new(program)
+                .stdin(input)
+                .stdout(Stdio::null())
+                .status()?;
+            timings.push(microseconds(start.elapsed()));
+        }
+    }
+    Ok(timings.map(|mut timings| median(&mut timings)))
+}
+
+/// The most memory a program has used, in KiB, by the time it prints its report on a sheet.
+///
+/// Its output goes into a pipe that is full, so that it waits while the memory is looked up.
+pub fn peak_memory(program: &Path, sheet: &Path) -> Result<u64> {
+    const PIPE_BYTES: usize = 65_536;
+    let (reader, mut writer) = pipe()?;
+    writer.write_all(&[0; PIPE_BYTES])?;
+    let mut child = Command::new(program)
+        .stdin(File::open(sheet)?)
+        .stdout(writer)
+        .stderr(Stdio::null())
+        .spawn()?;
+    let status = format!("/proc/{}/status", child.id());
+    let mut seen_waiting = 0;
+    let mut peak = 0;
+    while seen_waiting < 5 {
+        sleep(Duration::from_millis(10));
+        let status = std::fs::read_to_string(&status)?;
+        let field = |name: &str| {
+            let line = status.lines().find_map(|line| line.strip_prefix(name));
+            line.and_then(|rest| rest.split_whitespace().next())
+        };
+        seen_waiting = if field("State:") == Some("S") {
+            seen_waiting + 1
+        } else {
+            0
+        };
+        peak = field("VmHWM:")
+            .and_then(|text| text.parse().ok())
+            .unwrap_or(peak);
+        if field("State:") == Some("Z") {
+            break;
+        }
+    }
+    drop(reader);
+    child.wait()?;
+    Ok(peak)
+}

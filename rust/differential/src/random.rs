@@ -1,0 +1,244 @@
+//! Random trees and damaged sheets, compared by two threads.
+
+use crate::compare::{Answer, Planners};
+use crate::damage::{self, Damaged};
+use crate::{Failure, accepted, demands};
+use second::REPORT_BYTES;
+use sheets::{Layout, Network, Random};
+use std::cell::Cell;
+use std::sync::Mutex;
+use std::sync::atomic::{AtomicU64, Ordering};
+use std::time::Instant;
+
+/// The threads that compare.
+const THREADS: usize = 2;
+/// So many sheets are handed to a thread at once.
+const BLOCK: u64 = 64;
+/// At least one in this many sheets must have each outcome, so that no kind of sheet is missing.
+const LEAST_SHARE: u64 = 2_000;
+
+thread_local! {
+    /// The index of the sheet a thread compares.
+    static CURRENT: Cell<Option<u64>> = const { Cell::new(None) };
+}
+
+/// How many sheets had each outcome: at 0 the accepted ones, else by the number of the refusal.
+#[derive(Default)]
+pub struct Tally {
+    outcomes: [u64; 10],
+    solved: u64,
+}
+
+impl Tally {
+    fn add(&mut self, other: &Tally) {
+        for (count, more) in self.outcomes.iter_mut().zip(other.outcomes) {
+            *count += more;
+        }
+        self.solved += other.solved;
+    }
+}
+
+/// A random sheet, and what is known of it.
+struct Case {
+    sheet: Vec<u8>,
+    kind: Kind,
+    /// For what else is drawn in the comparison.
+    random: Random,
+}
+
+enum Kind {
+    Tree(Network),
+    Damaged(Option<(u8, u32)>),
+}
+
+impl Case {
+    /// The sheet with an index among those of a seed.
+    fn new(seed: u64, index: u64) -> Self {
+        let start = Random::new(seed).bits() ^ index.wrapping_mul(0xd134_2543_de82_ef95);
+        let mut random = Random::new(start);
+        let (sheet, kind) = if random.once_in(2) {
+            let most = *random.pick(&[7, 7, 16, 16, 32, 64, 128, 256]);
+            let network = Network::any(most, &mut random);
+            let sheet = network.sheet(Layout::any(&mut random), &mut random);
+            (sheet, Kind::Tree(network))
+        } else {
+            let Damaged { sheet, refusal } = damage::damaged(&mut random);
+            (sheet, Kind::Damaged(refusal))
+        };
+        Case {
+            sheet,
+            kind,
+            random,
+        }
+    }
+
+    fn check(&mut self, planners: &mut Planners, tally: &mut Tally) -> Result<(), String> {
+        match &self.kind {
+            Kind::Tree(network) => {
+                let solve = network.names.len() <= 7 && self.random.once_in(4);
+                let length = accepted(network, &self.sheet, planners, solve)?;
+                tally.outcomes[0] += 1;
+                tally.solved += u64::from(solve);
+                if self.random.once_in(8) {
+                    tally.outcomes[9] += 1;
+                    self.check_buffers(length, planners)?;
+                }
+                Ok(())
+            }
+            Kind::Damaged(refusal) => {
+                let refusal = *refusal;
+                self.check_damaged(refusal, planners, tally)
+            }
+        }
+    }
+
+    /// Compares the planners with report buffers about as long as the report.
+    fn check_buffers(&mut self, length: usize, planners: &mut Planners) -> Result<(), String> {
+        let near = length - 4..=length + 4;
+        let shorter = self.random.below(length);
+        let longer = self.random.between(length, REPORT_BYTES);
+        for buffer_length in near.chain([0, 1, shorter, longer]) {
+            let is_right = match planners.compare(&self.sheet, buffer_length)? {
+                Answer::Report(report) => buffer_length >= length && report.len() == length,
+                Answer::Refused(number, line) => buffer_length < length && (number, line) == (9, 0),
+            };
+            if !is_right {
+                return Err(format!(
+                    "both planners are wrong on a buffer of {buffer_length} bytes"
+                ));
+            }
+        }
+        Ok(())
+    }
+
+    fn check_damaged(
+        &mut self,
+        refusal: Option<(u8, u32)>,
+        planners: &mut Planners,
+        tally: &mut Tally,
+    ) -> Result<(), String> {
+        let length = match self.random.below(8) {
+            0 => 0,
+            1 => self.random.below(400),
+            _ => REPORT_BYTES,
+        };
+        let answer = match planners.compare(&self.sheet, length)? {
+            Answer::Report(report) => {
+                demands::check(&self.sheet, report)?;
+                None
+            }
+            Answer::Refused(number, line) => Some((number, line)),
+        };
+        tally.outcomes[answer.map_or(0, |(number, _)| usize::from(number))] += 1;
+        if refusal.is_some() && answer != refusal {
+            return Err(format!(
+                "both planners answer {answer:?} where {refusal:?} is due"
+            ));
+        }
+        Ok(())
+    }
+}
+
+/// Compares the planners on one sheet of a seed, after `keep` has seen it.
+pub fn compare_one(seed: u64, index: u64, keep: impl FnOnce(&[u8])) -> Result<(), Failure> {
+    let mut case = Case::new(seed, index);
+    keep(&case.sheet);
+    compare_case(
+        &mut case,
+        seed,
+        index,
+        &mut Planners::new(),
+        &mut Tally::default(),
+    )
+}
+
+fn compare_case(
+    case: &mut Case,
+    seed: u64,
+    index: u64,
+    planners: &mut Planners,
+    tally: &mut Tally,
+) -> Result<(), Failure> {
+    case.check(planners, tally).map_err(|what| Failure {
+        sheet: Some(case.sheet.clone()),
+        index: Some(index),
+        what: format!("sheet {index} of seed {seed}: {what}"),
+    })
+}
+
+/// Compares the planners on the first `count` sheets of a seed.
+pub fn compare_all(seed: u64, count: u64) -> Result<(), Failure> {
+    let start = Instant::now();
+    tell_sheet_on_panic(seed);
+    let next_block = AtomicU64::new(0);
+    let failure: Mutex<Option<Failure>> = Mutex::new(None);
+    let tally = Mutex::new(Tally::default());
+    let work = || {
+        let mut planners = Planners::new();
+        let mut own_tally = Tally::default();
+        'blocks: loop {
+            let first = next_block.fetch_add(BLOCK, Ordering::Relaxed);
+            for index in first..first + BLOCK {
+                if index >= count {
+                    break 'blocks;
+                }
+                CURRENT.set(Some(index));
+                let mut case = Case::new(seed, index);
+                let outcome = compare_case(&mut case, seed, index, &mut planners, &mut own_tally);
+                if let Err(found) = outcome {
+                    // The other thread ends with its block.
+                    next_block.store(count, Ordering::Relaxed);
+                    let mut failure = failure.lock().expect("no thread panics");
+                    if failure.as_ref().is_none_or(|kept| found.index < kept.index) {
+                        *failure = Some(found);
+                    }
+                    break 'blocks;
+                }
+            }
+        }
+        tally.lock().expect("no thread panics").add(&own_tally);
+    };
+    std::thread::scope(|scope| {
+        for _ in 0..THREADS {
+            scope.spawn(work);
+        }
+    });
+    if let Some(failure) = failure.into_inner().expect("no thread panics") {
+        return Err(failure);
+    }
+    let tally = tally.into_inner().expect("no thread panics");
+    let seconds = start.elapsed().as_secs_f64();
+    println!(
+        "random sheets: {count} of seed {seed} in {seconds:.1} s, {:.0} a second",
+        count as f64 / seconds
+    );
+    println!(
+        "  {} accepted, {} solved; refused 1 to 9: {:?}",
+        tally.outcomes[0],
+        tally.solved,
+        &tally.outcomes[1..]
+    );
+    if tally
+        .outcomes
+        .iter()
+        .any(|&outcomes| outcomes < count / LEAST_SHARE)
+    {
+        return Err(Failure {
+            sheet: None,
+            index: None,
+            what: "too few sheets had one of the outcomes".to_string(),
+        });
+    }
+    Ok(())
+}
+
+/// Lets a panic, as of an index out of bounds in the second planner, tell the sheet it comes from.
+fn tell_sheet_on_panic(seed: u64) {
+    let usual = std::panic::take_hook();
+    std::panic::set_hook(Box::new(move |panic| {
+        usual(panic);
+        if let Some(index) = CURRENT.get() {
+            eprintln!("made again by: --seed {seed} --only {index}");
+        }
+    }));
+}

@@ -1,0 +1,86 @@
+//! End sets: the terminal cuts that show the plan cannot be larger.
+
+use crate::SITES;
+use crate::network::Network;
+use crate::planted::{Error, planted};
+use crate::tree::RootedTree;
+use crate::trim::Balanced;
+
+/// The end sets of a tree.
+pub struct TerminalCuts {
+    /// The end whose set holds each site, if one does.
+    owner: [Option<u8>; SITES],
+    /// For each end, the sum of given capacities of links with one site in its set.
+    size: [u32; SITES],
+    /// For each end, the number of sites in its set.
+    site_count: [u16; SITES],
+    /// The sum of all sizes.
+    total: u32,
+}
+
+impl TerminalCuts {
+    #[inline]
+    pub fn owner(&self, site: u8) -> Option<u8> {
+        self.owner[usize::from(site)]
+    }
+
+    #[inline]
+    pub fn size(&self, terminal: u8) -> u32 {
+        self.size[usize::from(terminal)]
+    }
+
+    #[inline]
+    pub fn site_count(&self, terminal: u8) -> u16 {
+        self.site_count[usize::from(terminal)]
+    }
+
+    pub fn total(&self) -> u32 {
+        self.total
+    }
+}
+
+/// Works out the set of each end: the sites reached from it over links trimmed below their given
+/// capacity. No site is reached from two ends.
+pub fn terminal_cuts(network: &Network, tree: &RootedTree, balanced: &Balanced) -> TerminalCuts {
+    let mut cuts = TerminalCuts {
+        owner: [None; SITES],
+        size: [0; SITES],
+        site_count: [0; SITES],
+        total: 0,
+    };
+    let owner = &mut cuts.owner;
+    if tree.is_terminal(tree.root()) {
+        owner[usize::from(tree.root())] = Some(tree.root());
+    }
+    let is_trimmed = |site| balanced.capacity(site) < tree.capacity(site);
+    for &site in tree.leaves_first() {
+        if tree.is_terminal(site) {
+            owner[usize::from(site)] = Some(site);
+        }
+        let own = owner[usize::from(site)];
+        if own.is_some() && is_trimmed(site) {
+            owner[usize::from(tree.parent(site))] = own;
+        }
+    }
+    if !planted(Error::UpwardSets) {
+        for &site in tree.leaves_first().iter().rev() {
+            if is_trimmed(site) {
+                owner[usize::from(site)] = owner[usize::from(tree.parent(site))];
+            }
+        }
+    }
+
+    for owner in cuts.owner[..tree.site_count()].iter().flatten() {
+        cuts.site_count[usize::from(*owner)] += 1;
+    }
+    for link in network.links() {
+        let [first, second] = link.sites.map(|site| cuts.owner[usize::from(site)]);
+        if first != second {
+            for owner in [first, second].into_iter().flatten() {
+                cuts.size[usize::from(owner)] += link.capacity;
+                cuts.total += link.capacity;
+            }
+        }
+    }
+    cuts
+}

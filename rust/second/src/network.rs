@@ -1,0 +1,361 @@
+//! Reading a network sheet: sites, links, and refusals 1 to 8.
+
+use crate::names::{Found, Name, NameTable};
+use crate::planted::{Error, planted};
+use crate::{CAPACITY, Refusal, SHEET_BYTES, SITES};
+
+const HEADING: &[u8] = b"network\t1\n";
+
+/// A link between two sites. (It has no padding, so that clearing many is quick.)
+#[derive(Clone, Copy)]
+pub struct Link {
+    pub sites: [u8; 2],
+    pub capacity: u32,
+    /// Where its line starts in the sheet.
+    start: u16,
+    /// The length of its line, byte 10 left off.
+    length: u32,
+}
+
+/// The links at one site, folded together: how many there are, and the exclusive or of their
+/// other sites and of their numbers. With one link left these are its other site and its number.
+#[derive(Clone, Copy, Default)]
+pub struct Fold {
+    pub degree: u8,
+    pub neighbours: u8,
+    pub links: u8,
+}
+
+/// The sites and links of a sheet.
+pub struct Network<'sheet> {
+    sheet: &'sheet [u8],
+    names: [Name; SITES],
+    site_count: usize,
+    links: [Link; SITES],
+    link_count: usize,
+    folds: [Fold; SITES],
+}
+
+/// A fault of one line: the number of its cause.
+struct Fault(u8);
+
+const WRONG_FORM: Fault = Fault(2);
+const TOO_LARGE: Fault = Fault(3);
+const TOO_MANY_SITES: Fault = Fault(4);
+const NAME_TAKEN: Fault = Fault(5);
+const UNKNOWN_NAME: Fault = Fault(6);
+const ALREADY_JOINED: Fault = Fault(7);
+
+impl<'sheet> Network<'sheet> {
+    /// A network without sites over `sheet`.
+    pub fn new(sheet: &'sheet [u8]) -> Self {
+        let no_link = Link {
+            sites: [0; 2],
+            capacity: 0,
+            start: 0,
+            length: 0,
+        };
+        Network {
+            sheet,
+            names: [Name::NONE; SITES],
+            site_count: 0,
+            links: [no_link; SITES],
+            link_count: 0,
+            folds: [Fold::default(); SITES],
+        }
+    }
+
+    /// Reads the whole sheet, or tells its refusal.
+    pub fn read(&mut self) -> Result<(), Refusal> {
+        if self.sheet.is_empty() || self.sheet.len() > SHEET_BYTES {
+            return Err(Refusal { number: 1, line: 0 });
+        }
+        if !self.sheet.starts_with(HEADING) {
+            return Err(Refusal { number: 2, line: 1 });
+        }
+        let mut table = NameTable::new();
+        let mut joined = JoinedSites::new();
+        let mut position = HEADING.len();
+        let mut line = 1;
+        while position < self.sheet.len() {
+            line += 1;
+            let read = match load::<2>(self.sheet, position) {
+                [b'N', b'\t'] => self.read_site(position, &mut table),
+                [b'L', b'\t'] => self.read_link(position, &table, &mut joined),
+                _ => Err(WRONG_FORM),
+            };
+            match read {
+                Ok(next) => position = next,
+                Err(Fault(number)) => return Err(Refusal { number, line }),
+            }
+        }
+        if self.site_count < 2 || self.link_count + 1 < self.site_count {
+            return Err(Refusal { number: 8, line: 0 });
+        }
+        Ok(())
+    }
+
+    /// Reads the site line at `start`; returns where the next line starts.
+    #[inline]
+    fn read_site(&mut self, start: usize, table: &mut NameTable) -> Result<usize, Fault> {
+        let (name, next) = read_name(self.sheet, start + 2, b'\n')?;
+        if self.site_count == SITES {
+            return Err(TOO_MANY_SITES);
+        }
+        let Found::Empty(slot) = table.find(&self.names, name) else {
+            return Err(NAME_TAKEN);
+        };
+        self.names[self.site_count] = name;
+        table.put(slot, self.site_count as u8);
+        self.site_count += 1;
+        Ok(next)
+    }
+
+    /// Reads the link line at `start`; returns where the next line starts.
+    #[inline]
+    fn read_link(
+        &mut self,
+        start: usize,
+        table: &NameTable,
+        joined: &mut JoinedSites,
+    ) -> Result<usize, Fault> {
+        let (first, position) = read_name(self.sheet, start + 2, b'\t')?;
+        let (second, position) = read_name(self.sheet, position, b'\t')?;
+        let (capacity, next) = read_capacity(self.sheet, position)?;
+        let found = (
+            table.find(&self.names, first),
+            table.find(&self.names, second),
+        );
+        let too_large = capacity > CAPACITY;
+        if too_large && !planted(Error::UnknownFirst) {
+            return Err(TOO_LARGE);
+        }
+        let (Found::Site(first), Found::Site(second)) = found else {
+            return Err(UNKNOWN_NAME);
+        };
+        if too_large {
+            return Err(TOO_LARGE);
+        }
+        if !joined.join(first, second) {
+            return Err(ALREADY_JOINED);
+        }
+        // Each link joined two parts of the network, so there are fewer links than sites.
+        self.links[self.link_count] = Link {
+            sites: [first, second],
+            capacity,
+            start: start as u16,
+            length: (next - 1 - start) as u32,
+        };
+        let number = self.link_count as u8;
+        self.link_count += 1;
+        self.fold(first, second, number);
+        self.fold(second, first, number);
+        Ok(next)
+    }
+
+    #[inline]
+    fn fold(&mut self, site: u8, neighbour: u8, link: u8) {
+        let fold = &mut self.folds[usize::from(site)];
+        fold.degree += 1;
+        fold.neighbours ^= neighbour;
+        fold.links ^= link;
+    }
+
+    pub fn site_count(&self) -> usize {
+        self.site_count
+    }
+
+    /// The names of the sites, in the order of their lines.
+    pub fn names(&self) -> &[Name] {
+        &self.names[..self.site_count]
+    }
+
+    /// The name of one site.
+    #[inline]
+    pub fn name(&self, site: u8) -> Name {
+        self.names[usize::from(site)]
+    }
+
+    /// The links, in the order of their lines.
+    pub fn links(&self) -> &[Link] {
+        &self.links[..self.link_count]
+    }
+
+    /// The capacity of one link.
+    #[inline]
+    pub fn capacity(&self, link: u8) -> u32 {
+        self.links[usize::from(link)].capacity
+    }
+
+    /// The line of a link as it stands in the sheet, byte 10 left off.
+    #[inline]
+    pub fn line(&self, link: &Link) -> &'sheet [u8] {
+        &self.sheet[usize::from(link.start)..][..link.length as usize]
+    }
+
+    /// The links at each site, folded together.
+    pub fn folds(&self) -> &[Fold; SITES] {
+        &self.folds
+    }
+}
+
+/// `COUNT` bytes of the sheet from `position`, zero bytes past its end.
+#[inline(always)]
+fn load<const COUNT: usize>(sheet: &[u8], position: usize) -> [u8; COUNT] {
+    if let Some(bytes) = sheet.get(position..).and_then(|rest| rest.first_chunk()) {
+        *bytes
+    } else {
+        load_tail(sheet, position)
+    }
+}
+
+#[cold]
+fn load_tail<const COUNT: usize>(sheet: &[u8], position: usize) -> [u8; COUNT] {
+    let mut bytes = [0; COUNT];
+    let rest = sheet.get(position..).unwrap_or_default();
+    bytes[..rest.len()].copy_from_slice(rest);
+    bytes
+}
+
+/// Reads a name that `after` follows; returns it and the position past `after`.
+#[inline(always)]
+fn read_name(sheet: &[u8], position: usize, after: u8) -> Result<(Name, usize), Fault> {
+    let bytes = load::<16>(sheet, position);
+    let (name, length) = Name::at_start(bytes).ok_or(WRONG_FORM)?;
+    if bytes[length] == after {
+        Ok((name, position + length + 1))
+    } else {
+        Err(WRONG_FORM)
+    }
+}
+
+/// Reads the number that ends a link line; returns it and the position past the line. Every
+/// number above the largest capacity may be returned as another such number.
+#[inline(always)]
+fn read_capacity(sheet: &[u8], position: usize) -> Result<(u32, usize), Fault> {
+    const EVERY_BYTE: u64 = u64::MAX / 0xff;
+    let bytes = load::<8>(sheet, position);
+    let word = u64::from_le_bytes(bytes);
+    // A byte is a digit when its high half is 3, before and after adding 6.
+    let other = ((word & (EVERY_BYTE * 0xf0)) ^ (EVERY_BYTE * 0x30))
+        | (((word & (EVERY_BYTE * 0x7f)).wrapping_add(EVERY_BYTE * 6) & (EVERY_BYTE * 0xf0))
+            ^ (EVERY_BYTE * 0x30));
+    let digits = (other.trailing_zeros() / 8) as usize;
+    if digits == 0 || (bytes[0] == b'0' && digits > 1) {
+        return Err(WRONG_FORM);
+    }
+    if digits == 8 {
+        return read_long_number(sheet, position + 8);
+    }
+    if bytes[digits] != b'\n' {
+        return Err(WRONG_FORM);
+    }
+    // The digits moved to the end of eight, then added up in pairs, fours and eights.
+    let digit = (word << (64 - 8 * digits)) & (EVERY_BYTE * 0x0f);
+    let pairs = (digit * 10 + (digit >> 8)) & 0x00ff_00ff_00ff_00ff;
+    let fours = (pairs * 100 + (pairs >> 16)) & 0x0000_ffff_0000_ffff;
+    let number = (fours * 10_000 + (fours >> 32)) as u32;
+    Ok((number, position + digits + 1))
+}
+
+/// Goes past the rest of a number of eight digits or more, which is always too large.
+#[cold]
+fn read_long_number(sheet: &[u8], position: usize) -> Result<(u32, usize), Fault> {
+    let rest = &sheet[position..];
+    match rest.iter().position(|byte| !byte.is_ascii_digit()) {
+        Some(length) if rest[length] == b'\n' => Ok((u32::MAX, position + length + 1)),
+        _ => Err(WRONG_FORM),
+    }
+}
+
+/// Which sites are joined by links, as a forest with halved paths.
+struct JoinedSites {
+    towards: [u8; SITES],
+}
+
+impl JoinedSites {
+    fn new() -> Self {
+        JoinedSites {
+            towards: std::array::from_fn(|site| site as u8),
+        }
+    }
+
+    #[inline]
+    fn representative(&mut self, mut site: u8) -> u8 {
+        loop {
+            let next = self.towards[usize::from(site)];
+            if next == site {
+                return site;
+            }
+            let after = self.towards[usize::from(next)];
+            self.towards[usize::from(site)] = after;
+            site = after;
+        }
+    }
+
+    /// Joins two sites; false if they were joined already.
+    #[inline]
+    fn join(&mut self, first: u8, second: u8) -> bool {
+        let first = self.representative(first);
+        let second = self.representative(second);
+        self.towards[usize::from(first)] = second;
+        first != second
+    }
+}
+
+#[cfg(test)]
+mod tests {
+    use super::*;
+
+    fn capacity(text: &[u8]) -> Option<u32> {
+        read_capacity(text, 0).ok().map(|(number, next)| {
+            assert_eq!(next, text.len());
+            number
+        })
+    }
+
+    #[test]
+    fn numbers_are_decimal_without_leading_zero() {
+        assert_eq!(capacity(b"0\n"), Some(0));
+        assert_eq!(capacity(b"7\n"), Some(7));
+        assert_eq!(capacity(b"1000000\n"), Some(1_000_000));
+        assert_eq!(capacity(b"9999999\n"), Some(9_999_999));
+        for wrong in [
+            &b""[..],
+            b"\n",
+            b"00\n",
+            b"07\n",
+            b"0",
+            b"12",
+            b"1 \n",
+            b"1\r\n",
+            b"-1\n",
+            b"+1\n",
+            b"1a\n",
+            b"12345678",
+            b"12345678x\n",
+            b"012345678\n",
+            b"00000000000000000001\n",
+        ] {
+            assert_eq!(capacity(wrong), None, "{wrong:?}");
+        }
+        for large in [&b"10000000\n"[..], b"4294967296\n", &[b'9'; 4000]] {
+            let mut text = large.to_vec();
+            if !text.ends_with(b"\n") {
+                text.push(b'\n');
+            }
+            assert!(capacity(&text).is_some_and(|number| number > CAPACITY));
+        }
+    }
+
+    #[test]
+    fn only_digits_count_as_digits() {
+        for byte in (0..=u8::MAX).filter(|&byte| byte != b'\n') {
+            let digit = byte.is_ascii_digit().then(|| u32::from(byte - b'0'));
+            assert_eq!(
+                capacity(&[b'1', byte, b'\n']),
+                digit.map(|digit| 10 + digit)
+            );
+        }
+    }
+}

@@ -1,0 +1,57 @@
+//! Errors planted on purpose.
+//!
+//! With the feature `planted` one of five errors can be switched on, to show that the comparison
+//! of the planners finds it. Without the feature none of this reaches the compiled planner.
+
+/// An error that can be planted, numbered from 1.
+#[derive(Clone, Copy, Debug, PartialEq, Eq)]
+pub enum Error {
+    /// The half of a joint's capacities is rounded up before a child link is found heavy.
+    RoundedHalf = 1,
+    /// The tree is rooted at the joint of highest number.
+    HighestRoot = 2,
+    /// End sets do not spread from a site to the sites below it.
+    UpwardSets = 3,
+    /// An unknown name is told before a capacity that is too large.
+    UnknownFirst = 4,
+    /// A report just as long as the buffer is refused.
+    FullBuffer = 5,
+}
+
+/// All errors, in the order of their numbers.
+pub const ERRORS: [Error; 5] = [
+    Error::RoundedHalf,
+    Error::HighestRoot,
+    Error::UpwardSets,
+    Error::UnknownFirst,
+    Error::FullBuffer,
+];
+
+#[cfg(feature = "planted")]
+mod switch {
+    use super::Error;
+    use std::sync::atomic::{AtomicU8, Ordering};
+
+    static CHOSEN: AtomicU8 = AtomicU8::new(0);
+
+    /// Switches one error on for all plans from now on.
+    pub fn plant(error: Error) {
+        CHOSEN.store(error as u8, Ordering::Relaxed);
+    }
+
+    pub(crate) fn planted(error: Error) -> bool {
+        CHOSEN.load(Ordering::Relaxed) == error as u8
+    }
+}
+
+#[cfg(not(feature = "planted"))]
+mod switch {
+    #[inline(always)]
+    pub(crate) const fn planted(_: super::Error) -> bool {
+        false
+    }
+}
+
+#[cfg(feature = "planted")]
+pub use switch::plant;
+pub(crate) use switch::planted;

@@ -1,0 +1,137 @@
+//! Writing the report.
+
+use crate::cuts::TerminalCuts;
+use crate::names::Name;
+use crate::network::Network;
+use crate::pairs::Pairs;
+use crate::tree::RootedTree;
+use crate::trim::Balanced;
+use crate::{CAPACITY, SITES};
+
+/// No report is longer: the heading, then for each site and link lines with names of 12 bytes
+/// and numbers of 7 digits at most.
+const LONGEST: usize = 32 + SITES * (44 + 28 + 28 + 36);
+
+/// Writes the whole report.
+pub fn write(
+    network: &Network,
+    tree: &RootedTree,
+    balanced: &Balanced,
+    cuts: &TerminalCuts,
+    pairs: &Pairs,
+) -> Vec<u8> {
+    let mut text = Vec::with_capacity(LONGEST);
+    text.extend_from_slice(b"plan\t");
+    push_large_number(&mut text, cuts.total());
+    text.push(b'\t');
+    push_number(&mut text, pairs.as_slice().len() as u32);
+    text.push(b'\n');
+
+    for link in network.links() {
+        let [first, second] = link.sites;
+        let child = if tree.parent(first) == second {
+            first
+        } else {
+            second
+        };
+        text.extend_from_slice(network.line(link));
+        text.push(b'\t');
+        push_number(&mut text, balanced.capacity(child));
+        text.push(b'\n');
+    }
+    for (site, &name) in network.names().iter().enumerate() {
+        text.extend_from_slice(b"N\t");
+        push_name(&mut text, name);
+        match cuts.owner(site as u8) {
+            Some(owner) => {
+                text.push(b'\t');
+                push_name(&mut text, network.name(owner));
+                text.push(b'\n');
+            }
+            None => text.extend_from_slice(b"\t-\n"),
+        }
+    }
+    for (site, &name) in network.names().iter().enumerate() {
+        let site = site as u8;
+        if tree.is_terminal(site) {
+            text.extend_from_slice(b"X\t");
+            push_name(&mut text, name);
+            text.push(b'\t');
+            push_number(&mut text, cuts.size(site));
+            text.push(b'\t');
+            push_number(&mut text, u32::from(cuts.site_count(site)));
+            text.push(b'\n');
+        }
+    }
+    for pair in pairs.as_slice() {
+        let [first, second] = pair.sites();
+        text.extend_from_slice(b"P\t");
+        push_name(&mut text, network.name(first));
+        text.push(b'\t');
+        push_name(&mut text, network.name(second));
+        text.push(b'\t');
+        push_number(&mut text, pair.halves);
+        text.push(b'\n');
+    }
+    text
+}
+
+#[inline(always)]
+fn push_name(text: &mut Vec<u8>, name: Name) {
+    // A fixed number of bytes is quick to copy; those past the name come off again.
+    let length = text.len() + name.length();
+    text.extend_from_slice(&name.bytes());
+    text.truncate(length);
+}
+
+/// Writes a number below 100,000,000 in decimal.
+#[inline(always)]
+fn push_number(text: &mut Vec<u8>, number: u32) {
+    const { assert!(2 * CAPACITY < 100_000_000) };
+    if number < 10 {
+        text.push(b'0' + number as u8);
+        return;
+    }
+    // All eight digits at once, the first in the lowest byte: split into fours, pairs and ones.
+    let fours = u64::from(number / 10_000) | (u64::from(number % 10_000) << 32);
+    let hundreds = ((fours * 10_486) >> 20) & 0x0000_007f_0000_007f;
+    let pairs = hundreds | ((fours - 100 * hundreds) << 16);
+    let tens = ((pairs * 103) >> 10) & 0x000f_000f_000f_000f;
+    let digits = tens | ((pairs - 10 * tens) << 8);
+    let leading_zeros = digits.trailing_zeros() / 8;
+    let letters = (digits | 0x3030_3030_3030_3030) >> (8 * leading_zeros);
+    let length = text.len() + 8 - leading_zeros as usize;
+    text.extend_from_slice(&letters.to_le_bytes());
+    text.truncate(length);
+}
+
+/// Writes any number in decimal.
+fn push_large_number(text: &mut Vec<u8>, number: u32) {
+    text.extend_from_slice(number.to_string().as_bytes());
+}
+
+#[cfg(test)]
+mod tests {
+    use super::*;
+
+    fn written(number: u32) -> String {
+        let mut text = Vec::new();
+        push_number(&mut text, number);
+        String::from_utf8(text).unwrap()
+    }
+
+    #[test]
+    fn numbers_are_written_in_decimal() {
+        for number in (0..=2 * CAPACITY).step_by(7).chain(0..=20_000) {
+            assert_eq!(written(number), number.to_string());
+        }
+        let mut power = 1;
+        while power < 100_000_000 {
+            for number in [power - 1, power, power + 1] {
+                assert_eq!(written(number), number.to_string());
+            }
+            power *= 10;
+        }
+        assert_eq!(written(99_999_999), "99999999");
+    }
+}

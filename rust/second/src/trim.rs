@@ -1,0 +1,68 @@
+//! Trimmed sizes: the greatest capacities, link by link, that leave no joint with a heavy link.
+
+use crate::SITES;
+use crate::planted::{Error, planted};
+use crate::tree::RootedTree;
+
+/// Balanced capacities: no link is heavy at a joint.
+pub struct Balanced {
+    /// The capacity of the link from each site to its parent; 0 at the root.
+    capacity: [u32; SITES],
+    /// The sum of the capacities at each site.
+    sum: [u32; SITES],
+}
+
+impl Balanced {
+    #[inline]
+    pub fn capacity(&self, site: u8) -> u32 {
+        self.capacity[usize::from(site)]
+    }
+
+    #[inline]
+    pub fn sum(&self, site: u8) -> u32 {
+        self.sum[usize::from(site)]
+    }
+}
+
+/// Trims the capacities of a tree.
+///
+/// From the leaves up, a link to a parent is cut down to the sum of the child links below it.
+/// Then, from the root down, a child link is cut down to the sum of the other links of its
+/// parent. The second pass leaves every link to a parent as light as the first made it, and at
+/// most one child link of a joint is heavy.
+pub fn balance(tree: &RootedTree) -> Balanced {
+    let mut capacity = [0; SITES];
+    let mut sum = [0; SITES];
+    for &site in tree.leaves_first() {
+        let given = tree.capacity(site);
+        let trimmed = if tree.is_terminal(site) {
+            given
+        } else {
+            given.min(sum[usize::from(site)])
+        };
+        capacity[usize::from(site)] = trimmed;
+        sum[usize::from(tree.parent(site))] += trimmed;
+    }
+    if tree.site_count() > 2 {
+        for &site in tree.leaves_first().iter().rev() {
+            let trimmed = &mut capacity[usize::from(site)];
+            let at_parent = &mut sum[usize::from(tree.parent(site))];
+            if is_heavy(*trimmed, *at_parent) {
+                let others = *at_parent - *trimmed;
+                *trimmed = others;
+                *at_parent = 2 * others;
+            }
+            sum[usize::from(site)] += *trimmed;
+        }
+    }
+    Balanced { capacity, sum }
+}
+
+/// Whether a child link is larger than all other links of its joint together.
+#[inline]
+fn is_heavy(capacity: u32, sum: u32) -> bool {
+    if planted(Error::RoundedHalf) {
+        return capacity > sum.div_ceil(2);
+    }
+    capacity > sum - capacity
+}

@@ -1,0 +1,20 @@
+//! Network sheets for tests and measurements: those of the scope document with their reports,
+//! and seeded random ones of many shapes.
+
+#![forbid(unsafe_code)]
+
+mod random;
+mod tree;
+pub mod tried;
+
+pub use random::Random;
+pub use tree::{Layout, Names, Network, SHAPES, SIZES, Shape, Sizes, join_lines, prufer_links};
+
+/// The largest sheet that is read, in bytes.
+pub const SHEET_BYTES: usize = 16_384;
+/// The most sites a sheet may have.
+pub const SITES: usize = 256;
+/// The largest size of a link, in circuits.
+pub const SIZE: u32 = 1_000_000;
+/// The first line of every sheet.
+pub const HEADING: &[u8] = b"network\t1";

@@ -1,0 +1,365 @@
+//! Random trees, and their sheets.
+
+use crate::{HEADING, Random, SIZE};
+use std::collections::HashSet;
+
+/// The shape of a tree.
+#[derive(Clone, Copy, Debug, PartialEq, Eq)]
+pub enum Shape {
+    /// One joint with all other sites around it.
+    Star,
+    /// One line of sites.
+    Path,
+    /// A line of half the sites with the other half around its last site.
+    Broom,
+    /// A line of sites with ends along it.
+    Caterpillar,
+    /// Paths of like length from one joint.
+    Spider,
+    /// Every joint has two sites below it.
+    Binary,
+    /// Each site is linked to a random earlier one.
+    Attached,
+    /// Each site is linked to one of the few sites before it.
+    Drawn,
+    /// All labelled trees are equally likely.
+    Prufer,
+}
+
+/// All shapes.
+pub const SHAPES: [Shape; 9] = [
+    Shape::Star,
+    Shape::Path,
+    Shape::Broom,
+    Shape::Caterpillar,
+    Shape::Spider,
+    Shape::Binary,
+    Shape::Attached,
+    Shape::Drawn,
+    Shape::Prufer,
+];
+
+impl Shape {
+    /// The name of the shape.
+    #[must_use]
+    pub fn name(self) -> &'static str {
+        match self {
+            Shape::Star => "star",
+            Shape::Path => "path",
+            Shape::Broom => "broom",
+            Shape::Caterpillar => "caterpillar",
+            Shape::Spider => "spider",
+            Shape::Binary => "binary",
+            Shape::Attached => "random attachment",
+            Shape::Drawn => "long random",
+            Shape::Prufer => "random labelled",
+        }
+    }
+
+    /// The links of a tree of this shape, over sites numbered from 0.
+    pub fn links(self, sites: usize, random: &mut Random) -> Vec<[usize; 2]> {
+        if self == Shape::Prufer {
+            let sequence: Vec<usize> = (2..sites).map(|_| random.below(sites)).collect();
+            return prufer_links(&sequence);
+        }
+        let legs = random.between(3, 8);
+        let mut towards = |site: usize| match self {
+            Shape::Star => 0,
+            Shape::Broom => (site - 1).min(sites / 2),
+            Shape::Caterpillar if site > sites / 2 => random.below(sites / 2 + 1),
+            Shape::Path | Shape::Caterpillar => site - 1,
+            Shape::Spider => site.saturating_sub(legs),
+            Shape::Binary => (site - 1) / 2,
+            Shape::Attached | Shape::Prufer => random.below(site),
+            Shape::Drawn => site - 1 - random.below(site.min(4)),
+        };
+        (1..sites).map(|site| [towards(site), site]).collect()
+    }
+}
+
+/// The links of the labelled tree with this Prüfer sequence: two sites more than the sequence
+/// is long.
+#[must_use]
+pub fn prufer_links(sequence: &[usize]) -> Vec<[usize; 2]> {
+    let sites = sequence.len() + 2;
+    let mut missing_links = vec![1; sites];
+    for &site in sequence {
+        missing_links[site] += 1;
+    }
+    let mut links = Vec::with_capacity(sites - 1);
+    // The lowest end is the one looked for next, unless a link just taken left a lower one.
+    let mut lowest = 0;
+    let mut left_over = None;
+    for &site in sequence {
+        let end = left_over.take().unwrap_or_else(|| {
+            while missing_links[lowest] != 1 {
+                lowest += 1;
+            }
+            lowest += 1;
+            lowest - 1
+        });
+        links.push([site, end]);
+        missing_links[end] -= 1;
+        missing_links[site] -= 1;
+        if missing_links[site] == 1 && site < lowest {
+            left_over = Some(site);
+        }
+    }
+    let mut last = (0..sites).filter(|&site| missing_links[site] == 1);
+    if let (Some(first), Some(second)) = (last.next(), last.next()) {
+        links.push([first, second]);
+    }
+    links
+}
+
+/// How sizes are drawn.
+#[derive(Clone, Copy, Debug, PartialEq, Eq)]
+pub enum Sizes {
+    /// All 1.
+    Ones,
+    /// 0, 1 or 2.
+    Tiny,
+    /// 0 to 20.
+    Small,
+    /// 1 to 1,000,000, all equally likely.
+    Wide,
+    /// All numbers of digits equally likely.
+    Scaled,
+    /// Mostly 0.
+    Sparse,
+    /// 0 or 1,000,000, or next to them.
+    Extreme,
+    /// Nearly all alike, so that many joints are nearly balanced.
+    Alike,
+    /// 1,000,000 less a little: the longest numbers with the most pairs.
+    Large,
+}
+
+/// All ways of drawing sizes.
+pub const SIZES: [Sizes; 9] = [
+    Sizes::Ones,
+    Sizes::Tiny,
+    Sizes::Small,
+    Sizes::Wide,
+    Sizes::Scaled,
+    Sizes::Sparse,
+    Sizes::Extreme,
+    Sizes::Alike,
+    Sizes::Large,
+];
+
+impl Sizes {
+    fn draw(self, random: &mut Random) -> u32 {
+        let largest = SIZE as usize;
+        let size = match self {
+            Sizes::Ones => 1,
+            Sizes::Tiny => random.below(3),
+            Sizes::Small => random.between(0, 20),
+            Sizes::Wide => random.between(1, largest),
+            Sizes::Scaled => {
+                let digits = random.between(0, 6) as u32;
+                random.below(10_usize.pow(digits) + 1)
+            }
+            Sizes::Sparse if random.once_in(4) => random.between(0, 9),
+            Sizes::Sparse => 0,
+            Sizes::Extreme => *random.pick(&[0, 1, 2, largest / 2, largest - 1, largest]),
+            Sizes::Alike => random.between(99, 101),
+            Sizes::Large => random.between(largest - 1_000, largest),
+        };
+        size as u32
+    }
+}
+
+/// How names are drawn.
+#[derive(Clone, Copy, Debug, PartialEq, Eq)]
+pub enum Names {
+    /// `s` and a number, in order.
+    Counted,
+    /// 1 to 12 random bytes.
+    Any,
+    /// 12 random bytes.
+    Long,
+    /// 12 bytes, alike but for the last two.
+    Alike,
+    /// One letter in either case, over and over.
+    Cases,
+}
+
+const LETTERS: &[u8; 62] = b"ABCDEFGHIJKLMNOPQRSTUVWXYZabcdefghijklmnopqrstuvwxyz0123456789";
+
+fn letters(from: &[u8], count: usize, random: &mut Random) -> Vec<u8> {
+    (0..count).map(|_| *random.pick(from)).collect()
+}
+
+impl Names {
+    const ALL: [Names; 5] = [
+        Names::Counted,
+        Names::Any,
+        Names::Long,
+        Names::Alike,
+        Names::Cases,
+    ];
+
+    /// One of the ways.
+    pub fn any(random: &mut Random) -> Self {
+        *random.pick(&Self::ALL)
+    }
+
+    fn draw(self, number: usize, random: &mut Random) -> Vec<u8> {
+        match self {
+            Names::Counted => format!("s{number}").into_bytes(),
+            Names::Any => {
+                let count = random.between(1, 12);
+                letters(LETTERS, count, random)
+            }
+            Names::Long => letters(LETTERS, 12, random),
+            Names::Alike => [b"AlikeAlike", letters(LETTERS, 2, random).as_slice()].concat(),
+            Names::Cases => letters(b"qQ", 12, random),
+        }
+    }
+
+    /// Different names for `count` sites.
+    pub fn list(self, count: usize, random: &mut Random) -> Vec<Vec<u8>> {
+        let mut taken = HashSet::with_capacity(count);
+        (0..count)
+            .map(|number| {
+                loop {
+                    let name = self.draw(number, random);
+                    if taken.insert(name.clone()) {
+                        return name;
+                    }
+                }
+            })
+            .collect()
+    }
+}
+
+/// How the lines of a sheet are laid out.
+#[derive(Clone, Copy, Debug, PartialEq, Eq)]
+pub enum Layout {
+    /// All sites, then all links.
+    SitesFirst,
+    /// Each link as soon as its sites are given.
+    LinksSoon,
+    /// Each link at a random place after its sites.
+    Mixed,
+}
+
+impl Layout {
+    /// One of the layouts.
+    pub fn any(random: &mut Random) -> Self {
+        *random.pick(&[Layout::SitesFirst, Layout::LinksSoon, Layout::Mixed])
+    }
+}
+
+/// A tree with names and sizes.
+#[derive(Clone, Debug)]
+pub struct Network {
+    /// The names of the sites, in the order of their lines.
+    pub names: Vec<Vec<u8>>,
+    /// The two sites of each link, numbered from 0.
+    pub links: Vec<[usize; 2]>,
+    /// The size of each link.
+    pub sizes: Vec<u32>,
+}
+
+impl Network {
+    /// A random tree of the given kind with `count` sites, its sites and links in random order.
+    pub fn random(
+        shape: Shape,
+        count: usize,
+        sizes: Sizes,
+        names: Names,
+        random: &mut Random,
+    ) -> Self {
+        let mut number: Vec<usize> = (0..count).collect();
+        random.shuffle(&mut number);
+        let mut links: Vec<[usize; 2]> = shape
+            .links(count, random)
+            .into_iter()
+            .map(|link| {
+                let mut link = link.map(|site| number[site]);
+                random.shuffle(&mut link);
+                link
+            })
+            .collect();
+        random.shuffle(&mut links);
+        Network {
+            names: names.list(count, random),
+            sizes: links.iter().map(|_| sizes.draw(random)).collect(),
+            links,
+        }
+    }
+
+    /// A random tree of any kind with at most `most` sites.
+    pub fn any(most: usize, random: &mut Random) -> Self {
+        let shape = *random.pick(&SHAPES);
+        let sizes = *random.pick(&SIZES);
+        let names = Names::any(random);
+        let count = random.between(2, most);
+        Self::random(shape, count, sizes, names, random)
+    }
+
+    /// The links with their sizes in ascending order, the lower site first: the same for two
+    /// networks just if they are the same tree with the same sizes.
+    #[must_use]
+    pub fn sized_links(&self) -> Vec<([usize; 2], u32)> {
+        let ascending = |link: &[usize; 2]| [link[0].min(link[1]), link[0].max(link[1])];
+        let links = self.links.iter().map(ascending);
+        let mut sized: Vec<_> = links.zip(self.sizes.iter().copied()).collect();
+        sized.sort_unstable();
+        sized
+    }
+
+    /// The line of a site, byte 10 left off.
+    #[must_use]
+    pub fn site_line(&self, site: usize) -> Vec<u8> {
+        [b"N", self.names[site].as_slice()].join(&b'\t')
+    }
+
+    /// The line of a link, byte 10 left off.
+    #[must_use]
+    pub fn link_line(&self, link: usize) -> Vec<u8> {
+        let [first, second] = self.links[link].map(|site| self.names[site].as_slice());
+        let size = self.sizes[link].to_string();
+        [b"L", first, second, size.as_bytes()].join(&b'\t')
+    }
+
+    /// The lines of the sheet, each without its byte 10. Links keep their order, unless they
+    /// are put sooner.
+    pub fn lines(&self, layout: Layout, random: &mut Random) -> Vec<Vec<u8>> {
+        let last_site = self.names.len() - 1;
+        let mut after: Vec<Vec<usize>> = vec![Vec::new(); self.names.len()];
+        for (link, [first, second]) in self.links.iter().enumerate() {
+            let soonest = *first.max(second);
+            let site = match layout {
+                Layout::SitesFirst => last_site,
+                Layout::LinksSoon => soonest,
+                Layout::Mixed => random.between(soonest, last_site),
+            };
+            after[site].push(link);
+        }
+        let mut lines = vec![HEADING.to_vec()];
+        for (site, links) in after.iter().enumerate() {
+            lines.push(self.site_line(site));
+            lines.extend(links.iter().map(|&link| self.link_line(link)));
+        }
+        lines
+    }
+
+    /// The sheet.
+    pub fn sheet(&self, layout: Layout, random: &mut Random) -> Vec<u8> {
+        join_lines(&self.lines(layout, random))
+    }
+}
+
+/// The lines, each ended by byte 10.
+#[must_use]
+pub fn join_lines(lines: &[Vec<u8>]) -> Vec<u8> {
+    let mut sheet = Vec::with_capacity(lines.iter().map(|line| line.len() + 1).sum());
+    for line in lines {
+        sheet.extend_from_slice(line);
+        sheet.push(b'\n');
+    }
+    sheet
+}

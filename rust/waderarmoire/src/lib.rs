@@ -1,0 +1,124 @@
+//! The tree circuit planner: a safe interface to its proved static library.
+//!
+//! A network sheet lists the sites and links of a tree with the number of circuits each link
+//! holds. The planner trims every link to what can be used of it, shares the circuits out
+//! between the ends of the tree so that their total is the greatest, and shows by the end sets
+//! that no plan has more. Amounts are counted in halves of a circuit.
+//!
+//! ```
+//! let sheet = b"network\t1\nN\ta\nN\tb\nL\ta\tb\t4\n";
+//! let mut buffer = [0; waderarmoire::REPORT_BYTES];
+//! let report = waderarmoire::plan(sheet, &mut buffer)?;
+//! assert!(report.starts_with(b"plan\t8\t1\n"));
+//! assert!(report.ends_with(b"P\ta\tb\t8\n"));
+//! # Ok::<(), waderarmoire::Refusal>(())
+//! ```
+//!
+//! A sheet with a fault is refused with the number of its cause and its line:
+//!
+//! ```
+//! let refusal = waderarmoire::plan(b"network\t1\nN\ta\nL\ta\ta\t4\n", &mut []).unwrap_err();
+//! assert_eq!((refusal.number, refusal.line), (7, 3));
+//! ```
+//!
+//! # Building
+//!
+//! The archive `libwaderarmoire.a` is looked for in the folder named by the environment variable
+//! `WADERARMOIRE_LIB_DIR`, or else in `target/staticlib` at the root of the repository, where
+//! `rt staticlib waderarmoire` puts it.
+
+use std::error::Error;
+use std::fmt;
+
+/// The largest sheet that is read, in bytes.
+pub const SHEET_BYTES: usize = 16_384;
+
+/// A report buffer of this length is enough for every accepted sheet.
+pub const REPORT_BYTES: usize = 65_536;
+
+unsafe extern "C" {
+    fn waderarmoire_plan(
+        sheet: *const u8,
+        sheet_len: usize,
+        report: *mut u8,
+        report_len: usize,
+    ) -> u64;
+}
+
+/// Why there is no report.
+#[derive(Clone, Copy, Debug, PartialEq, Eq)]
+pub struct Refusal {
+    /// The number of the cause:
+    ///
+    /// 1. sheet of 0 bytes or above 16,384
+    /// 2. line of the wrong form
+    /// 3. size above 1,000,000
+    /// 4. a 257th site
+    /// 5. name already given to a site
+    /// 6. link to a name not given above
+    /// 7. link whose sites are already joined, or are one site
+    /// 8. under two sites, or not all joined
+    /// 9. report longer than the buffer
+    pub number: u8,
+    /// The line at fault, counted from 1, or 0 when no line is.
+    pub line: u32,
+}
+
+impl Refusal {
+    /// The cause in words.
+    #[must_use]
+    pub fn cause(&self) -> &'static str {
+        match self.number {
+            1 => "sheet of 0 bytes or above 16,384",
+            2 => "line of the wrong form",
+            3 => "size above 1,000,000",
+            4 => "a 257th site",
+            5 => "name already given to a site",
+            6 => "link to a name not given above",
+            7 => "link whose sites are already joined, or are one site",
+            8 => "under two sites, or not all joined",
+            9 => "report longer than the buffer",
+            _ => "unknown cause",
+        }
+    }
+}
+
+impl fmt::Display for Refusal {
+    fn fmt(&self, out: &mut fmt::Formatter<'_>) -> fmt::Result {
+        if self.line > 0 {
+            write!(out, "line {}: ", self.line)?;
+        }
+        write!(out, "{} (refusal {})", self.cause(), self.number)
+    }
+}
+
+impl Error for Refusal {}
+
+/// Plans the network of `sheet`, writes the report to the start of `buffer` and returns it.
+///
+/// The bytes after the report keep their values.
+///
+/// # Errors
+///
+/// The refusal, if the sheet has a fault or its report is longer than the buffer. The whole
+/// buffer then keeps its values.
+pub fn plan<'buffer>(sheet: &[u8], buffer: &'buffer mut [u8]) -> Result<&'buffer [u8], Refusal> {
+    // SAFETY: the pointers and lengths are those of two slices, which do not overlap as one of
+    // them is borrowed mutably, and the pointer of an empty slice is not null either. The library
+    // reads the sheet and writes the buffer within these lengths, and keeps neither.
+    let answer = unsafe {
+        waderarmoire_plan(
+            sheet.as_ptr(),
+            sheet.len(),
+            buffer.as_mut_ptr(),
+            buffer.len(),
+        )
+    };
+    match (answer >> 40) as u8 {
+        0 => Ok(&buffer[..(answer & 0xf_ffff) as usize]),
+        number => Err(Refusal {
+            number,
+            line: (answer >> 20) as u32 & 0xf_ffff,
+        }),
+    }
+}
