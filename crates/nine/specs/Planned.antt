@@ -12,7 +12,7 @@ use Rattle.network.specs.Cuts.{kept, group, inCut, cutSize, cutCount, ownerAmon
 use Rattle.network.specs.Pairing.{put, takeHalves, dropHalves, halves, give, match, joins, between, children, gather, alone, settle, walk, pairsFrom, lowestInner, pairs}
 use Rattle.network.specs.Pairing.{lowerFirst, before, insert, ordered, pairList}
 use Rattle.lines.specs.Lines.{lineLength, lineAt, afterLine, hasLine}
-use Rattle.sheet.specs.Sheet.{same, push, fields, all, isName, isNumber, valueFrom, isHeading, isSite, isLink, linkLine as sheetLink, kindOf, kind}
+use Rattle.line_kinds.specs.LineKinds.{same, push, fields, all, isName, isNumber, valueFrom, isHeading, isSite, isLink, linkLine as sheetLink, kindOf, kind}
 use Rattle.sheet.specs.Sheet.{lookupFrom, newName, addSite, newLink, addLink, readHeading, readRecord, readLine, andThen, readLines, allJoined, finish, readSheet}
 use Rattle.report.specs.Report.{digits, decimal, line, lines, planOf, ownerName, planRecord, linkRecord, linkLine, siteLine, cutRecord, cutLine, pairLine, reportOf, report}
 use Rattle.planner.specs.Outcome.{Planned, deliver, planRead, planned}

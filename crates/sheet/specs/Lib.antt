@@ -1,1 +1,12 @@
 pub mod Sheet
+pub mod Reading
+pub mod Steps
+pub mod Causes
+pub mod LookupLaws
+pub mod ReadLaws
+pub mod Sound
+pub mod StepLaws
+pub mod CauseLaws
+pub mod RefusalLaws
+pub mod SheetTheorem
+pub mod NameLaws

@@ -135,6 +135,7 @@ pub record Over (n : ℕ) (a b numbers positions : List ℕ) (v : ℕ) : Type 0 
   pub position : look positions v < length a
   pub enough : v ≤ look a (look positions v) + look b (look positions v)
   pub end : Site n (farEnd a b (look positions v) v)
+  pub other : farEnd a b (look positions v) v ≢ v
   pub number : 1 ≤ look numbers (farEnd a b (look positions v) v)
   pub less : look positions v ≤ look positions (farEnd a b (look positions v) v)
 
@@ -161,6 +162,7 @@ module _ {n i : ℕ} {a b order numbers positions : List ℕ} (p : Proper n a b)
           position = over-position;
           enough = omega (arith, o .ends, links-one a b j over-position (omega (arith, over-position)), links-two a b j over-position (omega (arith, over-position)));
           end = rw same at (u .within (one (links a b) j + two (links a b) j - v) (omega (arith, o .untaken)));
+          other = rw same at (o .other);
           number = rw same at (has .0);
           less = rw same at (has .1);
         }

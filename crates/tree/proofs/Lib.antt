@@ -1,3 +1,4 @@
 pub mod Untaken
 pub mod Going
+pub mod Search
 pub mod Answers

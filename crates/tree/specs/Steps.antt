@@ -35,11 +35,22 @@ pub record Counted (one two : List ℕ) (r : Unvisited) : Type 0 where
   pub number : (x : ℕ) → look (r .numbers) x ≡ sumAt (links one two) x (λ i. 1)
   pub position : (x : ℕ) → look (r .positions) x ≡ sumAt (links one two) x (λ i. i)
 
--- r is the lowest site with a number of at most 1, or 0 if there is none
-pub record Lowest (n : ℕ) (numbers : List ℕ) (r : ℕ) : Type 0 where
-  pub none : r ≡ 0 → (x : ℕ) → Site n x → 2 ≤ look numbers x
+-- r is the lowest site from `from` on with a number of at most 1, or 0 if there is none
+pub record Lowest (from n : ℕ) (numbers : List ℕ) (r : ℕ) : Type 0 where
+  pub none : r ≡ 0 → (x : ℕ) → Site n x → from ≤ x → 2 ≤ look numbers x
   pub some : r ≢ 0 → Site n r × (look numbers r ≤ 1)
-  pub below : r ≢ 0 → (x : ℕ) → Site n x → x < r → 2 ≤ look numbers x
+  pub below : r ≢ 0 → (x : ℕ) → Site n x → from ≤ x → x < r → 2 ≤ look numbers x
+
+-- no site below `from` has a number of at most 1, but for `back` where it is not 0
+pub record Behind (n : ℕ) (numbers : List ℕ) (back from : ℕ) : Type 0 where
+  pub site : Site n from
+  pub others : (x : ℕ) → Site n x → x < from → x ≢ back → 2 ≤ look numbers x
+  pub known : back ≢ 0 → Site n back × (back < from) × (look numbers back ≤ 1)
+
+-- r is w if it stands below `from` with a number of at most 1, else 0
+pub record Back (w number from r : ℕ) : Type 0 where
+  pub none : r ≡ 0 → w < from → 2 ≤ number
+  pub some : r ≢ 0 → (r ≡ w) × (w < from) × (number ≤ 1)
 
 -- all sites are taken just if the links make a tree, and then in the elimination order
 pub record Eliminated (n : ℕ) (one two : List ℕ) (r : Order) : Type 0 where

@@ -3,14 +3,14 @@ use network::Edition;
 ghost use mathlib.Core.Path.{_≡_};
 ghost use mathlib.Core.Logic.{_≢_};
 ghost use mathlib.Core.List.{map};
-ghost use Prim.Native.Nat.{ℕ, _+_, _*_, _≤_, _<_};
+ghost use Prim.Native.Nat.{ℕ, _+_, _*_, _≤_, _<_, max};
 ghost use lib.ListN.{length};
 ghost use Rattle.network.specs.Numbers.{pick, is, look, upfrom};
 ghost use Rattle.network.specs.Network.{relabel};
 ghost use Rattle.network.specs.Edition.{edition1};
 ghost use Rattle.tree.specs.Offer.{within, offer};
 ghost use Rattle.tree.specs.Elimination.{unordered, eliminated};
-ghost use Rattle.tree.specs.Steps.{Tells, Link, Proper, Counted, Lowest, Eliminated};
+ghost use Rattle.tree.specs.Steps.{Tells, Link, Proper, Counted, Lowest, Behind, Back, Eliminated};
 
 // What a function that is offered a tree with capacities says of the offer.
 pub enum Offer {
@@ -102,17 +102,46 @@ fn count_links(n: usize, one: &[usize], two: &[usize]) -> Unvisited
     Unvisited { numbers, positions }
 }
 
-// The lowest site from 1 to n with a number of at most 1, 0 if there is none.
-fn lowest(n: usize, numbers: &[usize; 257]) -> usize
-    requires { ⌜ n ≤ 256 ⌝ }
-    ensures { λ r. ⌜ Lowest n (now (numbers .entry)) r ⌝ }
+// The lowest site from `from` to n with a number of at most 1, 0 if there is none.
+fn lowest_from(from: usize, n: usize, numbers: &[usize; 257]) -> usize
+    requires { ⌜ (1 ≤ from) × (from ≤ n) × (n ≤ 256) ⌝ }
+    ensures { λ r. ⌜ Lowest from n (now (numbers .entry)) r ⌝ }
 {
-    for x in 1..n + 1 {
+    for x in from..n + 1 {
         if numbers[x] < 2 {
             return x;
         }
     }
     0
+}
+
+// The lowest site with a number of at most 1, 0 if there is none: the one that is known behind `from`, else one from there on.
+fn lowest(back: usize, from: usize, n: usize, numbers: &[usize; 257]) -> usize
+    requires { ⌜ (n ≤ 256) × Behind n (now numbers) back from ⌝ }
+    ensures { λ r. ⌜ Lowest 1 n (now (numbers .entry)) r ⌝ }
+{
+    if back != 0 {
+        return back;
+    }
+    lowest_from(from, n, numbers)
+}
+
+// The greater of two numbers.
+fn greater(a: usize, b: usize) -> usize
+    ensures { λ r. ⌜ r ≡ max a b ⌝ }
+{
+    if a < b { b } else { a }
+}
+
+// Site w if it stands behind `from` and has a number of at most 1, else 0.
+fn behind(w: usize, number: usize, from: usize) -> usize
+    requires { ⌜ 1 ≤ w ⌝ }
+    ensures { λ r. ⌜ Back w number from r ⌝ }
+{
+    if from <= w {
+        return 0;
+    }
+    if number < 2 { w } else { 0 }
 }
 
 // Sites in the order taken, and whether all could be taken.
@@ -130,17 +159,22 @@ fn order_of(n: usize, one: &[usize], two: &[usize]) -> Order
     let mut numbers = unvisited.numbers;
     let mut positions = unvisited.positions;
     let mut sites = [0usize; 256];
+    let mut from = 1;
+    let mut back = 0;
     for i in 0..n {
-        let v = lowest(n, &numbers);
+        let v = lowest(back, from, n, &numbers);
         if v == 0 {
             return Order { sites, all: false };
         }
         sites[i] = v;
+        from = greater(from, v);
+        back = 0;
         if numbers[v] == 1 {
             let j = positions[v];
             let w = one[j] + two[j] - v;
             numbers[w] -= 1;
             positions[w] -= j;
+            back = behind(w, numbers[w], from);
         }
         numbers[v] = 2;
     }

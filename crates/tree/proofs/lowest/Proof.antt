@@ -1,51 +1,29 @@
--- `tree::lowest` meets its contract: the sites passed have higher numbers.
-use mathlib.Core.Path.{refl}
+-- `tree::lowest` meets its contract: all sites below have higher numbers, but for the one that is known.
 use native.Mathlib.Omega.{arith}
-use Prim.Native.Nat.{ℕ, _+_, _-_, _≤_, _<_}
-use borrow.Author.Count.{below-more}
-use Rattle.network.specs.Numbers.{look}
+use native.Mathlib.Decide.{decLt}
+use Rattle.theory.specs.Sums.{cases}
 use Rattle.tree.proofs.lowest.Statement.{statement}
 use Rattle.tree.proofs.lowest.Tie as tie
 
-abbrev Inv-loop : tie.InvT-loop
-Inv-loop n numbers x₀ x-end x = (1 ≤ x) × (x ≤ n + 1) × ((y : ℕ) → y < x → 1 ≤ y → 2 ≤ look numbers y)
-
-abbrev μ-loop : tie.MeasureT-loop
-μ-loop n numbers x₀ x-end x = n + 1 - x
-
-found : tie.Need-returns Inv-loop μ-loop
-found c =
-    let top = c .before .before .before in
+known : tie.Need-returns
+known c = let b = c .before .pre .1 in
+    let k = b .known (c .if1 .taken) in
     record {
-      none = λ e. absurd (omega arith);
-      some = λ d. (omega arith, omega arith);
-      below = λ d y p l. top .loop .inv .2 y l (p .0);
+      none = λ e. absurd (c .if1 .taken e);
+      some = λ d. (k .0, k .2);
+      below = λ d x p h l. b .others x p (omega arith) (λ e. omega arith);
     }
 
-next : tie.Need-loop-again Inv-loop μ-loop
-next c =
-    let top = c .before .before .before in
-    (omega arith, omega arith, below-more (λ y. 1 ≤ y → 2 ≤ look (top .before .args .numbers .now) y) (top .loop .x) (top .loop .inv .2) (λ h. c .if1 .left))
-
-none : tie.Need-returns-2 Inv-loop μ-loop
-none c = record {
-  none = λ e y p. c .before .loop .inv .2 y (omega arith) (p .0);
-  some = λ d. absurd (d refl);
-  below = λ d. absurd (d refl);
-}
+searched : tie.Need-returns-2
+searched c =
+    let b = c .before .before .pre .1 in
+    let f = c .lowest-from .ensures in
+    let from = c .before .before .args .from in
+    record {
+      none = λ e x p h. cases (decLt x from) (λ l. b .others x p l (λ z. omega arith)) (λ l. f .none e x p (omega arith));
+      some = f .some;
+      below = λ d x p h l. cases (decLt x from) (λ k. b .others x p k (λ z. omega arith)) (λ k. f .below d x p (omega arith) l);
+    }
 
 pub lowest-spec : {M : Type 1} → statement M
-lowest-spec =
-    tie.close
-    (tie.spec
-    Inv-loop
-    μ-loop
-    (λ c. omega arith)
-    (λ c. (omega arith, omega arith, λ y l h. omega arith))
-    (λ c. omega arith)
-    (λ c. omega arith)
-    found
-    (λ c. omega arith)
-    (λ c. omega arith)
-    next
-    none)
+lowest-spec = tie.close (tie.spec known (λ c κs. let b = c .before .pre .1 .site in (omega arith, omega arith, omega arith)) searched)

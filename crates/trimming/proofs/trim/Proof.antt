@@ -47,7 +47,7 @@ short c =
 limited : tie.Need-cut-both-ways-requires
 limited c κs =
     let t = tree (c .before .before .before .before .before .before) in
-    (t .few, rw (c .before .before .before .copy .ensures) (copied-limited t _ (c .before .before .before .before .before .if1 .left)))
+    (omega (arith, t .few), rw (c .before .before .before .copy .ensures) (copied-limited t _ (c .before .before .before .before .before .if1 .left)))
 
 balanced : tie.Need-returns-4
 unfolding answer decide trimmed after

@@ -1,0 +1,37 @@
+-- Document 01's worked report, star 5, 1, 1, read off its bytes: by computation.
+use mathlib.Core.Path.{_≡_, refl}
+use mathlib.Core.List.{List, [], _∷_}
+use Prim.Native.Nat.{ℕ}
+use Rattle.network.specs.Text.{bytes}
+use Rattle.line_kinds.specs.LineKinds.{push, fields, same, valueFrom}
+use Rattle.sheet.specs.Sheet.{Network, lookupFrom}
+use Rattle.demands.specs.Printed.{linesOf, records, headed, siteFound, siteNamed, readRecords, readReport}
+
+-- the sites `hub`, `a`, `b`, `c` and their names on the sheet
+abbrev sheet : List ℕ
+sheet = bytes "network\t1\nN\thub\nN\ta\nN\tb\nN\tc\nL\thub\ta\t5\nL\thub\tb\t1\nL\thub\tc\t1\n"
+
+abbrev net : Network
+net = record {
+  names = (12, 15) ∷ (18, 19) ∷ (22, 23) ∷ (26, 27) ∷ [];
+  links = (1, 2) ∷ (1, 3) ∷ (1, 4) ∷ [];
+  capacities = 5 ∷ 1 ∷ 1 ∷ [];
+}
+
+abbrev worked : List ℕ
+worked = bytes "plan\t4\t2\nL\thub\ta\t5\t2\nL\thub\tb\t1\t1\nL\thub\tc\t1\t1\nN\thub\ta\nN\ta\ta\nN\tb\tb\nN\tc\tc\nX\ta\t2\t2\nX\tb\t1\t1\nX\tc\t1\t1\nP\ta\tb\t2\nP\ta\tc\t2\n"
+
+what-it-says : readReport sheet net worked ≡ record {
+  heading = bytes "plan";
+  total = 4;
+  pairCount = 2;
+  links = (1, 2) ∷ (1, 3) ∷ (1, 4) ∷ [];
+  sizes = 5 ∷ 1 ∷ 1 ∷ [];
+  trimmed = 2 ∷ 1 ∷ 1 ∷ [];
+  sites = 1 ∷ 2 ∷ 3 ∷ 4 ∷ [];
+  owners = 2 ∷ 2 ∷ 3 ∷ 4 ∷ [];
+  sets = record { end = 2; size = 2; count = 2 } ∷ record { end = 3; size = 1; count = 1 } ∷ record { end = 4; size = 1; count = 1 } ∷ [];
+  plan = record { first = 2; second = 3; amount = 2 } ∷ record { first = 2; second = 4; amount = 2 } ∷ [];
+}
+unfolding readReport readRecords records linesOf headed siteNamed siteFound lookupFrom same push fields valueFrom
+what-it-says = refl

@@ -1,0 +1,13 @@
+pub mod Demands
+pub mod Printed
+pub mod Example
+pub mod Plans
+pub mod Lists
+pub mod Parsing
+pub mod Records
+pub mod Names
+pub mod ReadBack
+pub mod Sets
+pub mod Refusals
+pub mod Outcomes
+pub mod Length

@@ -1,0 +1,53 @@
+-- Laws of lists made by a function: of each element, of each place, of each site.
+use mathlib.Core.Path.{_≡_, refl, ap, _∙_}
+use mathlib.Core.List.{List, [], _∷_, map}
+use Prim.Native.Nat.{ℕ, zero, suc, _+_, _-_, _≤_, _<_}
+use native.Mathlib.Omega.{arith}
+use lib.ListN.{length, getD}
+use Rattle.network.specs.Numbers.{look, upfrom, Each}
+use Rattle.network.specs.Network.{Site, sites}
+
+module _ {A B : Type 0} where
+  pub map-map : {C : Type 0} (f : B → C) (g : A → B) (l : List A) → map f (map g l) ≡ map (λ a. f (g a)) l
+  map-map f g [] = refl
+  map-map f g (a ∷ l) = ap (λ y. f (g a) ∷ y) (map-map f g l)
+
+  pub map-same : (f g : A → B) (l : List A) → Each (λ a. f a ≡ g a) l → map f l ≡ map g l
+  map-same f g [] e = refl
+  map-same f g (a ∷ l) e = rw (e .0, map-same f g l (e .1))
+
+module _ {A : Type 0} where
+  pub map-own : (l : List A) → map (λ a. a) l ≡ l
+  map-own [] = refl
+  map-own (a ∷ l) = ap (λ y. a ∷ y) (map-own l)
+
+  places-from : (l : List A) (d : A) (f : ℕ → A) (b : ℕ) → ((i : ℕ) → i < length l → f (b + i) ≡ getD l i d) → map f (upfrom b (length l)) ≡ l
+  unfolding upfrom
+  places-from [] d f b h = refl
+  places-from (a ∷ l) d f b h =
+      let here : b ≡ b + 0 = omega arith in
+      let next : (i : ℕ) → suc b + i ≡ b + suc i = λ i. omega arith in
+      rw (ap f here ∙ h 0 (omega arith), places-from l d f (suc b) (λ i k. ap f (next i) ∙ h (suc i) (omega arith)))
+
+  -- a list is made of its elements, place by place
+  pub map-places : (l : List A) (d : A) (f : ℕ → A) → ((i : ℕ) → i < length l → f i ≡ getD l i d) → map f (upfrom 0 (length l)) ≡ l
+  map-places l d f h = places-from l d f 0 (λ i k. let same : 0 + i ≡ i = omega arith in ap f same ∙ h i k)
+
+-- what holds from b up holds of each
+pub each-from : (P : ℕ → Type 0) (b n : ℕ) → ((i : ℕ) → b ≤ i → i < b + n → P i) → Each P (upfrom b n)
+unfolding upfrom
+each-from P b zero h = tt
+each-from P b (suc n) h = (h b (omega arith) (omega arith), each-from P (suc b) n (λ i l k. h i (omega arith) (omega arith)))
+
+pub each-site : (P : ℕ → Type 0) (n : ℕ) → ((x : ℕ) → Site n x → P x) → Each P (sites n)
+each-site P n h = each-from P 1 n (λ i l k. h i (omega arith))
+
+-- the value for a site stands at its number less 1
+look-from : (f : ℕ → ℕ) (b n i : ℕ) → i < n → look (map f (upfrom b n)) i ≡ f (b + i)
+unfolding upfrom
+look-from f b zero i l = absurd (omega arith)
+look-from f b (suc n) zero l = ap f (omega arith)
+look-from f b (suc n) (suc i) l = look-from f (suc b) n i (omega arith) ∙ ap f (omega arith)
+
+pub look-site : (f : ℕ → ℕ) (n x : ℕ) → Site n x → look (map f (sites n)) (x - 1) ≡ f x
+look-site f n x p = look-from f 1 n (x - 1) (omega arith) ∙ ap f (omega arith)

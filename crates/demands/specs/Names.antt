@@ -1,0 +1,78 @@
+-- The names of an accepted sheet, read back: a name leads to its own site, `-` to none, and a name holds no tab and no byte 10.
+use mathlib.Core.Path.{_≡_, refl, sym}
+use mathlib.Core.Bool.{true, _&&_}
+use mathlib.Core.List.{List, [], _∷_}
+use Prim.Native.Nat.{ℕ, _-_, _≤_, _<_}
+use native.Mathlib.Omega.{arith}
+use native.Mathlib.Decide.{decLt}
+use borrow.Author.Tests.{lt-leb}
+use lib.Dec.{leb}
+use lib.ListN.{length, List·getD-eq-default}
+use Rattle.network.specs.Network.{Site}
+use Rattle.network.specs.Text.{bytes}
+use Rattle.network.specs.declared.Edition.{Edition}
+use Rattle.theory.specs.Sums.{cases}
+use Rattle.line_kinds.specs.LineKinds.{all, isLetterOrDigit, isName}
+use Rattle.line_kinds.specs.LineKindLaws.{both, name-length as length-of-a-name}
+use Rattle.sheet.specs.Sheet.{Network, lookup}
+use Rattle.sheet.specs.LookupLaws.{nameAt, Says, lookup-says}
+use Rattle.sheet.specs.SheetTheorem.{IsNetwork}
+use Rattle.sheet.specs.declared.Found.{Found}
+use Rattle.sheet.specs.declared.Found.the-variants.{At, Absent}
+use Rattle.demands.specs.Printed.{siteFound, siteNamed}
+use Rattle.demands.specs.Parsing.{Plain}
+
+-- ---- bytes of a name
+
+letter-is-plain : (b : ℕ) → isLetterOrDigit b ≡ true → 45 ≤ b
+letter-is-plain b e = cases (decLt b 45)
+    (λ l. absurd (let z : _≡_ {A = ℕ} 0 1 = cc (lt-leb 65 b (omega arith), lt-leb 97 b (omega arith), lt-leb 48 b (omega arith)) in omega arith))
+    (λ l. omega arith)
+
+letters-are-plain : (f : List ℕ) → all isLetterOrDigit f ≡ true → Plain f
+unfolding all
+letters-are-plain [] e = tt
+letters-are-plain (b ∷ f) e = let h = both (isLetterOrDigit b) (all isLetterOrDigit f) e in (letter-is-plain b (h .0), letters-are-plain f (h .1))
+
+a-name-is-plain : (f : List ℕ) → isName f ≡ true → Plain f
+unfolding isName
+a-name-is-plain f e = letters-are-plain f (both (leb 1 (length f) && leb (length f) 12) (all isLetterOrDigit f) e .1)
+
+-- ---- names of sites
+
+module _ {ed : Edition} {s : List ℕ} {net : Network} (N : IsNetwork ed s net) where
+  -- no two sites have one name
+  one-site : (i j : ℕ) → i < length (net .names) → j < length (net .names) → nameAt s (net .names) i ≡ nameAt s (net .names) j → i ≡ j
+  one-site i j l k e = cases (decLt i j)
+      (λ h. absurd (N .different j k i h e))
+      (λ h. cases (decLt j i) (λ g. absurd (N .different i l j g (sym e))) (λ g. omega arith))
+
+  -- the name of a site leads to the site
+  pub name-read-back : (v : ℕ) → Site (length (net .names)) v → siteNamed s net (nameAt s (net .names) (v - 1)) ≡ v
+  unfolding siteNamed siteFound
+  name-read-back v p = by (lookup s (net .names) (nameAt s (net .names) (v - 1))) (lookup-says s (nameAt s (net .names) (v - 1)) (net .names) 1)
+    where
+      by : (w : Found) → Says s (net .names) 1 (nameAt s (net .names) (v - 1)) w → siteFound w ≡ v
+      by (At u) h = omega (arith, one-site (h .0) (v - 1) (h .2) (omega arith) (h .3))
+      by Absent h = absurd (h (v - 1) (omega arith) refl)
+
+  -- `-` leads to none
+  pub dash-read-back : siteNamed s net (bytes "-") ≡ 0
+  unfolding siteNamed siteFound isName all
+  dash-read-back = by (lookup s (net .names) (bytes "-")) (lookup-says s (bytes "-") (net .names) 1)
+    where
+      by : (w : Found) → Says s (net .names) 1 (bytes "-") w → siteFound w ≡ 0
+      by (At u) h = absurd (let z : _≡_ {A = ℕ} 0 1 = cc (N .names (h .0) (h .2) .name, h .3) in omega arith)
+      by Absent h = refl
+
+  -- what is written for a number is the name of a site, or nothing
+  name-or-nothing : (P : List ℕ → Type 0) → ((f : List ℕ) → isName f ≡ true → P f) → P [] → (v : ℕ) → P (nameAt s (net .names) (v - 1))
+  name-or-nothing P h e v = cases (decLt (v - 1) (length (net .names)))
+      (λ l. h (nameAt s (net .names) (v - 1)) (N .names (v - 1) l .name))
+      (λ l. rw (List·getD-eq-default (net .names) (0, 0) {n = v - 1} (omega arith)) e)
+
+  pub site-name-is-plain : (v : ℕ) → Plain (nameAt s (net .names) (v - 1))
+  site-name-is-plain = name-or-nothing Plain a-name-is-plain tt
+
+  pub site-name-is-short : (v : ℕ) → length (nameAt s (net .names) (v - 1)) ≤ 12
+  site-name-is-short = name-or-nothing (λ f. length f ≤ 12) (λ f e. length-of-a-name f e .1) (omega arith)

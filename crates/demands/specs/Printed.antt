@@ -1,0 +1,137 @@
+-- What the demands speak of: plans; and what a report says, read off its bytes alone: lines, fields and numbers, and from them the printed
+-- total, sizes, end sets and plan. Document 01, "Plans, trimmed sizes, end sets" and "The report, given whole".
+use mathlib.Core.Path.{_≡_}
+use mathlib.Core.Logic.{_≢_}
+use mathlib.Core.Bool.{cond}
+use mathlib.Core.List.{List, [], _∷_, map}
+use Prim.Native.Nat.{ℕ, _+_, _-_, _*_}
+use lib.Dec.{eqb}
+use lib.ListN.{length, getD, take}
+use Rattle.network.specs.Numbers.{pick, is, differ, sum, look, Each}
+use Rattle.network.specs.Network.{Links, Site, one, two, leaf}
+use Rattle.network.specs.Text.{bytes}
+use Rattle.network.specs.declared.Pair.{Pair}
+use Rattle.line_kinds.specs.LineKinds.{push, fields, field, same, value}
+use Rattle.sheet.specs.Sheet.{Network, lookup}
+use Rattle.sheet.specs.declared.Found.{Found}
+use Rattle.sheet.specs.declared.Found.the-variants.{At, Absent}
+use Rattle.planner.specs.Outcome.{Planned, lengthOf}
+
+-- ---- plans
+
+-- an entry joins two different ends (01: each pair of different ends)
+pub record JoinsEnds (ls : Links) (n : ℕ) (e : Pair) : Type 0 where
+  pub first-site : Site n (e .first)
+  pub second-site : Site n (e .second)
+  pub first-end : leaf ls (e .first) ≡ 1
+  pub second-end : leaf ls (e .second) ≡ 1
+  pub different : e .first ≢ e .second
+
+-- a plan of the tree with links ls and n sites: amounts for pairs of different ends; in which parts of a circuit is said beside it (01: plan)
+abbrev pub IsPlan : Links → ℕ → List Pair → Type 0
+IsPlan ls n fs = Each (JoinsEnds ls n) fs
+
+-- ---- lines and fields
+
+-- the lines of a text, each without its byte 10
+unfoldable pub linesOf : List ℕ → List (List ℕ)
+linesOf [] = []
+linesOf (b ∷ bs) = cond (eqb b 10) ([] ∷ linesOf bs) (push b (linesOf bs))
+
+-- a line as its fields
+abbrev pub Record : Type 0
+Record = List (List ℕ)
+
+-- the lines of a text, each as its fields, parted by one tab
+unfoldable pub records : List ℕ → List Record
+records r = map fields (linesOf r)
+
+-- the lines whose first field is k
+unfoldable pub headed : List ℕ → List Record → List Record
+headed k [] = []
+headed k (l ∷ ls) = cond (same (field l 0) k) (l ∷ headed k ls) (headed k ls)
+
+-- the last field of a line
+abbrev pub lastField : Record → List ℕ
+lastField l = field l (length l - 1)
+
+-- ---- sites
+
+-- the ends among some sites, in their order (01: end)
+unfoldable pub endsAmong : Links → List ℕ → List ℕ
+endsAmong ls [] = []
+endsAmong ls (v ∷ vs) = pick (leaf ls v) 1 (v ∷ endsAmong ls vs) (endsAmong ls vs)
+
+-- the number of a site that is found, 0 where none is
+unfoldable pub siteFound : Found → ℕ
+siteFound (At k) = k
+siteFound Absent = 0
+
+-- the site that the sheet s, read as net, gives the name f; 0 where it gives none, as for `-`
+unfoldable pub siteNamed : List ℕ → Network → List ℕ → ℕ
+siteNamed s net f = siteFound (lookup s (net .names) f)
+
+-- ---- the report
+
+-- an `X` line: an end, the size of its set, the count of sites in the set
+pub record EndSet : Type 0 where
+  pub end : ℕ
+  pub size : ℕ
+  pub count : ℕ
+
+-- what a report says: line 1 (heading, total in halves, number of pairs); of the `L` lines the two sites, the given size and the trimmed size;
+-- of the `N` lines the site and the end whose set holds it, 0 for `-`; the `X` lines; the `P` lines (two sites, amount in halves)
+pub record Printed : Type 0 where
+  pub heading : List ℕ
+  pub total : ℕ
+  pub pairCount : ℕ
+  pub links : Links
+  pub sizes : List ℕ
+  pub trimmed : List ℕ
+  pub sites : List ℕ
+  pub owners : List ℕ
+  pub sets : List EndSet
+  pub plan : List Pair
+
+-- a report read line by line, its names turned to sites by `site`
+unfoldable pub readRecords : (List ℕ → ℕ) → List Record → Printed
+readRecords site rs =
+    let first = getD rs 0 [] in
+    let linkLines = headed (bytes "L") rs in
+    let siteLines = headed (bytes "N") rs in
+    record {
+      heading = field first 0;
+      total = value (field first 1);
+      pairCount = value (field first 2);
+      links = map (λ l. (site (field l 1), site (field l 2))) linkLines;
+      sizes = map (λ l. value (field l 3)) linkLines;
+      trimmed = map (λ l. value (lastField l)) linkLines;
+      sites = map (λ l. site (field l 1)) siteLines;
+      owners = map (λ l. site (field l 2)) siteLines;
+      sets = map (λ l. record { end = site (field l 1); size = value (field l 2); count = value (field l 3) }) (headed (bytes "X") rs);
+      plan = map (λ l. record { first = site (field l 1); second = site (field l 2); amount = value (field l 3) }) (headed (bytes "P") rs);
+    }
+
+-- what the bytes r say, as a report on the sheet s, read as net
+unfoldable pub readReport : List ℕ → Network → List ℕ → Printed
+readReport s net r = readRecords (siteNamed s net) (records r)
+
+-- what is printed: the bytes in the buffer after planning, as many as the outcome tells
+unfoldable pub printedBy : List ℕ → Network → Planned → Printed
+printedBy s net p = readReport s net (take (lengthOf (p .outcome)) (p .buffer))
+
+-- ---- the printed end sets
+
+-- the end whose printed set holds site v, 0 for `-`
+abbrev pub printedOwner : Printed → ℕ → ℕ
+printedOwner p v = look (p .owners) (v - 1)
+
+-- the size of the printed set of end a: the printed given sizes of the links with just one of their sites in it (01: size of a set)
+unfoldable pub setSize : Printed → ℕ → ℕ
+setSize p a = sum (length (p .links))
+    (λ j. differ (is (printedOwner p (one (p .links) j)) a) (is (printedOwner p (two (p .links) j)) a) * look (p .sizes) j)
+
+-- the printed sizes of the end sets, summed
+unfoldable pub sizeSum : List EndSet → ℕ
+sizeSum [] = 0
+sizeSum (x ∷ xs) = x .size + sizeSum xs

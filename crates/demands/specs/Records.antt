@@ -1,0 +1,149 @@
+-- The lines of a report, read back: the first, and those with each letter, are the fields that the report was written from.
+-- By the line that each place of the plan gives, and by the letter in front of it.
+use mathlib.Core.Path.{_≡_, refl, ap, _∙_}
+use mathlib.Core.Bool.{Bool, true, false, cond}
+use mathlib.Core.List.{List, [], _∷_, _++_, map, flatMap, append-assoc, append-nil}
+use Prim.Native.Nat.{ℕ, _-_}
+use native.Mathlib.Omega.{arith}
+use lib.ListN.{length, getD}
+use Rattle.network.specs.Numbers.{pick, look, upfrom}
+use Rattle.network.specs.Network.{sites, total}
+use Rattle.network.specs.Text.{bytes}
+use Rattle.network.specs.declared.Pair.{Pair}
+use Rattle.theory.specs.Sums.{same?, pick-same, pick-other, pick-cases}
+use Rattle.line_kinds.specs.LineKinds.{same}
+use Rattle.report.specs.Report.{decimal, lines, Plan, planRecord, linkRecord, linkLine, ownerName, siteLine, cutRecord, cutLine, pairLine, reportOf}
+use Rattle.demands.specs.Printed.{Record, linesOf, records, headed}
+use Rattle.demands.specs.Parsing.{Plain, line-read-back, decimal-plain, lines-read-back, headed-append, headed-parts}
+
+-- ---- the fields that go into each line
+
+module _ (p : Plan) where
+  abbrev pub planFields : Record
+  planFields = bytes "plan" ∷ decimal (total (p .pairs)) ∷ decimal (length (p .pairs)) ∷ []
+
+  abbrev pub linkFields : ℕ → Record
+  linkFields j = bytes "L" ∷ p .names (look (p .ones) j) ∷ p .names (look (p .twos) j) ∷ decimal (look (p .capacities) j) ∷ decimal (look (p .trimmed) j) ∷ []
+
+  abbrev pub siteFields : ℕ → Record
+  siteFields x = bytes "N" ∷ p .names x ∷ ownerName (p .names) (look (p .owners) (x - 1)) ∷ []
+
+  abbrev pub cutFields : ℕ → Record
+  cutFields a = bytes "X" ∷ p .names a ∷ decimal (look (p .cutSizes) (a - 1)) ∷ decimal (look (p .cutCounts) (a - 1)) ∷ []
+
+  abbrev pub pairFields : Pair → Record
+  pairFields e = bytes "P" ∷ p .names (e .first) ∷ p .names (e .second) ∷ decimal (e .amount) ∷ []
+
+  -- the `X` line of an end, none of another site
+  abbrev pub cutLines : ℕ → List Record
+  cutLines a = pick (look (p .degrees) (a - 1)) 1 (cutFields a ∷ []) []
+
+  -- the lines of each letter, in order
+  abbrev linkRows : List Record
+  linkRows = flatMap (λ j. linkFields j ∷ []) (upfrom 0 (length (p .ones)))
+
+  abbrev siteRows : List Record
+  siteRows = flatMap (λ x. siteFields x ∷ []) (sites (p .size))
+
+  abbrev pub cutRows : List Record
+  cutRows = flatMap cutLines (sites (p .size))
+
+  abbrev pairRows : List Record
+  pairRows = flatMap (λ e. pairFields e ∷ []) (p .pairs)
+
+singles : {A : Type 0} (g : A → Record) (l : List A) → flatMap (λ a. g a ∷ []) l ≡ map g l
+unfolding flatMap
+singles g [] = refl
+singles g (a ∷ l) = ap (λ y. g a ∷ y) (singles g l)
+
+nothing-kept : (t : Bool) → [] ≡ cond {A = List Record} t [] []
+nothing-kept true = refl
+nothing-kept false = refl
+
+-- ---- the lines
+
+module _ (p : Plan) (plain : (v : ℕ) → Plain (p .names v)) where
+  owner-plain : (a : ℕ) → Plain (ownerName (p .names) a)
+  unfolding ownerName
+  owner-plain a = pick-cases Plain a 0 (bytes "-") (p .names a) (λ e. omega arith) (λ d. plain a)
+
+  plan-back : (x : List ℕ) → records (planRecord (total (p .pairs)) (length (p .pairs)) ++ x) ≡ planFields p ∷ records x
+  unfolding planRecord
+  plan-back x = line-read-back _ _ (omega arith, (decimal-plain _, (decimal-plain _, tt))) x
+
+  link-back : (j : ℕ) (x : List ℕ) → records (linkLine (p .names) (p .ones) (p .twos) (p .capacities) (p .trimmed) j ++ x) ≡ linkFields p j ∷ records x
+  unfolding linkLine linkRecord
+  link-back j x = line-read-back _ _ (omega arith, (plain _, (plain _, (decimal-plain _, (decimal-plain _, tt))))) x
+
+  site-back : (v : ℕ) (x : List ℕ) → records (siteLine (p .names) (p .owners) v ++ x) ≡ siteFields p v ∷ records x
+  unfolding siteLine
+  site-back v x = line-read-back _ _ (omega arith, (plain _, (owner-plain _, tt))) x
+
+  cut-back : (a : ℕ) (x : List ℕ) → records (cutLine (p .names) (p .degrees) (p .cutSizes) (p .cutCounts) a ++ x) ≡ cutLines p a ++ records x
+  unfolding cutLine cutRecord
+  cut-back a x = same? (look (p .degrees) (a - 1)) 1
+      (λ e. rw (pick-same {A = List ℕ} e, pick-same {A = List Record} e) (line-read-back _ _ (omega arith, (plain _, (decimal-plain _, (decimal-plain _, tt)))) x))
+      (λ d. rw (pick-other {A = List ℕ} d, pick-other {A = List Record} d))
+
+  pair-back : (e : Pair) (x : List ℕ) → records (pairLine (p .names) e ++ x) ≡ pairFields p e ∷ records x
+  unfolding pairLine
+  pair-back e x = line-read-back _ _ (omega arith, (plain _, (plain _, (decimal-plain _, tt)))) x
+
+  -- all lines of the report, in order
+  report-back : records (reportOf p) ≡ planFields p ∷ (linkRows p ++ (siteRows p ++ (cutRows p ++ pairRows p)))
+  unfolding reportOf records linesOf
+  report-back =
+      let heading = planRecord (total (p .pairs)) (length (p .pairs)) in
+      let ls = lines (linkLine (p .names) (p .ones) (p .twos) (p .capacities) (p .trimmed)) (upfrom 0 (length (p .ones))) in
+      let ns = lines (siteLine (p .names) (p .owners)) (sites (p .size)) in
+      let xs = lines (cutLine (p .names) (p .degrees) (p .cutSizes) (p .cutCounts)) (sites (p .size)) in
+      let ps = lines (pairLine (p .names)) (p .pairs) in
+      let regroup : heading ++ ls ++ ns ++ xs ++ ps ≡ heading ++ (ls ++ (ns ++ (xs ++ (ps ++ [])))) = rw (append-nil ps) (simp append-assoc) in
+      ap records regroup
+      ∙ plan-back (ls ++ (ns ++ (xs ++ (ps ++ []))))
+      ∙ ap (λ y. planFields p ∷ y) (lines-read-back _ (λ j. linkFields p j ∷ []) link-back (upfrom 0 (length (p .ones))) (ns ++ (xs ++ (ps ++ [])))
+      ∙ ap (λ y. linkRows p ++ y) (lines-read-back _ (λ x. siteFields p x ∷ []) site-back (sites (p .size)) (xs ++ (ps ++ []))
+      ∙ ap (λ y. siteRows p ++ y) (lines-read-back _ (cutLines p) cut-back (sites (p .size)) (ps ++ [])
+      ∙ ap (λ y. cutRows p ++ y) (lines-read-back _ (λ e. pairFields p e ∷ []) pair-back (p .pairs) [] ∙ append-nil (pairRows p)))))
+
+  pub first-line : getD (records (reportOf p)) 0 [] ≡ planFields p
+  first-line = ap (λ y. getD y 0 []) report-back
+
+  cut-line : (k : List ℕ) (a : ℕ) → headed k (cutLines p a) ≡ cond (same (bytes "X") k) (cutLines p a) []
+  unfolding headed
+  cut-line k a = pick-cases (λ r. headed k r ≡ cond (same (bytes "X") k) r []) (look (p .degrees) (a - 1)) 1 (cutFields p a ∷ []) []
+      (λ e. refl) (λ d. nothing-kept (same (bytes "X") k))
+
+  -- the lines headed k: those of the letter k
+  headed-report : (k : List ℕ) → headed k (records (reportOf p))
+      ≡ cond (same (bytes "plan") k) (planFields p ∷ []) [] ++ (cond (same (bytes "L") k) (linkRows p) [] ++ (cond (same (bytes "N") k) (siteRows p) []
+      ++ (cond (same (bytes "X") k) (cutRows p) [] ++ cond (same (bytes "P") k) (pairRows p) [])))
+  unfolding headed
+  headed-report k =
+      ap (headed k) report-back
+      ∙ headed-append k (planFields p ∷ []) (linkRows p ++ (siteRows p ++ (cutRows p ++ pairRows p)))
+      ∙ rw (
+        headed-append k (linkRows p),
+        headed-append k (siteRows p),
+        headed-append k (cutRows p),
+        headed-parts k (λ j. linkFields p j ∷ []) (same (bytes "L") k) (λ j. refl) (upfrom 0 (length (p .ones))),
+        headed-parts k (λ x. siteFields p x ∷ []) (same (bytes "N") k) (λ x. refl) (sites (p .size)),
+        headed-parts k (cutLines p) (same (bytes "X") k) (cut-line k) (sites (p .size)),
+        headed-parts k (λ e. pairFields p e ∷ []) (same (bytes "P") k) (λ e. refl) (p .pairs),
+      )
+
+  pub link-lines : headed (bytes "L") (records (reportOf p)) ≡ map (linkFields p) (upfrom 0 (length (p .ones)))
+  unfolding same
+  link-lines = headed-report (bytes "L") ∙ append-nil (linkRows p) ∙ singles (linkFields p) (upfrom 0 (length (p .ones)))
+
+  pub site-lines : headed (bytes "N") (records (reportOf p)) ≡ map (siteFields p) (sites (p .size))
+  unfolding same
+  site-lines = headed-report (bytes "N") ∙ append-nil (siteRows p) ∙ singles (siteFields p) (sites (p .size))
+
+  pub cut-lines : headed (bytes "X") (records (reportOf p)) ≡ cutRows p
+  unfolding same
+  cut-lines = headed-report (bytes "X") ∙ append-nil (cutRows p)
+
+  pub pair-lines : headed (bytes "P") (records (reportOf p)) ≡ map (pairFields p) (p .pairs)
+  unfolding same
+  pair-lines = headed-report (bytes "P") ∙ singles (pairFields p) (p .pairs)

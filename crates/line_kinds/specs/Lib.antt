@@ -1,0 +1,5 @@
+pub mod LineKinds
+pub mod LineParts
+pub mod LineKindLaws
+pub mod FormedLines
+pub mod FaultyLines

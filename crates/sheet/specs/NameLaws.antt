@@ -1,0 +1,58 @@
+-- The name of a site by its number, as the lists of the answer give it: zeros stand for no site, and make an empty part.
+use mathlib.Core.List.{List, [], _∷_, _++_, map}
+use mathlib.Core.Path.{_≡_, refl, sym, ap, _∙_}
+use Prim.Native.Nat.{ℕ, zero, suc, _-_, _≤_, _<_}
+use native.Mathlib.Omega.{arith}
+use lib.ListN.{length, getD, replicate, List·getD-eq-default, List·getD-map}
+use lib.Seq.{take-nil}
+use Rattle.network.specs.Numbers.{look}
+use Rattle.network.specs.declared.Edition.{Edition}
+use Rattle.sheet.specs.Sheet.{Network, Read, refused, accepted, part, readSheet, nameIn, nameOf}
+use Rattle.sheet.specs.Reading.{padded, lists, reading}
+use Rattle.sheet.specs.SheetTheorem.{an-accepted-sheet-is-a-tree}
+
+look-zeros : (m i : ℕ) → look (replicate m 0) i ≡ 0
+look-zeros zero i = refl
+look-zeros (suc m) zero = refl
+look-zeros (suc m) (suc i) = look-zeros m i
+
+-- zeros behind a list change nothing that is looked up
+pub look-padded : (n : ℕ) (l : List ℕ) (i : ℕ) → look (padded n l) i ≡ look l i
+unfolding padded
+look-padded n l i = behind l (n - length l) i
+  where
+    behind : (l : List ℕ) (m i : ℕ) → look (l ++ replicate m 0) i ≡ look l i
+    behind [] m i = look-zeros m i
+    behind (a ∷ l) m zero = refl
+    behind (a ∷ l) m (suc i) = behind l m i
+
+-- number 0 is no site
+pub no-site-zero : (ed : Edition) (s : List ℕ) → nameOf ed s 0 ≡ []
+unfolding nameOf nameIn
+no-site-zero ed s = by (readSheet ed s)
+  where
+    by : (r : Read) → nameIn s 0 r ≡ []
+    by (refused n k) = refl
+    by (accepted net) = refl
+
+-- nor is a number above the limit
+pub no-site-above : (ed : Edition) (s : List ℕ) (k : ℕ) → ed .sites < k → nameOf ed s k ≡ []
+unfolding nameOf nameIn
+no-site-above ed s zero h = no-site-zero ed s
+no-site-above ed s (suc k) h = by (readSheet ed s) refl
+  where
+    by : (r : Read) → readSheet ed s ≡ r → nameIn s (suc k) r ≡ []
+    by (refused n l) e = refl
+    by (accepted net) e = ap (part s) (List·getD-eq-default (net .names) (0, 0) (omega (arith, an-accepted-sheet-is-a-tree ed s net e .few)))
+
+-- the lists of the answer give the range of a site's name
+pub name-by-lists : (s : List ℕ) (r : Read) (i : ℕ) → part s (look (reading r .network .start) i, look (reading r .network .end) i) ≡ nameIn s (suc i) r
+unfolding reading lists nameIn
+name-by-lists s (refused n k) i = rw (look-padded 256 [] i)
+name-by-lists s (accepted net) i =
+    rw (
+      look-padded 256 (map (λ r. r .0) (net .names)) i,
+      look-padded 256 (map (λ r. r .1) (net .names)) i,
+      List·getD-map (λ r. r .0) (net .names) i (0, 0),
+      List·getD-map (λ r. r .1) (net .names) i (0, 0),
+    )

@@ -1,0 +1,211 @@
+-- What holds of the network after every line that is read without fault. By cases on the line: a site line adds a new name, a link line
+-- joins two sites that were not joined.
+use mathlib.Core.Bool.{Bool, true, false, cond}
+use mathlib.Core.List.{List, [], _∷_, _++_, reverse, reverseAux-append}
+use mathlib.Core.Logic.{_≢_}
+use mathlib.Core.Path.{_≡_, refl, sym, ap, _∙_}
+use Prim.Native.Nat.{ℕ, zero, suc, _+_, _-_, _≤_, _<_}
+use native.Mathlib.Omega.{arith}
+use lib.Dec.{eqb, leb, ltb}
+use lib.ListN.{length, getD, take, drop, length-append, length-drop, length-reverse, List·getD-append}
+use lib.Seq.{drop-drop, drop-append-le, take-append-le, getD-append-seam}
+use borrow.Author.Tests.{eqb-false, leb-false}
+use Rattle.network.specs.Numbers.{is, look}
+use Rattle.network.specs.Network.{Links, Site, Ends, label, joined}
+use Rattle.network.specs.declared.Edition.{Edition}
+use Rattle.theory.specs.Sums.{is-same, same?, sum-ge}
+use Rattle.theory.specs.Labels.{Fresh, reps, reps-eq, label-label, label-site}
+use Rattle.theory.specs.Fresh.{joined-reversed}
+use Rattle.lines.specs.Lines.{lineLength, lineAt, afterLine, hasLine}
+use Rattle.lines.specs.LineLaws.{line-and-what-follows, line-stays-on-sheet}
+use Rattle.line_kinds.specs.LineKinds.{isName, kind}
+use Rattle.line_kinds.specs.FormedLines.{Formed, kinds-are-formed}
+use Rattle.line_kinds.specs.declared.Line.{Line}
+use Rattle.line_kinds.specs.declared.Line.the-variants as line
+use Rattle.sheet.specs.Sheet.{Network, empty, Read, refused, accepted, part, lookup, newName, addSite, newLink, addLink, readHeading, readRecord, readLine, andThen, readLines}
+use Rattle.sheet.specs.LookupLaws.{nameAt, Says, lookup-says}
+use Rattle.sheet.specs.declared.Found.{Found}
+use Rattle.sheet.specs.declared.Found.the-variants.{At, Absent}
+
+-- a range of the sheet that holds a name
+pub record IsNameRange (s : List ℕ) (r : ℕ × ℕ) : Type 0 where
+  pub start : r .0 ≤ r .1
+  pub end : r .1 ≤ length s
+  pub name : isName (part s r) ≡ true
+
+-- the network read so far: sites within the limit and with different names, capacities within the limit, and links between sites that
+-- those above did not join
+pub record Sound (ed : Edition) (s : List ℕ) (net : Network) : Type 0 where
+  pub few : length (net .names) ≤ ed .sites
+  pub names : (i : ℕ) → i < length (net .names) → IsNameRange s (getD (net .names) i (0, 0))
+  pub different : (j : ℕ) → j < length (net .names) → (i : ℕ) → i < j → nameAt s (net .names) i ≢ nameAt s (net .names) j
+  pub ends : Ends (reverse (net .links)) (length (net .names))
+  pub fresh : Fresh (reverse (net .links))
+  pub capacities : length (net .capacities) ≡ length (net .links)
+  pub sizes : (j : ℕ) → j < length (net .capacities) → look (net .capacities) j ≤ ed .size
+
+-- what holds of the network where reading goes on
+abbrev pub Accepts : (Network → Type 0) → Read → Type 0
+Accepts P (refused n k) = Unit {0}
+Accepts P (accepted net) = P net
+
+-- ---- a list with one more
+
+module _ {A : Type 0} (P : ℕ → A → Type 0) (l : List A) (a d : A) where
+  -- what holds of each element, and of the one more, holds of each element with it
+  one-more : ((i : ℕ) → i < length l → P i (getD l i d)) → P (length l) a → (i : ℕ) → i < length (l ++ (a ∷ [])) → P i (getD (l ++ (a ∷ [])) i d)
+  one-more h k i b = same? i (length l)
+      (λ e. rw (e, getD-append-seam l a [] d) k)
+      (λ e. rw (List·getD-append l (a ∷ []) d i (omega (arith, length-append l (a ∷ [])))) (h i (omega (arith, length-append l (a ∷ [])))))
+
+-- ---- a part of a line is a part of the sheet
+
+part-of-line : (s : List ℕ) (at a e : ℕ) → a ≤ e → e ≤ length (lineAt s at) → part s (at + a, at + e) ≡ take (e - a) (drop a (lineAt s at))
+part-of-line s at a e p q =
+    let l = lineAt s at in
+    let rest = drop (at + length l) s in
+    let from : drop (at + a) s ≡ drop a l ++ rest
+    = sym (drop-drop a at s) ∙ ap (drop a) (line-and-what-follows s at) ∙ drop-append-le a l rest (omega arith) in
+    let many : at + e - (at + a) ≡ e - a = omega arith in
+    rw (from, many) (take-append-le (e - a) (drop a l) rest (omega (arith, length-drop a l)))
+
+line-name : (s : List ℕ) (at a e : ℕ) → at ≤ length s → a ≤ e → e ≤ length (lineAt s at) → isName (take (e - a) (drop a (lineAt s at))) ≡ true
+    → IsNameRange s (at + a, at + e)
+line-name s at a e b p q h = record {
+  start = omega arith;
+  end = omega (arith, line-stays-on-sheet s at b);
+  name = rw (part-of-line s at a e p q) h;
+}
+
+-- ---- a line
+
+module _ (ed : Edition) (s : List ℕ) (net : Network) (k : ℕ) (sound : Sound ed s net) where
+  -- the line is a site of a new name
+  new-site : (r : ℕ × ℕ) → IsNameRange s r → length (net .names) < ed .sites → Says s (net .names) 1 (part s r) Absent
+      → Sound ed s (record { names = net .names ++ (r ∷ []); links = net .links; capacities = net .capacities })
+  new-site r named few new = record {
+    few = omega (arith, length-append (net .names) (r ∷ []));
+    names = one-more (λ i q. IsNameRange s q) (net .names) r (0, 0) (sound .names) named;
+    different = one-more (λ j q. (i : ℕ) → i < j → nameAt s (net .names ++ (r ∷ [])) i ≢ part s q) (net .names) r (0, 0)
+        (λ j l i b. rw (List·getD-append (net .names) (r ∷ []) (0, 0) i (omega arith)) (sound .different j l i b))
+        (λ i b. rw (List·getD-append (net .names) (r ∷ []) (0, 0) i b) (new i b));
+    ends = λ j l. omega (arith, sound .ends j l, length-append (net .names) (r ∷ []));
+    fresh = sound .fresh;
+    capacities = sound .capacities;
+    sizes = sound .sizes;
+  }
+
+  ends-more : {a b : ℕ} → Site (length (net .names)) a → Site (length (net .names)) b → (ls : Links) → Ends ls (length (net .names)) → Ends ((a, b) ∷ ls) (length (net .names))
+  ends-more p q ls h zero l = (p, q)
+  ends-more p q ls h (suc j) l = h j (omega arith)
+
+  -- the line is a link between sites that were not joined
+  new-link : (a b size : ℕ) → Site (length (net .names)) a → Site (length (net .names)) b → label (reverse (net .links)) a ≢ label (reverse (net .links)) b → size ≤ ed .size
+      → Sound ed s (record { names = net .names; links = net .links ++ ((a, b) ∷ []); capacities = net .capacities ++ (size ∷ []) })
+  new-link a b size p q d h = record {
+    few = sound .few;
+    names = sound .names;
+    different = sound .different;
+    ends = rw (reverseAux-append (net .links) ((a, b) ∷ []) []) (ends-more p q (reverse (net .links)) (sound .ends));
+    fresh = rw (reverseAux-append (net .links) ((a, b) ∷ []) []) (d, sound .fresh);
+    capacities = omega (arith, sound .capacities, length-append (net .links) ((a, b) ∷ []), length-append (net .capacities) (size ∷ []));
+    sizes = one-more (λ i c. c ≤ ed .size) (net .capacities) size 0 (sound .sizes) h;
+  }
+
+  site-line : (r : ℕ × ℕ) → IsNameRange s r → Accepts (Sound ed s) (addSite ed s net k r)
+  unfolding addSite newName
+  site-line r named = by (leb (ed .sites) (length (net .names))) refl (lookup s (net .names) (part s r)) (lookup-says s (part s r) (net .names) 1)
+    where
+      by : (t : Bool) → leb (ed .sites) (length (net .names)) ≡ t → (w : Found) → Says s (net .names) 1 (part s r) w → Accepts (Sound ed s) (cond t (refused 4 k) (newName net k r w))
+      by true e w h = tt
+      by false e (At v) h = tt
+      by false e Absent h = new-site r named (leb-false _ _ e) h
+
+  link-line : (r q : ℕ × ℕ) (size : ℕ) → size ≤ ed .size → Accepts (Sound ed s) (addLink s net k r q size)
+  unfolding addLink newLink joined
+  link-line r q size h =
+      by (lookup s (net .names) (part s r)) (lookup s (net .names) (part s q)) (lookup-says s (part s r) (net .names) 1) (lookup-says s (part s q) (net .names) 1)
+    where
+      either : (a b : ℕ) → Site (length (net .names)) a → Site (length (net .names)) b → (t : Bool) → eqb (joined (net .links) a b) 1 ≡ t
+          → Accepts (Sound ed s) (cond t (refused 7 k) (accepted (record { names = net .names; links = net .links ++ ((a, b) ∷ []); capacities = net .capacities ++ (size ∷ []) })))
+      either a b p q true e = tt
+      either a b p q false e = new-link a b size p q (λ z. eqb-false _ _ e (is-same (joined-reversed (net .links) a b .0 z))) h
+
+      by : (u w : Found) → Says s (net .names) 1 (part s r) u → Says s (net .names) 1 (part s q) w → Accepts (Sound ed s) (newLink net k size u w)
+      by Absent w p j = tt
+      by (At a) Absent p j = tt
+      by (At a) (At b) p j = either a b (omega arith) (omega arith) (eqb (joined (net .links) a b) 1) refl
+
+  -- a line that is read without fault keeps what holds
+  pub a-line-keeps-sound : (at : ℕ) → at ≤ length s → Accepts (Sound ed s) (readLine ed s net k at)
+  unfolding readLine readHeading readRecord
+  a-line-keeps-sound at b =
+      by (ltb (at + lineLength (drop at s)) (length s)) (eqb k 1) (kind (ed .size) (lineAt s at)) (kinds-are-formed (ed .size) (lineAt s at))
+    where
+      heading : (w : Line) → Accepts (Sound ed s) (readHeading net w)
+      heading line.Heading = sound
+      heading (line.Site a e) = tt
+      heading (line.Link a e c f size) = tt
+      heading (line.Fault n) = tt
+
+      later : (w : Line) → Formed (ed .size) (lineAt s at) w → Accepts (Sound ed s) (readRecord ed s net k at w)
+      later line.Heading h = tt
+      later (line.Site a e) h = site-line (at + a, at + e) (line-name s at a e b (h .0) (h .1) (h .2))
+      later (line.Link a e c f size) h = link-line (at + a, at + e) (at + c, at + f) size (h .4)
+      later (line.Fault n) h = tt
+
+      by : (t u : Bool) (w : Line) → Formed (ed .size) (lineAt s at) w
+          → Accepts (Sound ed s) (cond t (cond u (readHeading net w) (readRecord ed s net k at w)) (refused 2 k))
+      by false u w h = tt
+      by true true w h = heading w
+      by true false w h = later w h
+
+-- ---- the lines
+
+pub none-is-sound : (ed : Edition) (s : List ℕ) → Sound ed s empty
+none-is-sound ed s = record {
+  few = omega arith;
+  names = λ i l. absurd (omega arith);
+  different = λ j l. absurd (omega arith);
+  ends = λ j l. absurd (omega arith);
+  fresh = tt;
+  capacities = refl;
+  sizes = λ j l. absurd (omega arith);
+}
+
+-- what holds where reading stops, from what holds where it goes on
+pub goes-on : (P Q : Network → Type 0) (r : Read) (f : Network → Read) → Accepts P r → ((net : Network) → P net → Accepts Q (f net)) → Accepts Q (andThen r f)
+unfolding andThen
+goes-on P Q (refused n k) f h g = tt
+goes-on P Q (accepted net) f h g = g net h
+
+module _ (ed : Edition) (s : List ℕ) where
+  pub after-within : (at : ℕ) → afterLine s at ≤ length s
+  unfolding afterLine
+  after-within at = omega arith
+
+  pub lines-keep-sound : (fuel k at : ℕ) (net : Network) → at ≤ length s → Sound ed s net → Accepts (Sound ed s) (readLines ed s fuel k at net)
+  unfolding readLines
+  lines-keep-sound zero k at net b h = h
+  lines-keep-sound (suc fuel) k at net b h = by (hasLine s at) (andThen (readLine ed s net k at) (λ next. readLines ed s fuel (suc k) (afterLine s at) next))
+      (goes-on (Sound ed s) (Sound ed s) (readLine ed s net k at) (λ next. readLines ed s fuel (suc k) (afterLine s at) next)
+      (a-line-keeps-sound ed s net k h at b)
+      (λ next. lines-keep-sound fuel (suc k) (afterLine s at) next (after-within at)))
+    where
+      by : (t : Bool) (r : Read) → Accepts (Sound ed s) r → Accepts (Sound ed s) (cond t r (accepted net))
+      by true r p = p
+      by false r p = h
+
+-- ---- fresh links are fewer than sites
+
+fresh-links-are-few : (ls : Links) (n : ℕ) → Ends ls n → Fresh ls → 1 ≤ n → length ls < n
+unfolding reps
+fresh-links-are-few ls n ends fresh h = own (label ls 1) (label-label ls 1) (label-site ls n ends 1 (omega arith, h))
+  where
+    own : (u : ℕ) → label ls u ≡ u → Site n u → length ls < n
+    own zero e b = omega arith
+    own (suc u) e b = omega (arith, reps-eq ls n ends fresh, is-same e, sum-ge n u (λ i. is (label ls (suc i)) (suc i)) (b .1))
+
+pub links-are-few : {ed : Edition} {s : List ℕ} {net : Network} → Sound ed s net → 1 ≤ length (net .names) → length (net .links) < length (net .names)
+links-are-few {net = net} sound h =
+    omega (arith, fresh-links-are-few (reverse (net .links)) (length (net .names)) (sound .ends) (sound .fresh) h, length-reverse (net .links))

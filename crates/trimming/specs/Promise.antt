@@ -1,0 +1,83 @@
+-- The promise of trimming, all that a user of its answer relies on: a whole number for each link of a tree, the greatest that leave no
+-- inner site with a heavy link. By the theory of balanced capacities, over the definitions that `trim` is equated with.
+use mathlib.Core.Path.{_≡_, refl, sym, ap, _∙_}
+use mathlib.Core.Bool.{Bool, true, false}
+use mathlib.Core.List.{List, _++_}
+use Prim.Native.Nat.{ℕ, _≤_, _<_}
+use native.Mathlib.Omega.{arith}
+use lib.Dec.{leb}
+use lib.Seq.{take-at, drop-at}
+use lib.ListN.{length, take, drop}
+use Rattle.network.specs.Numbers.{look}
+use Rattle.network.specs.Edition.{edition1}
+use Rattle.network.specs.Network.{Tree, leaf}
+use Rattle.network.specs.Trimming.{Greatest}
+use Rattle.theory.specs.Greatest.{balanced-is-greatest, balanced-has-each-link, balanced-again}
+use Rattle.tree.specs.Offer.{links, offer}
+use Rattle.tree.specs.Links.{length-links}
+use Rattle.tree.specs.Accepted.{TreeWithin, accepted-is-a-tree-within-the-limits, a-tree-within-the-limits-is-accepted}
+use Rattle.tree.specs.declared.Offer.{Offer}
+use Rattle.tree.specs.declared.Offer.the-variants as offered
+use Rattle.trimming.specs.declared.Trimming.the-variants.{Balanced}
+use Rattle.trimming.specs.Outcome.{decide, answer, capacities, after, trimmed}
+
+-- t are the balanced capacities of a tree with the capacities c
+pub record Promise (n : ℕ) (one two c t : List ℕ) : Type 0 where
+  pub tree : Tree (links one two) n
+  pub each : length t ≡ length one
+  pub greatest : Greatest (links one two) (leaf (links one two)) (look c) (look t)
+
+balanced-is-accepted : (o : Offer) (enough : Bool) → decide o enough ≡ Balanced → o ≡ offered.Accepted
+unfolding decide
+balanced-is-accepted offered.NoTree enough e = absurd (let z : _≡_ {A = ℕ} 0 1 = cc in omega arith)
+balanced-is-accepted offered.TooLarge enough e = absurd (let z : _≡_ {A = ℕ} 0 1 = cc in omega arith)
+balanced-is-accepted offered.Accepted enough e = refl
+
+module _ {n : ℕ} {one two c : List ℕ} (w : TreeWithin edition1 n one two c) where
+  capacities-keep-the-promise : Promise n one two c (capacities n one two c)
+  unfolding capacities
+  capacities-keep-the-promise = record {
+    tree = w .tree;
+    each = balanced-has-each-link (w .tree) (leaf (links one two)) c ∙ length-links one two (omega arith);
+    greatest = balanced-is-greatest (w .tree) (leaf (links one two)) c;
+  }
+
+  -- they are accepted as capacities, and balanced already
+  again-within : TreeWithin edition1 n one two (capacities n one two c)
+  again-within =
+      let p = capacities-keep-the-promise in
+      record {
+        tree = w .tree;
+        few = w .few;
+        firsts = w .firsts;
+        seconds = w .seconds;
+        capacities = omega (arith, p .each);
+        limited = λ j h. omega (arith, p .each, p .greatest .below j (omega (arith, p .each, length-links one two (omega arith))), w .limited j (omega (arith, p .each)));
+      }
+
+module _ (n : ℕ) (one two c lent : List ℕ) (e : answer n one two c lent ≡ Balanced) where
+  within : TreeWithin edition1 n one two c
+  unfolding answer
+  within = accepted-is-a-tree-within-the-limits edition1 n one two c (balanced-is-accepted (offer edition1 n one two c) (leb (length one) (length lent)) e)
+
+  -- the lent list begins with the balanced capacities, and goes on as it was
+  list-after : trimmed n one two c lent ≡ capacities n one two c ++ drop (length one) lent
+  unfolding trimmed after
+  list-after = rw (e, capacities-keep-the-promise within .each) refl
+
+  first-places : take (length one) (trimmed n one two c lent) ≡ capacities n one two c
+  first-places = ap (take (length one)) list-after ∙ take-at (capacities n one two c) (drop (length one) lent) (length one) (capacities-keep-the-promise within .each)
+
+  pub trimming-keeps-its-promise : Promise n one two c (take (length one) (trimmed n one two c lent))
+  trimming-keeps-its-promise = rw first-places (capacities-keep-the-promise within)
+
+  pub later-places-stay : drop (length one) (trimmed n one two c lent) ≡ drop (length one) lent
+  later-places-stay = ap (drop (length one)) list-after ∙ drop-at (capacities n one two c) (drop (length one) lent) (length one) (capacities-keep-the-promise within .each)
+
+  -- handed its own answer as capacities, trimming gives that answer back
+  pub its-answer-is-accepted : offer edition1 n one two (take (length one) (trimmed n one two c lent)) ≡ offered.Accepted
+  its-answer-is-accepted = rw first-places (a-tree-within-the-limits-is-accepted edition1 n one two (capacities n one two c) (again-within within))
+
+  pub its-answer-is-given-back : capacities n one two (take (length one) (trimmed n one two c lent)) ≡ take (length one) (trimmed n one two c lent)
+  unfolding capacities
+  its-answer-is-given-back = rw first-places (balanced-again (within .tree) (leaf (links one two)) c)
