@@ -1,25 +1,25 @@
 -- `cut_record` meets its contract: its four fields, one after the other.
+use mathlib.Core.Path.{_∙_}
 use native.Mathlib.Omega.{arith}
 use Rattle.report.specs.Report.{cutRecord}
-use Rattle.report.proofs.Writing.{field-before, last-field}
-use borrow.Author.Needs.{needs}
+use Rattle.report.proofs.Writing.{same-size, field-before, last-field}
 use Rattle.report.proofs.cut_record.Statement.{statement}
 use Rattle.report.proofs.cut_record.Tie as tie
 
 put-letter-requires : tie.Need-put-letter-requires
-put-letter-requires c κs = search needs
+put-letter-requires c κs = omega arith
 
 put-name-requires : tie.Need-put-name-requires
-put-name-requires c κs = search needs
+put-name-requires c κs = (omega (arith, c .before .before .before .put-letter .ensures .next), c .before .before .before .before .before .before .before .before .before .pre .1)
 
 put-number-requires : tie.Need-put-number-requires
-put-number-requires c κs = search needs
+put-number-requires c κs = omega (arith, c .before .before .before .before .before .before .before .put-letter .ensures .next, c .before .before .before .put-name .ensures .1)
 
 put-number-requires-2 : tie.Need-put-number-requires-2
-put-number-requires-2 c κs = search needs
+put-number-requires-2 c κs = omega (arith, c .before .before .before .before .before .before .before .before .before .before .before .put-letter .ensures .next, c .before .before .before .before .before .before .before .put-name .ensures .1, c .before .before .before .put-number .ensures .1)
 
 same-length : tie.Need-same-length
-same-length c = search needs
+same-length c = same-size (c .before .before .put-number2 .ensures .0) ∙ same-size (c .before .before .before .before .before .before .put-number .ensures .0) ∙ same-size (c .before .before .before .before .before .before .before .before .before .before .put-name .ensures .0) ∙ same-size (c .before .before .before .before .before .before .before .before .before .before .before .before .before .before .put-letter .ensures)
 
 returns : tie.Need-returns
 unfolding cutRecord
