@@ -3,19 +3,17 @@
 use mathlib.Core.Bool.{Bool, true, false, cond, _&&_, _||_}
 use mathlib.Core.List.{List, [], _∷_}
 use mathlib.Core.Logic.{_⊎_, inl, inr, ⊎-elim, _≢_}
-use mathlib.Core.Path.{_≡_, refl, sym, ap, _∙_}
-use Prim.Native.Nat.{ℕ, zero, suc, _+_, _-_, _*_, _≤_, _<_}
-use native.Mathlib.Nat.{add-sub-cancel-left}
+use mathlib.Core.Path.{_≡_, refl, ap, _∙_}
+use Prim.Native.Nat.{ℕ, suc, _+_, _-_, _*_, _≤_, _<_}
 use native.Mathlib.Numerals.{add-one}
 use native.Mathlib.Omega.{arith}
 use lib.Dec.{eqb, leb, ltb, eqb·suc-suc}
-use lib.ListN.{length, getD, take, drop, drop-of-length-le, length-take, length-drop}
-use lib.Seq.{drop-cons, take-length}
-use borrow.Author.Tests.{eqb-true, eqb-false, eq-eqb, ne-eqb, leb-true, ltb-true, ltb-false, le-leb, lt-leb}
-use Rattle.line_kinds.specs.LineKinds.{same, all, isDigit, isLetterOrDigit, isName, isNumber, valueFrom, value, isHeading, isSite, isLink, linkLine, field, fields, push, kindOf, kind}
+use lib.ListN.{length, getD, take, drop, drop-of-length-le}
+use lib.Seq.{drop-cons}
+use borrow.Author.Tests.{eqb-true, eqb-false, eq-eqb, ne-eqb, leb-true, le-leb, lt-leb}
+use Rattle.line_kinds.specs.LineKinds.{same, all, isDigit, isLetterOrDigit, isName, isNumber, valueFrom, value, isHeading, isSite, isLink, linkLine, field, fields, push, kindOf}
 use Rattle.line_kinds.specs.LineParts.{fieldLength, sizeOf, linkOf}
-use Rattle.line_kinds.specs.declared.Line.{Line}
-use Rattle.line_kinds.specs.declared.Line.the-variants.{Heading, Site, Link, Fault}
+use Rattle.line_kinds.specs.declared.Line.the-variants.{Link, Fault}
 use Rattle.line_kinds.specs.declared.Size.the-variants.{Within, Above}
 
 -- ---- strings

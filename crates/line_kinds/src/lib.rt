@@ -1,11 +1,10 @@
 // What a line of a network sheet is (document 01, "The network sheet").
 ghost use mathlib.Core.Path.{_≡_};
 ghost use mathlib.Core.List.{[], _∷_};
-ghost use mathlib.Core.Bool.{_&&_};
-ghost use lib.Dec.{leb};
+ghost use mathlib.Core.Bool.{true, _&&_};
 ghost use Prim.Native.Nat.{ℕ, _+_, _≤_, _<_};
+ghost use lib.Dec.{leb};
 ghost use lib.ListN.{length, take, drop};
-ghost use mathlib.Core.Bool.{true};
 ghost use Rattle.line_kinds.specs.LineKinds.{same, all, isDigit, isLetterOrDigit, isName, isNumber, isLink, fields, kindOf, kind};
 ghost use Rattle.line_kinds.specs.LineParts.{sizeOf, fieldLength};
 

@@ -1,13 +1,15 @@
 -- The outcome of planning, for every sheet and every buffer: number, line, length, and the buffer after.
 -- Document 01, the table of causes and the lines below it.
 use mathlib.Core.Bool.{cond}
-use mathlib.Core.List.{List, _++_}
+use mathlib.Core.List.{List, [], _++_}
 use Prim.Native.Nat.{ℕ}
 use lib.Dec.{leb}
 use lib.ListN.{length, drop}
+use lib.Seq.{sets}
+use Rattle.network.specs.Edition.{edition1}
 use Rattle.network.specs.declared.Edition.{Edition}
 use Rattle.sheet.specs.Sheet.{Read, refused, accepted, readSheet}
-use Rattle.report.specs.Report.{report}
+use Rattle.report.specs.Report.{report, refusalLine}
 use Rattle.planner.specs.declared.Outcome.{Outcome}
 use Rattle.planner.specs.declared.Outcome.the-variants.{Report, Refused}
 
@@ -29,6 +31,14 @@ pub record Planned : Type 0 where
   pub outcome : Outcome
   pub buffer : List ℕ
 
+-- the report of a sheet; no bytes where it is refused
+unfoldable pub reportOfRead : List ℕ → Read → List ℕ
+reportOfRead s (refused n k) = []
+reportOfRead s (accepted net) = report s net
+
+abbrev pub reportFor : List ℕ → List ℕ
+reportFor s = reportOfRead s (readSheet edition1 s)
+
 -- a report into a buffer: 9 where it is longer than the buffer; the bytes after it keep their values
 unfoldable pub deliver : List ℕ → List ℕ → Planned
 deliver r b =
@@ -44,3 +54,19 @@ planRead s b (accepted net) = deliver (report s net) b
 -- the outcome of planning the sheet s into the buffer b
 unfoldable pub planned : Edition → List ℕ → List ℕ → Planned
 planned ed s b = planRead s b (readSheet ed s)
+
+-- ---- what the program prints
+
+-- the bytes printed, and the buffer that holds them at its front
+pub record Answer : Type 0 where
+  pub length : ℕ
+  pub buffer : List ℕ
+
+-- the report, or the line of the refusal
+unfoldable pub spelt : Outcome → List ℕ → Answer
+spelt (Report n) b = record { length = n; buffer = b }
+spelt (Refused k l) b = record { length = length (refusalLine k l); buffer = sets b 0 (refusalLine k l) }
+
+-- the answer to the sheet s, in the buffer b
+unfoldable pub answered : Edition → List ℕ → List ℕ → Answer
+answered ed s b = spelt (planned ed s b .outcome) (planned ed s b .buffer)

@@ -3,13 +3,13 @@ use mathlib.Core.Bool.{Bool, true, false, cond}
 use mathlib.Core.List.{List}
 use mathlib.Core.Logic.{_⊎_, inl, inr, ⊎-elim, _≢_}
 use mathlib.Core.Path.{_≡_, refl, sym, ap, subst, _∙_}
-use Prim.Native.Nat.{ℕ, zero, suc, _+_, _-_, _≤_, _<_}
+use Prim.Native.Nat.{ℕ, _+_, _-_, _<_}
 use native.Mathlib.Decide.{decLt}
 use native.Mathlib.Omega.{arith}
 use lib.Dec.{eqb, leb, ltb}
 use lib.ListN.{length, drop}
 use borrow.Author.Tests.{eqb-true, eqb-false, eq-eqb, ne-eqb, leb-true, leb-false, le-leb, lt-leb, ltb-true, ltb-false, lt-ltb, le-ltb}
-use Rattle.network.specs.Network.{Site, joined, Joined}
+use Rattle.network.specs.Network.{joined}
 use Rattle.network.specs.declared.Edition.{Edition}
 use Rattle.theory.specs.Sums.{same?, cases}
 use Rattle.theory.specs.Labels.{joined-iff}
@@ -20,7 +20,7 @@ use Rattle.line_kinds.specs.FaultyLines.{fault-numbers}
 use Rattle.line_kinds.specs.declared.Line.{Line}
 use Rattle.line_kinds.specs.declared.Line.the-variants as line
 use Rattle.sheet.specs.Sheet.{Network, Read, refused, accepted, part, lookup, newName, addSite, newLink, addLink, readHeading, readRecord, readLine}
-use Rattle.sheet.specs.LookupLaws.{nameAt, Says, lookup-says}
+use Rattle.sheet.specs.LookupLaws.{Says, lookup-says}
 use Rattle.sheet.specs.Sound.{Sound}
 use Rattle.sheet.specs.Causes.{Named, NotGiven, Ended, Cause, unended, no-heading, second-heading, wrong-form, too-large, too-many, given, not-given, already-joined}
 use Rattle.sheet.specs.declared.Found.{Found}

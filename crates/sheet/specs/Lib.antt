@@ -2,7 +2,9 @@ pub mod Sheet
 pub mod Reading
 pub mod Steps
 pub mod Causes
+pub mod ListLaws
 pub mod LookupLaws
+pub mod LabelLaws
 pub mod ReadLaws
 pub mod Sound
 pub mod StepLaws

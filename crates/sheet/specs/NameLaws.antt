@@ -1,30 +1,15 @@
 -- The name of a site by its number, as the lists of the answer give it: zeros stand for no site, and make an empty part.
-use mathlib.Core.List.{List, [], _∷_, _++_, map}
-use mathlib.Core.Path.{_≡_, refl, sym, ap, _∙_}
-use Prim.Native.Nat.{ℕ, zero, suc, _-_, _≤_, _<_}
+use mathlib.Core.List.{List, [], map}
+use mathlib.Core.Path.{_≡_, refl, ap}
+use Prim.Native.Nat.{ℕ, zero, suc, _<_}
 use native.Mathlib.Omega.{arith}
-use lib.ListN.{length, getD, replicate, List·getD-eq-default, List·getD-map}
-use lib.Seq.{take-nil}
+use lib.ListN.{List·getD-eq-default, List·getD-map}
 use Rattle.network.specs.Numbers.{look}
 use Rattle.network.specs.declared.Edition.{Edition}
-use Rattle.sheet.specs.Sheet.{Network, Read, refused, accepted, part, readSheet, nameIn, nameOf}
-use Rattle.sheet.specs.Reading.{padded, lists, reading}
+use Rattle.sheet.specs.Sheet.{Read, refused, accepted, part, readSheet, nameIn, nameOf}
+use Rattle.sheet.specs.Reading.{lists, reading}
+use Rattle.sheet.specs.ListLaws.{look-padded}
 use Rattle.sheet.specs.SheetTheorem.{an-accepted-sheet-is-a-tree}
-
-look-zeros : (m i : ℕ) → look (replicate m 0) i ≡ 0
-look-zeros zero i = refl
-look-zeros (suc m) zero = refl
-look-zeros (suc m) (suc i) = look-zeros m i
-
--- zeros behind a list change nothing that is looked up
-pub look-padded : (n : ℕ) (l : List ℕ) (i : ℕ) → look (padded n l) i ≡ look l i
-unfolding padded
-look-padded n l i = behind l (n - length l) i
-  where
-    behind : (l : List ℕ) (m i : ℕ) → look (l ++ replicate m 0) i ≡ look l i
-    behind [] m i = look-zeros m i
-    behind (a ∷ l) m zero = refl
-    behind (a ∷ l) m (suc i) = behind l m i
 
 -- number 0 is no site
 pub no-site-zero : (ed : Edition) (s : List ℕ) → nameOf ed s 0 ≡ []

@@ -2,7 +2,7 @@
 -- each line lowers.
 use mathlib.Core.Bool.{Bool, true, false, cond}
 use mathlib.Core.List.{List}
-use mathlib.Core.Path.{_≡_, refl, sym, _∙_}
+use mathlib.Core.Path.{_≡_, refl, sym}
 use Prim.Native.Nat.{ℕ, zero, suc, _+_, _-_, _≤_, _<_}
 use native.Mathlib.Omega.{arith}
 use lib.Dec.{eqb, ltb}
@@ -15,7 +15,7 @@ use Rattle.line_kinds.specs.LineKinds.{kind}
 use Rattle.sheet.specs.Sheet.{Network, Read, refused, accepted, readHeading, readRecord, readLine, andThen, readLines}
 
 -- a sheet is not refused and accepted
-pub not-both : {n k : ℕ} {net : Network} → refused n k ≡ accepted net → ⊥
+not-both : {n k : ℕ} {net : Network} → refused n k ≡ accepted net → ⊥
 not-both e = let z : _≡_ {A = ℕ} 0 1 = cc in omega arith
 
 has-line : (s : List ℕ) (at : ℕ) → at < length s → hasLine s at ≡ true

@@ -2,8 +2,8 @@
 -- that of the refusal, and a cause that is there refuses.
 use mathlib.Core.Bool.{Bool, true, false, cond, _&&_, and-false, true≢false}
 use mathlib.Core.List.{List}
-use mathlib.Core.Logic.{_⊎_, inl, inr, ⊎-elim}
-use mathlib.Core.Path.{_≡_, refl, sym, ap, subst, _∙_}
+use mathlib.Core.Logic.{_⊎_, inl, inr}
+use mathlib.Core.Path.{_≡_, refl, subst, _∙_}
 use Prim.Native.Nat.{ℕ, zero, suc, _+_, _-_, _≤_, _<_}
 use native.Mathlib.Nat.{sub-zero}
 use native.Mathlib.Omega.{arith}
@@ -51,14 +51,14 @@ module _ (ls : Links) where
   pub all-joined : (n : ℕ) → allJoined ls (sites n) ≡ true → (x : ℕ) → Site n x → Joined ls 1 x
   all-joined n e x h = each-joined 1 n e x (h .0) (omega arith)
 
-  pub not-all-joined : (n : ℕ) → allJoined ls (sites n) ≡ false → (x : ℕ) × Site n x × (¬ (Joined ls 1 x))
+  not-all-joined : (n : ℕ) → allJoined ls (sites n) ≡ false → (x : ℕ) × Site n x × (¬ (Joined ls 1 x))
   not-all-joined n e = let h = one-apart 1 n e in (h .0, (h .1, omega arith), h .3)
 
 -- ---- the line that decides
 
 module _ (ed : Edition) (s : List ℕ) where
   -- where reading has come to
-  pub reached : {k at : ℕ} {net : Network} → Reached ed s k at net
+  reached : {k at : ℕ} {net : Network} → Reached ed s k at net
       → (at ≤ length s) × Sound ed s net × (readLines ed s (length s) 1 0 empty ≡ readLines ed s (length s - at) k at net)
   unfolding andThen
   reached start = (omega arith, none-is-sound ed s, rw sub-zero)
@@ -79,7 +79,7 @@ module _ (ed : Edition) (s : List ℕ) where
       rw (c .0) (at, net, q, h, c .1)
   line-stops q h (accepted after) e f more = more after e
 
-  pub lines-stop : (fuel k at : ℕ) (net : Network) → Reached ed s k at net → length s ≤ at + fuel → Stops (readLines ed s fuel k at net)
+  lines-stop : (fuel k at : ℕ) (net : Network) → Reached ed s k at net → length s ≤ at + fuel → Stops (readLines ed s fuel k at net)
   unfolding readLines hasLine
   lines-stop zero k at net q l = (k, at, q, omega arith)
   lines-stop (suc fuel) k at net q l = by (ltb at (length s)) refl (andThen (readLine ed s net k at) (readLines ed s fuel (suc k) (afterLine s at)))

@@ -37,6 +37,7 @@ abbrev pub siteBy : ℕ × ℕ → Found → Step
 siteBy r (At v) = Refused 5
 siteBy r Absent = Site (r .0) (r .1)
 
+-- a site line, whose name is a range: 4 where the sites are as many as the edition allows, then 5 where the name is given
 unfoldable pub siteStep : Edition → List ℕ → List (ℕ × ℕ) → ℕ × ℕ → Step
 siteStep ed s names r = cond (leb (ed .sites) (length names)) (Refused 4) (siteBy r (lookup s names (part s r)))
 
@@ -46,8 +47,9 @@ linkBy labels size Absent w = Refused 6
 linkBy labels size (At a) Absent = Refused 6
 linkBy labels size (At a) (At b) = cond (eqb (look labels a) (look labels b)) (Refused 7) (Link a b size)
 
-unfoldable pub linkStep : List ℕ → List (ℕ × ℕ) → List ℕ → ℕ × ℕ → ℕ × ℕ → ℕ → Step
-linkStep s names labels r q size = linkBy labels size (lookup s names (part s r)) (lookup s names (part s q))
+-- a link line, by its two names
+unfoldable pub linkStep : List ℕ → List (ℕ × ℕ) → List ℕ → List ℕ → List ℕ → ℕ → Step
+linkStep s names labels f g size = linkBy labels size (lookup s names f) (lookup s names g)
 
 -- line 1
 unfoldable pub headingStep : Line → Step
@@ -60,7 +62,7 @@ headingStep (line.Fault n) = Refused 2
 unfoldable pub recordStep : Edition → List ℕ → List (ℕ × ℕ) → List ℕ → ℕ → Line → Step
 recordStep ed s names labels at line.Heading = Refused 2
 recordStep ed s names labels at (line.Site a e) = siteStep ed s names (at + a, at + e)
-recordStep ed s names labels at (line.Link a e b f size) = linkStep s names labels (at + a, at + e) (at + b, at + f) size
+recordStep ed s names labels at (line.Link a e b f size) = linkStep s names labels (part s (at + a, at + e)) (part s (at + b, at + f)) size
 recordStep ed s names labels at (line.Fault n) = Refused n
 
 -- the line at an offset, with number k

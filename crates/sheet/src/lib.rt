@@ -9,7 +9,7 @@ ghost use Rattle.network.specs.Numbers.{look, upfrom};
 ghost use Rattle.network.specs.Network.{relabel};
 ghost use Rattle.network.specs.Edition.{edition1};
 ghost use Rattle.sheet.specs.Sheet.{empty, part, lookup, refused, readLines, andThen, finish, readSheet, nameOf};
-ghost use Rattle.sheet.specs.Steps.{ranges, siteStep, linkBy, headingStep, stepAt, labels, alike};
+ghost use Rattle.sheet.specs.Steps.{ranges, siteStep, linkStep, headingStep, stepAt, labels, alike};
 ghost use Rattle.sheet.specs.Reading.{lists, reading};
 use line_kinds::Line;
 use network::Edition;
@@ -116,7 +116,7 @@ fn link_step(
     size: u64,
 ) -> Step
     requires { ⌜ (sites ≤ length (now starts)) × (sites ≤ length (now ends)) × (sites < length (now labels)) ⌝ }
-    ensures { λ r. ⌜ r ≡ linkBy (now (labels .entry)) size (lookup (now (sheet .entry)) (ranges (now (starts .entry)) (now (ends .entry)) 0 sites) (now (first .entry))) (lookup (now (sheet .entry)) (ranges (now (starts .entry)) (now (ends .entry)) 0 sites) (now (second .entry))) ⌝ }
+    ensures { λ r. ⌜ r ≡ linkStep (now (sheet .entry)) (ranges (now (starts .entry)) (now (ends .entry)) 0 sites) (now (labels .entry)) (now (first .entry)) (now (second .entry)) size ⌝ }
 {
     let Found::At(one) = find(sheet, starts, ends, sites, first) else {
         return Step::Refused(6);
@@ -149,10 +149,10 @@ fn heading_step(line: Line) -> Step
 }
 
 // What the line at an offset adds, `number` being its number.
-fn step_at(
+fn step_at<'a>(
     sheet: &[u8],
-    starts: &[usize],
-    ends: &[usize],
+    starts: &'a [usize],
+    ends: &'a [usize],
     sites: usize,
     labels: &[usize],
     number: usize,
@@ -265,19 +265,12 @@ fn refusal(number: u64, line: usize) -> Reading
 fn read_lines(sheet: &[u8]) -> Reading
     ensures { λ r. ⌜ r ≡ reading (andThen (readLines edition1 (now (sheet .entry)) (length (now (sheet .entry))) 1 0 empty) finish) ⌝ }
 {
-    let none = nothing();
-    let mut start = none.start;
-    let mut end = none.end;
-    let mut one = none.one;
-    let mut two = none.two;
-    let mut capacity = none.capacity;
+    let mut net = nothing();
     let mut labels = own_labels();
-    let mut sites = 0;
-    let mut links = 0;
     let mut at = 0;
     let mut number = 1;
     while at < sheet.len() {
-        let step = step_at(sheet, &start, &end, sites, &labels, number, at);
+        let step = step_at(sheet, &net.start, &net.end, net.sites, &labels, number, at);
         let line = number;
         at = lines::line_end(sheet, at) + 1;
         number += 1;
@@ -286,38 +279,28 @@ fn read_lines(sheet: &[u8]) -> Reading
                 return refusal(n, line);
             }
             Step::Nothing => {}
-            Step::Site { start: a, end: b } => {
-                start[sites] = a;
-                end[sites] = b;
-                sites += 1;
+            Step::Site { start, end } => {
+                let i = net.sites;
+                net.start[i] = start;
+                net.end[i] = end;
+                net.sites = i + 1;
             }
-            Step::Link {
-                one: a,
-                two: b,
-                size,
-            } => {
-                one[links] = a;
-                two[links] = b;
-                capacity[links] = size;
-                links += 1;
-                join(&mut labels, a, b);
+            Step::Link { one, two, size } => {
+                let i = net.links;
+                net.one[i] = one;
+                net.two[i] = two;
+                net.capacity[i] = size;
+                net.links = i + 1;
+                join(&mut labels, one, two);
             }
         }
     }
-    if !is_whole(&labels, sites) {
+    if !is_whole(&labels, net.sites) {
         return refusal(8, 0);
     }
     Reading {
         answer: Answer::Accepted,
-        network: Network {
-            start,
-            end,
-            one,
-            two,
-            capacity,
-            sites,
-            links,
-        },
+        network: net,
     }
 }
 

@@ -1,10 +1,9 @@
 -- Laws of answers: what an answer that tells whether something holds says, and when links are proper.
-use mathlib.Core.Path.{_≡_, refl}
+use mathlib.Core.Path.{_≡_}
 use mathlib.Core.Bool.{Bool, true, false}
 use mathlib.Core.List.{List}
-use Prim.Native.Nat.{ℕ, suc, _<_}
+use Prim.Native.Nat.{ℕ}
 use native.Mathlib.Omega.{arith}
-use lib.ListN.{length}
 use Rattle.theory.specs.Trees.{loopless}
 use Rattle.tree.specs.Offer.{links}
 use Rattle.tree.specs.Links.{length-links, links-one, links-two}

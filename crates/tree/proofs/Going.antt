@@ -4,13 +4,13 @@ use mathlib.Core.Path.{_≡_, refl, sym, ap, ap₂, _∙_, fun-ext}
 use mathlib.Core.Logic.{_≢_}
 use mathlib.Core.Bool.{true, false}
 use mathlib.Core.List.{List, [], _∷_, _++_, append-assoc, append-nil}
-use Prim.Native.Nat.{ℕ, zero, suc, _+_, _-_, _*_, _≤_, _<_}
+use Prim.Native.Nat.{ℕ, suc, _+_, _-_, _*_, _≤_, _<_}
 use native.Mathlib.Omega.{arith}
 use native.Mathlib.Nat.{sub-zero}
 use lib.Seq.{set-at}
 use lib.ListN.{length, set, replicate, length-append}
 use Rattle.network.specs.Numbers.{is, count, look}
-use Rattle.network.specs.Network.{Links, Site, Ends, Tree, sites, one, two, sumAt}
+use Rattle.network.specs.Network.{Links, Site, Ends, sites, one, two, sumAt}
 use Rattle.network.specs.Trimming.{unvisited, first, remove, taken, elimination, Inward, InwardOrder}
 use Rattle.theory.specs.Sums.{pick-same, is-same}
 use Rattle.theory.specs.Sites.{length-upfrom, sites-once, sites-site, sites-single, sumAt-same}

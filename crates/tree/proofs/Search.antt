@@ -1,17 +1,17 @@
 -- The search for the lowest site does not start over: below the highest site taken so far only one site can have come into reach,
 -- the other end of the link over which the last was taken.
-use mathlib.Core.Path.{_≡_, refl, sym, ap, _∙_}
+use mathlib.Core.Path.{_≡_, refl, sym, _∙_}
 use mathlib.Core.Logic.{_≢_}
 use mathlib.Core.List.{List}
-use Prim.Native.Nat.{ℕ, _+_, _-_, _*_, _≤_, _<_, max}
+use Prim.Native.Nat.{ℕ, _-_, _≤_, _<_, max}
 use native.Mathlib.Omega.{arith}
 use native.Mathlib.Decide.{decLt}
 use lib.Seq.{getD-set-same, getD-set-other}
 use lib.ListN.{length, set, length-set}
-use Rattle.network.specs.Numbers.{is, look}
+use Rattle.network.specs.Numbers.{look}
 use Rattle.network.specs.Network.{Site}
-use Rattle.theory.specs.Sums.{cases, same?, is-same, is-other}
-use Rattle.tree.specs.Steps.{Lowest, Behind, Back}
+use Rattle.theory.specs.Sums.{cases, same?}
+use Rattle.tree.specs.Steps.{Behind, Back}
 
 pub behind-start : {n : ℕ} {numbers : List ℕ} → 1 ≤ n → Behind n numbers 0 1
 behind-start h = record {

@@ -1,20 +1,20 @@
 -- Elimination with numbers kept up to date: how many unvisited links each untaken site has, and the sum of their positions.
 -- Taking a site v with one unvisited link changes only the number and the sum of the site at the link's other end.
-use mathlib.Core.Path.{_≡_, refl, sym, ap, ap₂, _∙_}
+use mathlib.Core.Path.{_≡_, refl, sym, ap, _∙_}
 use mathlib.Core.Logic.{_≢_, inl, inr, if-pos, if-neg}
 use mathlib.Core.List.{List, [], _∷_}
-use Prim.Native.Nat.{ℕ, zero, suc, _+_, _-_, _*_, _≤_, _<_}
+use Prim.Native.Nat.{ℕ, _+_, _-_, _*_, _≤_, _<_}
 use native.Mathlib.Omega.{arith}
 use native.Mathlib.Decide.{decLe}
 use lib.Seq.{getD-set-same, getD-set-other}
 use lib.ListN.{length, set, length-set}
 use Rattle.network.specs.Numbers.{pick, is, sum, count, look}
-use Rattle.network.specs.Network.{Links, Site, Ends, Tree, one, two, at, sumAt}
-use Rattle.network.specs.Trimming.{unvisited, first, remove, taken}
+use Rattle.network.specs.Network.{Links, Site, Tree, one, two, at, sumAt}
+use Rattle.network.specs.Trimming.{unvisited, first, remove}
 use Rattle.theory.specs.Sums.{pick-same, pick-other, is-same, is-other, same?, sum-none, sum-eq, sum-eq-but, sum-ge, sum-only}
 use Rattle.theory.specs.Trees.{at-first, at-second, at-none, at-le, at-end, sumAt-linear}
 use Rattle.theory.specs.Sites.{sumAt-same}
-use Rattle.theory.specs.Orders.{Ascending, remove-ascending, remove-count, remove-length, never-stuck}
+use Rattle.theory.specs.Orders.{Ascending, remove-ascending, remove-count, never-stuck}
 
 -- a sum with one term
 sum-single : (n j : ℕ) (f : ℕ → ℕ) → j < n → ((i : ℕ) → i < n → i ≢ j → f i ≡ 0) → sum n f ≡ f j

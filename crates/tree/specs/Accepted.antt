@@ -9,7 +9,7 @@ use lib.Dec.{eqb, leb}
 use lib.Seq.{take-at}
 use lib.ListN.{length, take, replicate}
 use Rattle.network.specs.Numbers.{count, look}
-use Rattle.network.specs.Network.{Links, Site, Tree, label, sites}
+use Rattle.network.specs.Network.{Links, Tree, label, sites}
 use Rattle.network.specs.Trimming.{elimination}
 use Rattle.network.specs.Edition.{edition1}
 use Rattle.network.specs.declared.Edition.{Edition}

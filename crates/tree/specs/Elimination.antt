@@ -25,5 +25,6 @@ decide NoTree ls n = unordered NoTree
 decide TooLarge ls n = unordered TooLarge
 decide Accepted ls n = record { offer = Accepted; sites = orderIn ls n }
 
+-- the answer to an offer of n sites, the first and second sites of the links, and the capacities
 unfoldable pub eliminated : ℕ → List ℕ → List ℕ → List ℕ → Elimination
 eliminated n one two c = decide (offer edition1 n one two c) (links one two) n

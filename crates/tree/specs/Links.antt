@@ -1,18 +1,12 @@
 -- Links that are offered as two lists: their number, the sites of each, and labels with one link more.
-use mathlib.Core.Path.{_≡_, refl, sym, ap, ap₂, _∙_}
-use mathlib.Core.Bool.{true, false, _&&_}
-use mathlib.Core.List.{List, [], _∷_, map, map-map, map-id}
-use Prim.Native.Nat.{ℕ, zero, suc, _+_, _-_, _≤_, _<_}
+use mathlib.Core.Path.{_≡_, refl, ap}
+use mathlib.Core.List.{List, [], _∷_}
+use Prim.Native.Nat.{ℕ, zero, suc, _-_, _<_}
 use native.Mathlib.Omega.{arith}
-use native.Mathlib.Numerals.{add-one}
-use borrow.Author.Tests.{eq-eqb, ne-eqb}
-use lib.Dec.{eqb}
-use lib.Seq.{drop-cons}
-use lib.ListN.{length, drop, getD, drop-of-length-le}
-use Rattle.network.specs.Numbers.{pick, is, look, upfrom}
-use Rattle.network.specs.Network.{Links, one, two, at, label, relabel, sites}
-use Rattle.theory.specs.Sites.{look-values}
-use Rattle.tree.specs.Offer.{links, labelled}
+use lib.ListN.{length, getD}
+use Rattle.network.specs.Numbers.{pick, is, look}
+use Rattle.network.specs.Network.{one, two, at}
+use Rattle.tree.specs.Offer.{links}
 
 links-at : (a b : List ℕ) (j : ℕ) → j < length a → j < length b → getD (links a b) j (0, 0) ≡ (look a j, look b j)
 unfolding links

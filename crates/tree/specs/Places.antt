@@ -1,7 +1,7 @@
 -- Lists worked place by place: a list filled from the front, and a test of all places that the places from i on decide.
 -- What a loop over the places of a list leaves to show.
 use mathlib.Core.Path.{_≡_, refl, sym, ap, ap₂, _∙_}
-use mathlib.Core.Bool.{Bool, true, false, _&&_}
+use mathlib.Core.Bool.{true, false, _&&_}
 use mathlib.Core.List.{List, [], _∷_, _++_, map, append-nil}
 use Prim.Native.Nat.{ℕ, zero, suc, _+_, _≤_, _<_}
 use native.Mathlib.Omega.{arith}
@@ -10,7 +10,7 @@ use native.Mathlib.Nat.{add-zero, zero-add, add-suc, suc-add}
 use borrow.Author.Tests.{le-leb, lt-leb}
 use lib.Dec.{leb}
 use lib.Seq.{drop-cons, drop-length, getD-append-add, getD-drop, getD-take, length-take-le, ext-getD}
-use lib.ListN.{length, drop, set, getD, length-map, length-append, length-drop, take, take-append-drop, drop-of-length-le}
+use lib.ListN.{length, drop, set, length-map, length-append, length-drop, take, take-append-drop, drop-of-length-le}
 use Rattle.network.specs.Numbers.{look, sum, upfrom}
 use Rattle.theory.specs.Sites.{length-upfrom, look-values}
 use Rattle.tree.specs.Offer.{within}

@@ -1,4 +1,4 @@
-// The test whether an offer of sites, links and capacities is a tree within the limits of the edition.
+// A tree that is offered as lists: whether it is one within the limits of the edition, and the elimination order of its sites.
 use network::Edition;
 ghost use mathlib.Core.Path.{_≡_};
 ghost use mathlib.Core.Logic.{_≢_};
@@ -241,6 +241,7 @@ pub struct Elimination {
     pub sites: [usize; 256],
 }
 
+// The answer to an offer that is not accepted.
 fn refused(offer: Offer) -> Elimination
     ensures { λ r. ⌜ r ≡ unordered offer ⌝ }
 {

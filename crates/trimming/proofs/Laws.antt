@@ -1,25 +1,26 @@
 -- Cutting in a lent list, place by place: what one cut leaves is what the definition says, and cuts follow each other.
-use mathlib.Core.Path.{_≡_, refl, sym, ap, ap₂, _∙_}
+use mathlib.Core.Path.{_≡_, refl, sym, ap, _∙_}
 use mathlib.Core.Logic.{_≢_}
 use mathlib.Core.List.{List, [], _∷_, _++_, map, map-id, reverse, reverse-cons}
-use Prim.Native.Nat.{ℕ, suc, _+_, _-_, _*_, _≤_, _<_, min}
+use Prim.Native.Nat.{ℕ, zero, suc, _-_, _*_, _≤_, _<_, min}
 use native.Mathlib.Omega.{arith}
 use lib.Seq.{getD-take, getD-append-seam, take-at, drop-at, length-take-le, ext-getD}
 use lib.ListN.{length, take, drop, take-append-drop, length-map, length-append, length-reverse, List·getD-append}
-use Rattle.network.specs.Numbers.{pick, look, upfrom}
+use Rattle.network.specs.Numbers.{count, look, upfrom}
 use Rattle.network.specs.Network.{Links, at, sumAt, leaf}
 use Rattle.network.specs.Edition.{edition1}
 use Rattle.network.specs.Trimming.{cutAt, cutSite, cutSites, elimination, balancedAlong, balanced}
-use Rattle.theory.specs.Sums.{pick-same, pick-other, same?, sum-ge}
-use Rattle.theory.specs.Sites.{length-upfrom, look-values, sumAt-same}
+use Rattle.theory.specs.Sums.{pick-same, pick-other, same?, is-same, sum-ge}
+use Rattle.theory.specs.Sites.{length-upfrom, look-values, sumAt-same, sites-site}
 use Rattle.theory.specs.Cutting.{cutAt-le}
 use Rattle.theory.specs.Passes.{length-cutSites, look-cutSite}
+use Rattle.theory.specs.Orders.{elimination-takes-only-sites}
 use Rattle.theory.specs.Greatest.{balanced-has-each-link}
 use Rattle.tree.specs.Offer.{links}
 use Rattle.tree.specs.Accepted.{TreeWithin}
-use Rattle.tree.specs.Links.{length-links}
+use Rattle.tree.specs.Links.{length-links, links-one, links-two}
 use Rattle.tree.specs.Places.{filled, filled-same, same-values, map-table}
-use Rattle.trimming.specs.Steps.{Limited, cutFirst}
+use Rattle.trimming.specs.Steps.{Placed, Limited, UpTo256, cutFirst}
 use Rattle.trimming.specs.Outcome.{capacities}
 
 -- ---- one link
@@ -30,9 +31,9 @@ module _ (ls : Links) (v : ℕ) (c : ℕ → ℕ) (j : ℕ) where
   unfolding sumAt
   at-most-all h a = omega (arith, rw a at (sum-ge (length ls) j (λ i. at ls v i * c i) h))
 
-  pub cut-inner : leaf ls v ≢ 1 → {a t s : ℕ} → a ≡ at ls v j → t ≡ c j → s ≡ sumAt ls v c → pick a 1 (min t (s - t)) t ≡ cutAt ls (leaf ls) v c j
+  pub cut-inner : leaf ls v ≢ 1 → at ls v j ≡ 1 → {t s : ℕ} → t ≡ c j → s ≡ sumAt ls v c → min t (s - t) ≡ cutAt ls (leaf ls) v c j
   unfolding cutAt
-  cut-inner d e f g = rw (e, f, g) (sym (pick-other d _ _))
+  cut-inner d a f g = rw (f, g) (sym (pick-other d _ _ ∙ pick-same a _ _))
 
   pub cut-terminal : leaf ls v ≡ 1 → cutAt ls (leaf ls) v c j ≡ c j
   unfolding cutAt
@@ -92,15 +93,13 @@ module _ (a b : List ℕ) (same : length b ≡ length a) where
       rw (take-at done (drop (length a) l) (length a) long, drop-at done (drop (length a) l) (length a) long, cut-sites-append ls (leaf ls) vs ws (take (length a) l)) refl
 
   -- the places stay within the limits
-  pub first-limited : (vs l : List ℕ) → Limited a b l → Limited a b (cutFirst a b vs l)
+  pub first-limited : (vs l : List ℕ) → Limited a l → Limited a (cutFirst a b vs l)
   unfolding cutFirst
   first-limited vs l h =
       let ls = links a b in
       let done = cutSites ls (leaf ls) vs (take (length a) l) in
       let long = length-done vs l (h .places) in
       record {
-        few = h .few;
-        seconds = h .seconds;
         places = omega (arith, length-append done (drop (length a) l));
         small = λ j k. omega (
           arith,
@@ -124,6 +123,11 @@ look-reverse (x ∷ l) i h =
     (λ d. let behind : suc (length l - 1 - i) ≡ suc (length l) - 1 - i = omega arith in
     List·getD-append (reverse l) (x ∷ []) 0 i (omega arith) ∙ look-reverse l i (omega arith) ∙ ap (look (x ∷ l)) behind)
 
+pub up-to-reverse : (l : List ℕ) → UpTo256 l → UpTo256 (reverse l)
+up-to-reverse l h i k =
+    let turned = length-reverse l in
+    omega (arith, look-reverse l i (omega arith), h (length l - 1 - i) (omega arith))
+
 -- a list filled from the back of another holds it turned round
 pub take-filled-reverse : (n : ℕ) (order l : List ℕ) → n ≤ length order → take n (filled (λ i. look order (n - 1 - i)) n l) ≡ reverse (take n order)
 unfolding filled
@@ -144,14 +148,39 @@ filled-copy c l = ap (λ r. r ++ drop (length c) l) (map-table (λ x. x) c (leng
 
 -- ---- a whole offer
 
+count-look : (l : List ℕ) (i : ℕ) → i < length l → 1 ≤ count l (look l i)
+unfolding count
+count-look [] i h = absurd (omega arith)
+count-look (x ∷ l) zero h = omega (arith, is-same {u = x} refl)
+count-look (x ∷ l) (suc i) h = omega (arith, count-look l i (omega arith))
+
+module _ {n : ℕ} {a b c : List ℕ} (w : TreeWithin edition1 n a b c) where
+  pub offer-placed : Placed a b
+  offer-placed = record {
+    few = omega arith;
+    seconds = omega arith;
+    sites = λ j h.
+        let all = length-links a b (omega arith) in
+        let e = w .tree .ends j (omega arith) in
+        (omega (arith, links-one a b j h (omega arith)), omega (arith, links-two a b j h (omega arith)));
+  }
+
+  pub order-up-to : UpTo256 (elimination (links a b) n)
+  order-up-to i h = omega (
+    arith,
+    sites-site n (look (elimination (links a b) n) i) (omega (
+      arith,
+      elimination-takes-only-sites (w .tree) (look (elimination (links a b) n) i),
+      count-look (elimination (links a b) n) i h,
+    )),
+  )
+
 module _ {n : ℕ} {a b c : List ℕ} (w : TreeWithin edition1 n a b c) (lent : List ℕ) (enough : length a ≤ length lent) where
   same-places : length c ≡ length a
   same-places = omega arith
 
-  pub copied-limited : Limited a b (c ++ drop (length c) lent)
+  pub copied-limited : Limited a (c ++ drop (length c) lent)
   copied-limited = record {
-    few = omega arith;
-    seconds = omega arith;
     places = omega (arith, length-append c (drop (length c) lent));
     small = λ j h. rw (List·getD-append c (drop (length c) lent) 0 j (omega arith)) (w .limited j (omega arith));
   }

@@ -21,6 +21,7 @@ decide offered.TooLarge enough = TooLarge
 decide offered.Accepted false = Short
 decide offered.Accepted true = Balanced
 
+-- what is said of an offer of n sites, the first and second sites of the links and the capacities, and of the lent list
 unfoldable pub answer : ℕ → List ℕ → List ℕ → List ℕ → List ℕ → Trimming
 answer n one two c lent = decide (offer edition1 n one two c) (leb (length one) (length lent))
 
@@ -35,16 +36,19 @@ after TooLarge t lent = lent
 after Short t lent = lent
 after Balanced t lent = t ++ drop (length t) lent
 
+-- the lent list after the answer to an offer
 unfoldable pub trimmed : ℕ → List ℕ → List ℕ → List ℕ → List ℕ → List ℕ
 trimmed n one two c lent = after (answer n one two c lent) (capacities n one two c) lent
 
--- document 01's number: 9 for a lent list too short. It has none for an offer that is no tree or too large, where numbers are 0,
--- and success is 0; the line is always 0
-unfoldable pub number : Trimming → ℕ
-number NoTree = 0
-number TooLarge = 0
-number Short = 9
-number Balanced = 0
+-- what document 01 tells of an answer: its number, its line, and how many places are written
+pub record Told : Type 0 where
+  pub number : ℕ
+  pub line : ℕ
+  pub written : ℕ
 
-unfoldable pub line : Trimming → ℕ
-line a = 0
+-- success is 0; a lent list too short is 9, at line 0; of an offer that is no tree or too large 01 says that numbers are 0
+unfoldable pub told : Trimming → ℕ → Told
+told NoTree links = record { number = 0; line = 0; written = 0 }
+told TooLarge links = record { number = 0; line = 0; written = 0 }
+told Short links = record { number = 9; line = 0; written = 0 }
+told Balanced links = record { number = 0; line = 0; written = links }

@@ -1,10 +1,11 @@
 -- The promise of trimming, all that a user of its answer relies on: a whole number for each link of a tree, the greatest that leave no
 -- inner site with a heavy link. By the theory of balanced capacities, over the definitions that `trim` is equated with.
-use mathlib.Core.Path.{_≡_, refl, sym, ap, _∙_}
+use mathlib.Core.Path.{_≡_, refl, ap, _∙_}
 use mathlib.Core.Bool.{Bool, true, false}
 use mathlib.Core.List.{List, _++_}
-use Prim.Native.Nat.{ℕ, _≤_, _<_}
+use Prim.Native.Nat.{ℕ, _<_}
 use native.Mathlib.Omega.{arith}
+use borrow.Author.Tests.{leb-false}
 use lib.Dec.{leb}
 use lib.Seq.{take-at, drop-at}
 use lib.ListN.{length, take, drop}
@@ -18,8 +19,9 @@ use Rattle.tree.specs.Links.{length-links}
 use Rattle.tree.specs.Accepted.{TreeWithin, accepted-is-a-tree-within-the-limits, a-tree-within-the-limits-is-accepted}
 use Rattle.tree.specs.declared.Offer.{Offer}
 use Rattle.tree.specs.declared.Offer.the-variants as offered
-use Rattle.trimming.specs.declared.Trimming.the-variants.{Balanced}
-use Rattle.trimming.specs.Outcome.{decide, answer, capacities, after, trimmed}
+use Rattle.trimming.specs.declared.Trimming.{Trimming}
+use Rattle.trimming.specs.declared.Trimming.the-variants.{NoTree, TooLarge, Short, Balanced}
+use Rattle.trimming.specs.Outcome.{decide, answer, capacities, after, trimmed, told}
 
 -- t are the balanced capacities of a tree with the capacities c
 pub record Promise (n : ℕ) (one two c t : List ℕ) : Type 0 where
@@ -81,3 +83,38 @@ module _ (n : ℕ) (one two c lent : List ℕ) (e : answer n one two c lent ≡ 
   pub its-answer-is-given-back : capacities n one two (take (length one) (trimmed n one two c lent)) ≡ take (length one) (trimmed n one two c lent)
   unfolding capacities
   its-answer-is-given-back = rw first-places (balanced-again (within .tree) (leaf (links one two)) c)
+
+-- ---- the other answers
+
+nine-is-short : (a : Trimming) (m : ℕ) → told a m .number ≡ 9 → a ≡ Short
+unfolding told
+nine-is-short NoTree m e = absurd (omega arith)
+nine-is-short TooLarge m e = absurd (omega arith)
+nine-is-short Short m e = refl
+nine-is-short Balanced m e = absurd (omega arith)
+
+short-is-short : (o : Offer) (enough : Bool) → decide o enough ≡ Short → (o ≡ offered.Accepted) × (enough ≡ false)
+unfolding decide
+short-is-short offered.NoTree enough e = absurd (let z : _≡_ {A = ℕ} 0 1 = cc in omega arith)
+short-is-short offered.TooLarge enough e = absurd (let z : _≡_ {A = ℕ} 0 1 = cc in omega arith)
+short-is-short offered.Accepted true e = absurd (let z : _≡_ {A = ℕ} 0 1 = cc in omega arith)
+short-is-short offered.Accepted false e = (refl, refl)
+
+module _ (n : ℕ) (one two c lent : List ℕ) where
+  -- 9 is told after every other cause, for fewer lent places than links
+  pub nine-means-too-few-places : told (answer n one two c lent) (length one) .number ≡ 9 → (offer edition1 n one two c ≡ offered.Accepted) × (length lent < length one)
+  unfolding answer
+  nine-means-too-few-places e =
+      let t = short-is-short (offer edition1 n one two c) (leb (length one) (length lent)) (nine-is-short (answer n one two c lent) (length one) e) in
+      (t .0, leb-false (length one) (length lent) (t .1))
+
+  -- whatever is told but success, the lent list stays as it was
+  pub what-is-lent-stays : (answer n one two c lent ≡ Balanced → ⊥) → trimmed n one two c lent ≡ lent
+  unfolding trimmed after
+  what-is-lent-stays d = stays (answer n one two c lent) (capacities n one two c) d
+    where
+      stays : (a : Trimming) (t : List ℕ) → (a ≡ Balanced → ⊥) → after a t lent ≡ lent
+      stays NoTree t d = refl
+      stays TooLarge t d = refl
+      stays Short t d = refl
+      stays Balanced t d = absurd (d refl)

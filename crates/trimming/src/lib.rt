@@ -1,17 +1,14 @@
 // Balanced capacities of a tree (01: trimming): cut at each site inward along the elimination order, then outward against it.
 use tree::Offer;
 ghost use mathlib.Core.Path.{_≡_};
-ghost use mathlib.Core.List.{List, [], _∷_, _++_, reverse};
-ghost use Prim.Native.Nat.{_-_, _≤_, min};
+ghost use mathlib.Core.List.{[], _∷_, _++_, reverse};
+ghost use Prim.Native.Nat.{_+_, _*_, _≤_, _<_, min};
 ghost use lib.ListN.{length, take, drop};
 ghost use Rattle.network.specs.Numbers.{pick, look};
 ghost use Rattle.network.specs.Network.{sumAt};
-ghost use Rattle.network.specs.Edition.{edition1};
 ghost use Rattle.tree.specs.Offer.{links};
-ghost use Rattle.tree.specs.Accepted.{TreeWithin};
-ghost use Rattle.tree.specs.Elimination.{orderIn};
-ghost use Rattle.trimming.specs.Steps.{Limited, cutFirst};
-ghost use Rattle.trimming.specs.Outcome.{capacities, answer, trimmed};
+ghost use Rattle.trimming.specs.Steps.{Placed, Chained, Limited, UpTo256, cutFirst};
+ghost use Rattle.trimming.specs.Outcome.{answer, trimmed};
 
 // What is said of an offered tree whose capacities are to be balanced.
 pub enum Trimming {
@@ -25,6 +22,46 @@ pub enum Trimming {
     Balanced,
 }
 
+// The links at each site as chains, the last link first; links are counted from 1, and 0 is none.
+struct Chains {
+    // the last link at each site
+    last: [usize; 257],
+    // for link j the link before it at its first site, at place 2 j, and at its second, at place 2 j + 1
+    before: [usize; 512],
+}
+
+// Chains the links at each site.
+fn chain(one: &[usize], two: &[usize]) -> Chains
+    requires { ⌜ Placed (now one) (now two) ⌝ }
+    ensures { λ r. ⌜ Chained (now (one .entry)) (now (two .entry)) (r .last) (r .before) ⌝ }
+{
+    let mut last = [0usize; 257];
+    let mut before = [0usize; 512];
+    for j in 0..one.len() {
+        let a = one[j];
+        let b = two[j];
+        before[2 * j] = last[a];
+        before[2 * j + 1] = last[b];
+        last[a] = j + 1;
+        last[b] = j + 1;
+    }
+    Chains { last, before }
+}
+
+// The link before link j at site v, none where v is no site of link j.
+fn link_before(v: usize, j: usize, one: &[usize], two: &[usize], before: &[usize; 512]) -> usize
+    requires { ⌜ (j < length (now one)) × (j < length (now two)) × (j < 256) ⌝ }
+    ensures { λ r. ⌜ r ≡ pick (look (now (one .entry)) j) v (look (now (before .entry)) (2 * j)) (pick (look (now (two .entry)) j) v (look (now (before .entry)) (2 * j + 1)) 0) ⌝ }
+{
+    if one[j] == v {
+        return before[2 * j];
+    }
+    if two[j] == v {
+        return before[2 * j + 1];
+    }
+    0
+}
+
 // The links at a site: how many, and their capacities summed.
 struct AtSite {
     links: u64,
@@ -32,16 +69,24 @@ struct AtSite {
 }
 
 // How many links are at v, and what they can carry together.
-fn at_site(v: usize, one: &[usize], two: &[usize], capacity: &[u64]) -> AtSite
-    requires { ⌜ Limited (now one) (now two) (now capacity) ⌝ }
+fn at_site(
+    v: usize,
+    last: &[usize; 257],
+    before: &[usize; 512],
+    one: &[usize],
+    two: &[usize],
+    capacity: &[u64],
+) -> AtSite
+    requires { ⌜ (v ≤ 256) × Chained (now one) (now two) (now last) (now before) × Limited (now one) (now capacity) ⌝ }
     ensures { λ r. ⌜ (r .links ≡ sumAt (links (now (one .entry)) (now (two .entry))) v (λ i. 1)) × (r .capacity ≡ sumAt (links (now (one .entry)) (now (two .entry))) v (look (now (capacity .entry)))) ⌝ }
 {
     let mut links: u64 = 0;
     let mut total: u64 = 0;
-    for j in 0..one.len() {
-        let at = tree::at_link(one[j], two[j], v);
-        links += at;
-        total += at * capacity[j];
+    let mut p = last[v];
+    while 0 < p {
+        links += 1;
+        total += capacity[p - 1];
+        p = link_before(v, p - 1, one, two, before);
     }
     AtSite {
         links,
@@ -49,40 +94,52 @@ fn at_site(v: usize, one: &[usize], two: &[usize], capacity: &[u64]) -> AtSite
     }
 }
 
-// What a link with capacity t keeps: at the site, no more than the other links there have of the sum.
-fn cut_link(at: u64, t: u64, sum: u64) -> u64
-    requires { ⌜ (at ≡ 1 → t ≤ sum) ⌝ }
-    ensures { λ r. ⌜ r ≡ pick at 1 (min t (sum - t)) t ⌝ }
+// The lesser of two numbers.
+fn lesser(a: u64, b: u64) -> u64
+    ensures { λ r. ⌜ r ≡ min a b ⌝ }
 {
-    if at != 1 {
-        return t;
-    }
-    let others = sum - t;
-    if others < t { others } else { t }
+    if b < a { b } else { a }
 }
 
-// Cuts the capacities at site v.
-fn cut(v: usize, one: &[usize], two: &[usize], capacity: &mut [u64])
-    requires { ⌜ Limited (now one) (now two) (now capacity) ⌝ }
+// Cuts the capacities at site v: each link keeps no more than the other links there have together.
+fn cut(
+    v: usize,
+    last: &[usize; 257],
+    before: &[usize; 512],
+    one: &[usize],
+    two: &[usize],
+    capacity: &mut [u64],
+)
+    requires { ⌜ (v ≤ 256) × Chained (now one) (now two) (now last) (now before) × Limited (now one) (now capacity) ⌝ }
     ensures { λ _. ⌜ now (capacity .exit) ≡ cutFirst (now (one .entry)) (now (two .entry)) (v ∷ []) (now (capacity .entry)) ⌝ }
 {
-    let s = at_site(v, one, two, capacity);
+    let s = at_site(v, last, before, one, two, capacity);
     let sum = s.capacity;
     if s.links == 1 {
         return;
     }
-    for j in 0..one.len() {
-        capacity[j] = cut_link(tree::at_link(one[j], two[j], v), capacity[j], sum);
+    let mut p = last[v];
+    while 0 < p {
+        let t = capacity[p - 1];
+        capacity[p - 1] = lesser(t, sum - t);
+        p = link_before(v, p - 1, one, two, before);
     }
 }
 
 // Cuts the capacities at the sites of a list in turn.
-fn cut_along(sites: &[usize], one: &[usize], two: &[usize], capacity: &mut [u64])
-    requires { ⌜ Limited (now one) (now two) (now capacity) ⌝ }
+fn cut_along(
+    sites: &[usize],
+    last: &[usize; 257],
+    before: &[usize; 512],
+    one: &[usize],
+    two: &[usize],
+    capacity: &mut [u64],
+)
+    requires { ⌜ UpTo256 (now sites) × Chained (now one) (now two) (now last) (now before) × Limited (now one) (now capacity) ⌝ }
     ensures { λ _. ⌜ now (capacity .exit) ≡ cutFirst (now (one .entry)) (now (two .entry)) (now (sites .entry)) (now (capacity .entry)) ⌝ }
 {
     for i in 0..sites.len() {
-        cut(sites[i], one, two, capacity);
+        cut(sites[i], last, before, one, two, capacity);
     }
 }
 
@@ -110,12 +167,15 @@ fn reversed(n: usize, order: [usize; 256]) -> [usize; 256]
 
 // Cuts the capacities along an order of the sites, and back against it.
 fn cut_both_ways(n: usize, order: [usize; 256], one: &[usize], two: &[usize], capacity: &mut [u64])
-    requires { ⌜ (n ≤ 256) × Limited (now one) (now two) (now capacity) ⌝ }
+    requires { ⌜ (n ≤ 256) × UpTo256 (take n order) × Placed (now one) (now two) × Limited (now one) (now capacity) ⌝ }
     ensures { λ _. ⌜ now (capacity .exit) ≡ cutFirst (now (one .entry)) (now (two .entry)) (take n order ++ reverse (take n order)) (now (capacity .entry)) ⌝ }
 {
     let back = reversed(n, order);
-    cut_along(&order[..n], one, two, capacity);
-    cut_along(&back[..n], one, two, capacity);
+    let chains = chain(one, two);
+    let last = chains.last;
+    let before = chains.before;
+    cut_along(&order[..n], &last, &before, one, two, capacity);
+    cut_along(&back[..n], &last, &before, one, two, capacity);
 }
 
 // Balances the capacities of an offered tree into a lent list.

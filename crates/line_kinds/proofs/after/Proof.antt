@@ -1,5 +1,4 @@
 -- `after` meets its contract: the bytes up to the end are all bytes.
-use mathlib.Core.Path.{_≡_}
 use Prim.Native.Nat.{_+_, _-_}
 use lib.ListN.{length, drop, length-drop}
 use lib.Seq.{take-all}

@@ -1,5 +1,5 @@
 -- `classify` meets its contract: field by field.
-use mathlib.Core.Path.{_≡_, sym, _∙_}
+use mathlib.Core.Path.{sym, _∙_}
 use Rattle.line_kinds.specs.LineKinds.{kind}
 use Rattle.line_kinds.specs.LineKindLaws.{field-length-within, last-field, split-at-tab, one-field-is-a-fault}
 use native.Mathlib.Omega.{arith}

@@ -1,5 +1,5 @@
 -- `is_link` meets its contract: test by test, as the definition.
-use mathlib.Core.Path.{_≡_, sym, _∙_}
+use mathlib.Core.Path.{sym, _∙_}
 use borrow.Author.Tests.{not-true, not-false}
 use Rattle.line_kinds.specs.LineKinds.{isLink}
 use borrow.Author.Needs.{needs}

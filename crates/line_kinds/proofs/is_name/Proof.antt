@@ -1,5 +1,4 @@
 -- `is_name` meets its contract: test by test, as the definition.
-use mathlib.Core.Path.{_≡_}
 use borrow.Author.Tests.{le-leb, lt-leb}
 use Rattle.line_kinds.specs.LineKinds.{isName}
 use borrow.Author.Needs.{needs}

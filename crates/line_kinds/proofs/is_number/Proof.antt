@@ -1,5 +1,5 @@
 -- `is_number` meets its contract: test by test, as a number is (`number-is`).
-use mathlib.Core.Path.{_≡_, sym, _∙_}
+use mathlib.Core.Path.{sym, _∙_}
 use mathlib.Core.Bool.{or-false, or-true}
 use borrow.Author.Tests.{eq-eqb, ne-eqb, not-true, not-false}
 use Rattle.line_kinds.specs.LineKindLaws.{number-is, number-has-a-digit}

@@ -1,5 +1,5 @@
 -- `more_fields` meets its contract: field by field.
-use mathlib.Core.Path.{_≡_, sym, _∙_}
+use mathlib.Core.Path.{sym, _∙_}
 use Rattle.line_kinds.specs.LineKindLaws.{field-length-within, last-field, split-at-tab, three-fields-are-a-fault, five-fields-are-a-fault}
 use native.Mathlib.Omega.{arith}
 use borrow.Author.Needs.{needs}

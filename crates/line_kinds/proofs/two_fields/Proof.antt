@@ -1,6 +1,6 @@
 -- `two_fields` meets its contract: test by test, as the definition; a line that starts with `N` is no heading.
 use mathlib.Core.List.{List, [], _∷_}
-use mathlib.Core.Path.{_≡_, sym, _∙_}
+use mathlib.Core.Path.{sym, _∙_}
 use Prim.Native.Nat.{ℕ}
 use borrow.Author.Tests.{not-true, not-false}
 use Rattle.line_kinds.specs.LineKinds.{same, kindOf, isHeading, isSite, isLink}

@@ -1,5 +1,5 @@
 -- `up_to` meets its contract.
-use mathlib.Core.Path.{_≡_, sym}
+use mathlib.Core.Path.{sym}
 use lib.Seq.{length-take-le}
 use borrow.Author.Needs.{needs}
 use Rattle.line_kinds.proofs.up_to.Statement.{statement}

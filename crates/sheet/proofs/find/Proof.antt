@@ -1,5 +1,5 @@
 -- `find` meets its contract. The invariant: the name is looked up among the sites from place i on.
-use mathlib.Core.Path.{_≡_, refl, sym, _∙_}
+use mathlib.Core.Path.{_≡_, sym, _∙_}
 use Prim.Native.Nat.{_≤_, _+_, _-_}
 use native.Mathlib.Nat.{sub-zero}
 use lib.ListN.{getD}

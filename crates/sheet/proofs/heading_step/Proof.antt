@@ -1,5 +1,4 @@
 -- `heading_step` meets its contract: case by case.
-use mathlib.Core.Path.{_≡_}
 use Rattle.sheet.specs.Steps.{headingStep}
 use borrow.Author.Needs.{needs}
 use Rattle.sheet.proofs.heading_step.Statement.{statement}

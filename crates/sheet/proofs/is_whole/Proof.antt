@@ -1,10 +1,10 @@
 -- `is_whole` meets its contract. The invariant: all sites are alike just if those from site x on are.
-use mathlib.Core.Path.{_≡_, sym, _∙_}
+use mathlib.Core.Path.{_≡_, _∙_}
 use Prim.Native.Nat.{_≤_, _+_, _-_}
 use borrow.Author.Tests.{eq-eqb, ne-eqb, le-leb, lt-leb}
 use Rattle.network.specs.Numbers.{upfrom}
 use Rattle.sheet.specs.Steps.{alike}
-use Rattle.sheet.specs.StepLaws.{alike-step, alike-end}
+use Rattle.sheet.specs.LabelLaws.{alike-step, alike-end}
 use native.Mathlib.Omega.{arith}
 use Rattle.sheet.proofs.is_whole.Statement.{statement}
 use Rattle.sheet.proofs.is_whole.Tie as tie

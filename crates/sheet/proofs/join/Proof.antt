@@ -1,11 +1,11 @@
 -- `join` meets its contract. The invariant: the places passed are relabelled, and the others are as they were.
 use mathlib.Core.List.{List}
-use mathlib.Core.Path.{_≡_, refl, sym, ap, _∙_}
+use mathlib.Core.Path.{_≡_, refl, ap, _∙_}
 use Prim.Native.Nat.{ℕ, _≤_, _-_}
 use lib.ListN.{length}
 use Rattle.network.specs.Numbers.{look}
 use Rattle.network.specs.Network.{relabel}
-use Rattle.sheet.specs.StepLaws.{partly, partly-at, partly-step, partly-all, length-partly}
+use Rattle.sheet.specs.ListLaws.{partly, partly-at, partly-step, partly-all, length-partly}
 use native.Mathlib.Omega.{arith}
 use borrow.Author.Needs.{needs}
 use Rattle.sheet.proofs.join.Statement.{statement}

@@ -3,7 +3,7 @@ use mathlib.Core.Path.{_≡_, sym, _∙_}
 use Prim.Native.Nat.{_≤_}
 use borrow.Author.Tests.{eq-eqb, ne-eqb}
 use Rattle.sheet.specs.Sheet.{lookup}
-use Rattle.sheet.specs.Steps.{ranges}
+use Rattle.sheet.specs.Steps.{ranges, linkStep}
 use Rattle.sheet.specs.StepLaws.{length-ranges, found-is-a-site}
 use Rattle.sheet.specs.declared.Found.the-variants.{At}
 use native.Mathlib.Omega.{arith}
@@ -37,6 +37,7 @@ enum-told : tie.Need-enum-told
 enum-told c = search needs
 
 returns : tie.Need-returns
+unfolding linkStep
 returns c = rw (sym (c .before .before .find .ensures) ∙ c .enum-told .given .1)
 
 find-requires-2 : tie.Need-find-requires-2
@@ -49,6 +50,7 @@ enum-told-2 : tie.Need-enum-told-2
 enum-told-2 c = search needs
 
 returns-2 : tie.Need-returns-2
+unfolding linkStep
 returns-2 c = rw (first (c .before .before .before), sym (c .before .before .find2 .ensures) ∙ c .enum-told2 .given .1)
 
 mul-if1 : tie.Need-mul-if1
@@ -64,9 +66,11 @@ shared-slice-read-if1-2 : tie.Need-shared-slice-read-if1-2
 shared-slice-read-if1-2 c = omega (arith, second-site (c .before .before))
 
 returns-3 : tie.Need-returns-3
+unfolding linkStep
 returns-3 c = rw (first (c .before .before .before .before .before .before .before), second (c .before .before .before), eq-eqb _ _ (c .if1 .taken))
 
 returns-4 : tie.Need-returns-4
+unfolding linkStep
 returns-4 c = rw (first (c .before .before .before .before .before .before .before), second (c .before .before .before), ne-eqb _ _ (c .if1 .left))
 
 pub link-step-spec : {M : Type 1} → statement M

@@ -4,7 +4,7 @@ use Prim.Native.Nat.{ℕ, _≤_, _<_, _-_}
 use lib.ListN.{length, length-set}
 use borrow.Author.Count.{below-none}
 use Rattle.network.specs.Numbers.{look}
-use Rattle.sheet.specs.StepLaws.{own-labels, own-place}
+use Rattle.sheet.specs.LabelLaws.{own-labels, own-place}
 use native.Mathlib.Omega.{arith}
 use Rattle.sheet.proofs.own_labels.Statement.{statement}
 use Rattle.sheet.proofs.own_labels.Tie as tie

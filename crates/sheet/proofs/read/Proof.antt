@@ -1,5 +1,4 @@
 -- `read` meets its contract: the length first, then the lines.
-use mathlib.Core.Path.{_≡_}
 use borrow.Author.Tests.{le-leb, lt-leb}
 use Rattle.sheet.specs.Sheet.{readSheet}
 use borrow.Author.Needs.{needs}

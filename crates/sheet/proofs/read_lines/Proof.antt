@@ -1,10 +1,10 @@
 -- `read_lines` meets its contract: every turn takes one line from those left to those read (`Progress`).
-use mathlib.Core.Path.{_≡_, sym, ap, _∙_}
+use mathlib.Core.Path.{sym, ap, _∙_}
 use Prim.Native.Nat.{_<_, _+_, _-_}
 use lib.ListN.{length}
 use borrow.Author.Tests.{not-true, not-false}
 use Rattle.lines.specs.LineLaws.{line-ends-on-sheet}
-use Rattle.sheet.specs.Reading.{lists, reading}
+use Rattle.sheet.specs.Reading.{reading}
 use Rattle.sheet.proofs.Progress.{Progress, start, lengths, by-heading, site-fits, by-site, link-fits, by-link, by-refusal, by-parts, by-acceptance}
 use native.Mathlib.Omega.{arith}
 use borrow.Author.Needs.{needs}
@@ -12,23 +12,21 @@ use Rattle.sheet.proofs.read_lines.Statement.{statement}
 use Rattle.sheet.proofs.read_lines.Tie as tie
 
 abbrev Inv-loop : tie.InvT-loop
-Inv-loop sheet start₀ end₀ one₀ two₀ capacity₀ labels₀ sites₀ links₀ at₀ number₀ start end one two capacity labels sites links at number =
-    Progress sheet start end one two capacity labels sites links at number
+Inv-loop sheet net₀ labels₀ at₀ number₀ net labels at number = Progress sheet net labels at number
 
 abbrev μ-loop : tie.MeasureT-loop
-μ-loop sheet start₀ end₀ one₀ two₀ capacity₀ labels₀ sites₀ links₀ at₀ number₀ start end one two capacity labels sites links at number =
-    length sheet - at
+μ-loop sheet net₀ labels₀ at₀ number₀ net labels at number = length sheet - at
 
 -- the next line is later
-less : (c : tie.After-line-end Inv-loop μ-loop) → let s = c .before .before .before .before .before .before .before .before .before .before .before .before .before .before .before .args .sheet .now in length s - (c .line-end .result + 1) < length s - c .before .before .before .before .before .before .loop .at
-less c = omega (arith, line-ends-on-sheet (c .before .before .before .before .before .before .before .before .before .before .before .before .before .before .before .args .sheet .now) (c .before .before .before .before .before .before .loop .at), c .line-end .ensures)
+less : (c : tie.After-line-end Inv-loop μ-loop) → let s = c .before .before .before .before .before .before .before .before .before .before .before .before .before .args .sheet .now in length s - (c .line-end .result + 1) < length s - c .before .before .before .before .before .before .before .before .before .loop .at
+less c = omega (arith, line-ends-on-sheet (c .before .before .before .before .before .before .before .before .before .before .before .before .before .args .sheet .now) (c .before .before .before .before .before .before .before .before .before .loop .at), c .line-end .ensures)
 
 -- there is room for a site, and for a link and its labels
-site-room : (c : tie.After-known-told2 Inv-loop μ-loop) → c .before .before .before .before .before .before .before .before .before .loop .sites < 256
-site-room c = site-fits (c .before .before .before .before .before .before .before .before .before .loop .inv) (c .before .before .before .before .step-at .result) (c .before .before .before .before .before .before .before .before .loop-test .taken) (c .before .before .before .before .step-at .ensures) _ _ (c .before .step2 .given .1)
+site-room : (c : tie.After-known-told2 Inv-loop μ-loop) → c .before .before .before .before .before .before .before .before .before .before .before .before .loop .net .sites < 256
+site-room c = site-fits (c .before .before .before .before .before .before .before .before .before .before .before .before .loop .inv) (c .before .before .before .before .step-at .result) (c .before .before .before .before .before .before .before .before .before .before .before .loop-test .taken) (c .before .before .before .before .step-at .ensures) _ _ (c .before .step2 .given .1)
 
-link-room : (c : tie.After-known-told3 Inv-loop μ-loop) → (c .before .before .before .before .before .before .before .before .before .loop .links < 256) × (c .before .step3 .given .0 .0 < 257) × (c .before .step3 .given .0 .1 .0 < 257)
-link-room c = link-fits (c .before .before .before .before .before .before .before .before .before .loop .inv) (c .before .before .before .before .step-at .result) (c .before .before .before .before .before .before .before .before .loop-test .taken) (c .before .before .before .before .step-at .ensures) _ _ _ (c .before .step3 .given .1)
+link-room : (c : tie.After-known-told3 Inv-loop μ-loop) → (c .before .before .before .before .before .before .before .before .before .before .before .before .loop .net .links < 256) × (c .before .step3 .given .0 .0 < 257) × (c .before .step3 .given .0 .1 .0 < 257)
+link-room c = link-fits (c .before .before .before .before .before .before .before .before .before .before .before .before .loop .inv) (c .before .before .before .before .step-at .result) (c .before .before .before .before .before .before .before .before .before .before .before .loop-test .taken) (c .before .before .before .before .step-at .ensures) _ _ _ (c .before .step3 .given .1)
 
 nothing-requires : tie.Need-nothing-requires Inv-loop μ-loop
 nothing-requires c κs = search needs
@@ -37,26 +35,19 @@ own-labels-requires : tie.Need-own-labels-requires Inv-loop μ-loop
 own-labels-requires c κs = search needs
 
 loop-holds : tie.Need-loop-holds Inv-loop μ-loop
-unfolding lists
-loop-holds c = rw (c .before .before .before .before .before .before .nothing .ensures, c .own-labels .ensures) (start (c .before .before .before .before .before .before .before .before .args .sheet .now))
+loop-holds c = rw (c .before .nothing .ensures, c .own-labels .ensures) (start (c .before .before .before .args .sheet .now))
 
 slice-aggregate-step-at : tie.Need-slice-aggregate-step-at Inv-loop μ-loop
-slice-aggregate-step-at c = omega (arith, lengths (c .before .before .loop .inv))
-
-slice-aggregate-step-at-2 : tie.Need-slice-aggregate-step-at-2 Inv-loop μ-loop
-slice-aggregate-step-at-2 c = omega (arith, lengths (c .before .before .before .loop .inv))
-
-slice-aggregate-step-at-3 : tie.Need-slice-aggregate-step-at-3 Inv-loop μ-loop
-slice-aggregate-step-at-3 c = omega (arith, lengths (c .before .before .before .before .loop .inv))
+slice-aggregate-step-at c = omega (arith, lengths (c .before .before .before .before .before .before .before .loop .inv))
 
 step-at-requires : tie.Need-step-at-requires Inv-loop μ-loop
-step-at-requires c κs = omega (arith, lengths (c .before .before .before .before .loop .inv))
+step-at-requires c κs = omega (arith, lengths (c .before .before .before .before .before .before .before .loop .inv))
 
 line-end-requires : tie.Need-line-end-requires Inv-loop μ-loop
 line-end-requires c κs = search needs
 
 add-at : tie.Need-add-at Inv-loop μ-loop
-add-at c = omega (arith, line-ends-on-sheet (c .before .before .before .before .before .before .before .before .before .before .before .before .before .before .before .args .sheet .now) (c .before .before .before .before .before .before .loop .at), c .line-end .ensures)
+add-at c = omega (arith, line-ends-on-sheet (c .before .before .before .before .before .before .before .before .before .before .before .before .before .args .sheet .now) (c .before .before .before .before .before .before .before .before .before .loop .at), c .line-end .ensures)
 
 add-number : tie.Need-add-number Inv-loop μ-loop
 add-number c = omega arith
@@ -69,7 +60,7 @@ refusal-requires c κs = search needs
 
 returns : tie.Need-returns Inv-loop μ-loop
 returns c =
-    c .refusal .ensures ∙ ap reading (sym (by-refusal (c .before .before .before .before .before .before .before .before .before .before .loop .inv) (c .before .before .before .before .before .step-at .result) (c .before .before .before .before .before .before .before .before .before .loop-test .taken) (c .before .before .before .before .before .step-at .ensures) _ (c .before .before .step .given .1)))
+    c .refusal .ensures ∙ ap reading (sym (by-refusal (c .before .before .before .before .before .before .before .before .before .before .before .before .before .loop .inv) (c .before .before .before .before .before .step-at .result) (c .before .before .before .before .before .before .before .before .before .before .before .before .loop-test .taken) (c .before .before .before .before .before .step-at .ensures) _ (c .before .before .step .given .1)))
 
 enum-told : tie.Need-enum-told Inv-loop μ-loop
 enum-told c = search needs
@@ -79,69 +70,69 @@ loop-less c = less (c .before .before)
 
 loop-again : tie.Need-loop-again Inv-loop μ-loop
 loop-again c =
-    rw (c .before .before .line-end .ensures) (by-heading (c .before .before .before .before .before .before .before .before .loop .inv) (c .before .before .before .step-at .result) (c .before .before .before .before .before .before .before .loop-test .taken) (c .before .before .before .step-at .ensures) (c .enum-told .given .1))
+    rw (c .before .before .line-end .ensures) (by-heading (c .before .before .before .before .before .before .before .before .before .before .before .loop .inv) (c .before .before .before .step-at .result) (c .before .before .before .before .before .before .before .before .before .before .loop-test .taken) (c .before .before .before .step-at .ensures) (c .enum-told .given .1))
 
 enum-known-step-2 : tie.Need-enum-known-step-2 Inv-loop μ-loop
 enum-known-step-2 c = search needs
 
-mul-start : tie.Need-mul-start Inv-loop μ-loop
-mul-start c = omega (arith, site-room c)
+mul-net : tie.Need-mul-net Inv-loop μ-loop
+mul-net c = omega (arith, site-room c)
 
-array-write-start : tie.Need-array-write-start Inv-loop μ-loop
-array-write-start c = site-room c
+element-write-net : tie.Need-element-write-net Inv-loop μ-loop
+element-write-net c = site-room c
 
-mul-end : tie.Need-mul-end Inv-loop μ-loop
-mul-end c = omega (arith, site-room c)
+mul-net-2 : tie.Need-mul-net-2 Inv-loop μ-loop
+mul-net-2 c = omega (arith, site-room c)
 
-array-write-end : tie.Need-array-write-end Inv-loop μ-loop
-array-write-end c = site-room c
+element-write-net-2 : tie.Need-element-write-net-2 Inv-loop μ-loop
+element-write-net-2 c = site-room c
 
-add-sites : tie.Need-add-sites Inv-loop μ-loop
-add-sites c = omega (arith, site-room c)
+add-net : tie.Need-add-net Inv-loop μ-loop
+add-net c = omega (arith, site-room c)
 
 loop-less-2 : tie.Need-loop-less-2 Inv-loop μ-loop
 loop-less-2 c = less (c .before .before .before)
 
 loop-again-2 : tie.Need-loop-again-2 Inv-loop μ-loop
 loop-again-2 c =
-    rw (c .before .before .before .line-end .ensures) (by-site (c .before .before .before .before .before .before .before .before .before .loop .inv) (c .before .before .before .before .step-at .result) (c .before .before .before .before .before .before .before .before .loop-test .taken) (c .before .before .before .before .step-at .ensures) _ _ (c .before .step2 .given .1))
+    rw (c .before .before .before .line-end .ensures) (by-site (c .before .before .before .before .before .before .before .before .before .before .before .before .loop .inv) (c .before .before .before .before .step-at .result) (c .before .before .before .before .before .before .before .before .before .before .before .loop-test .taken) (c .before .before .before .before .step-at .ensures) _ _ (c .before .step2 .given .1))
 
 enum-known-step-3 : tie.Need-enum-known-step-3 Inv-loop μ-loop
 enum-known-step-3 c = search needs
 
-mul-one : tie.Need-mul-one Inv-loop μ-loop
-mul-one c = omega (arith, link-room c)
+mul-net-3 : tie.Need-mul-net-3 Inv-loop μ-loop
+mul-net-3 c = omega (arith, link-room c)
 
-array-write-one : tie.Need-array-write-one Inv-loop μ-loop
-array-write-one c = link-room c .0
+element-write-net-3 : tie.Need-element-write-net-3 Inv-loop μ-loop
+element-write-net-3 c = link-room c .0
 
-mul-two : tie.Need-mul-two Inv-loop μ-loop
-mul-two c = omega (arith, link-room c)
+mul-net-4 : tie.Need-mul-net-4 Inv-loop μ-loop
+mul-net-4 c = omega (arith, link-room c)
 
-array-write-two : tie.Need-array-write-two Inv-loop μ-loop
-array-write-two c = link-room c .0
+element-write-net-4 : tie.Need-element-write-net-4 Inv-loop μ-loop
+element-write-net-4 c = link-room c .0
 
-mul-capacity : tie.Need-mul-capacity Inv-loop μ-loop
-mul-capacity c = omega (arith, link-room c)
+mul-net-5 : tie.Need-mul-net-5 Inv-loop μ-loop
+mul-net-5 c = omega (arith, link-room c)
 
-array-write-capacity : tie.Need-array-write-capacity Inv-loop μ-loop
-array-write-capacity c = link-room c .0
+element-write-net-5 : tie.Need-element-write-net-5 Inv-loop μ-loop
+element-write-net-5 c = link-room c .0
 
-add-links : tie.Need-add-links Inv-loop μ-loop
-add-links c = omega (arith, link-room c)
+add-net-2 : tie.Need-add-net-2 Inv-loop μ-loop
+add-net-2 c = omega (arith, link-room c)
 
 slice-aggregate-join : tie.Need-slice-aggregate-join Inv-loop μ-loop
-slice-aggregate-join c = omega (arith, lengths (c .before .before .before .before .before .before .before .before .before .before .loop .inv))
+slice-aggregate-join c = omega (arith, lengths (c .before .before .before .before .before .before .before .before .before .before .before .before .before .loop .inv))
 
 join-requires : tie.Need-join-requires Inv-loop μ-loop
-join-requires c κs = omega (arith, link-room (c .before), lengths (c .before .before .before .before .before .before .before .before .before .before .loop .inv))
+join-requires c κs = omega (arith, link-room (c .before), lengths (c .before .before .before .before .before .before .before .before .before .before .before .before .before .loop .inv))
 
 loop-less-3 : tie.Need-loop-less-3 Inv-loop μ-loop
 loop-less-3 c = less (c .before .before .before .before .before .before)
 
 loop-again-3 : tie.Need-loop-again-3 Inv-loop μ-loop
 loop-again-3 c =
-    rw (c .before .before .before .before .before .before .line-end .ensures) (by-link (c .before .before .before .before .before .before .before .before .before .before .before .before .loop .inv) (c .before .before .before .before .before .before .before .step-at .result) (c .before .before .before .before .before .before .before .before .before .before .before .loop-test .taken) (c .before .before .before .before .before .before .before .step-at .ensures) _ _ _ (c .before .before .before .before .step3 .given .1) _ (c .before .join .ensures))
+    rw (c .before .before .before .before .before .before .line-end .ensures) (by-link (c .before .before .before .before .before .before .before .before .before .before .before .before .before .before .before .loop .inv) (c .before .before .before .before .before .before .before .step-at .result) (c .before .before .before .before .before .before .before .before .before .before .before .before .before .before .loop-test .taken) (c .before .before .before .before .before .before .before .step-at .ensures) _ _ _ (c .before .before .before .before .step3 .given .1) _ (c .before .join .ensures))
 
 slice-aggregate-is-whole : tie.Need-slice-aggregate-is-whole Inv-loop μ-loop
 slice-aggregate-is-whole c = omega (arith, lengths (c .before .before .loop .inv))
@@ -170,8 +161,6 @@ read-lines-spec =
     own-labels-requires
     loop-holds
     slice-aggregate-step-at
-    slice-aggregate-step-at-2
-    slice-aggregate-step-at-3
     step-at-requires
     line-end-requires
     add-at
@@ -183,21 +172,21 @@ read-lines-spec =
     loop-less
     loop-again
     enum-known-step-2
-    mul-start
-    array-write-start
-    mul-end
-    array-write-end
-    add-sites
+    mul-net
+    element-write-net
+    mul-net-2
+    element-write-net-2
+    add-net
     loop-less-2
     loop-again-2
     enum-known-step-3
-    mul-one
-    array-write-one
-    mul-two
-    array-write-two
-    mul-capacity
-    array-write-capacity
-    add-links
+    mul-net-3
+    element-write-net-3
+    mul-net-4
+    element-write-net-4
+    mul-net-5
+    element-write-net-5
+    add-net-2
     slice-aggregate-join
     join-requires
     loop-less-3

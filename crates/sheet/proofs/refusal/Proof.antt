@@ -1,5 +1,4 @@
 -- `refusal` meets its contract: it is the definition.
-use mathlib.Core.Path.{_≡_}
 use Rattle.sheet.specs.Reading.{reading}
 use borrow.Author.Needs.{needs}
 use Rattle.sheet.proofs.refusal.Statement.{statement}

@@ -1,5 +1,5 @@
 -- `relabel` meets its contract: it is the definition.
-use mathlib.Core.Path.{_≡_, sym}
+use mathlib.Core.Path.{sym}
 use Rattle.network.specs.Network.{relabel}
 use Rattle.theory.specs.Sums.{pick-same, pick-other}
 use Rattle.sheet.proofs.relabel.Statement.{statement}

@@ -1,5 +1,5 @@
 -- `site_step` meets its contract: the limit first, then the look-up.
-use mathlib.Core.Path.{_≡_, sym, _∙_}
+use mathlib.Core.Path.{sym, _∙_}
 use borrow.Author.Tests.{le-leb, lt-leb}
 use Rattle.sheet.specs.Steps.{siteStep}
 use Rattle.sheet.specs.StepLaws.{length-ranges}

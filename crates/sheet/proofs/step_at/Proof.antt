@@ -8,7 +8,7 @@ use Rattle.lines.specs.LineLaws.{line-stays-on-sheet}
 use Rattle.line_kinds.specs.LineKinds.{kind}
 use Rattle.line_kinds.specs.FormedLines.{Formed, kinds-are-formed}
 use Rattle.line_kinds.specs.declared.Line.{Line}
-use Rattle.sheet.specs.Steps.{ranges, linkStep, recordStep, stepAt}
+use Rattle.sheet.specs.Steps.{ranges, recordStep, stepAt}
 use Rattle.sheet.specs.StepLaws.{unended-step, first-step, later-step}
 use native.Mathlib.Omega.{arith}
 use borrow.Author.Needs.{needs}
@@ -105,7 +105,7 @@ unfolding recordStep
 returns-4 c = c .site-step .ensures ∙ sym (later (c .before .before .before .before) _ (c .before .before .kind .given .1))
 
 returns-5 : tie.Need-returns-5
-unfolding recordStep linkStep
+unfolding recordStep
 returns-5 c = rw (c .before .before .part .ensures, c .before .part2 .ensures) at (c .link-step .ensures) ∙ sym (later (c .before .before .before .before .before .before) _ (c .before .before .before .before .kind2 .given .1))
 
 returns-6 : tie.Need-returns-6

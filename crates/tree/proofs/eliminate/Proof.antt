@@ -2,7 +2,6 @@
 use mathlib.Core.Path.{sym, ap, _∙_}
 use borrow.Author.Tests.{not-true, not-false}
 use Rattle.network.specs.Edition.{edition1}
-use Rattle.tree.specs.declared.Elimination.{Elimination}
 use Rattle.tree.specs.declared.Offer.the-variants.{Accepted}
 use Rattle.tree.specs.Accepted.{TreeOf, no-tree-is-said, no-capacities-is-said, too-large-is-said, accepted-is-said}
 use Rattle.tree.specs.Elimination.{decide, eliminated}

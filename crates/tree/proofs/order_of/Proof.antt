@@ -1,14 +1,13 @@
 -- `tree::order_of` meets its contract: the loop takes the elimination order site by site.
-use mathlib.Core.Path.{_≡_, refl, sym, ap, _∙_}
+use mathlib.Core.Path.{_≡_}
 use mathlib.Core.Logic.{⊎-elim}
-use Prim.Native.Nat.{ℕ, _+_, _-_, _≤_, _<_}
+use Prim.Native.Nat.{_-_, _≤_}
 use native.Mathlib.Omega.{arith}
-use lib.ListN.{length}
 use Rattle.network.specs.Numbers.{look}
 use Rattle.network.specs.Network.{Site}
 use Rattle.tree.specs.Offer.{links}
 use Rattle.tree.specs.Steps.{Behind}
-use Rattle.tree.proofs.Going.{Going, Over, farEnd, going-start, proper-ends, over, next-over, next-alone, all-taken, none-found}
+use Rattle.tree.proofs.Going.{Going, Over, going-start, proper-ends, over, next-over, next-alone, all-taken, none-found}
 use Rattle.tree.proofs.Search.{behind-start, behind-alone, behind-over}
 use Rattle.tree.proofs.order_of.Statement.{statement}
 use Rattle.tree.proofs.order_of.Tie as tie

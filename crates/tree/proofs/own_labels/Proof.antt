@@ -3,6 +3,7 @@ use mathlib.Core.Path.{_≡_, refl, ap, _∙_}
 use mathlib.Core.List.{map-id}
 use Prim.Native.Nat.{_≤_, _-_}
 use native.Mathlib.Omega.{arith}
+use lib.ListN.{replicate}
 use Rattle.network.specs.Numbers.{upfrom}
 use Rattle.tree.specs.Places.{filled, filled-none, filled-next, filled-all}
 use Rattle.tree.proofs.own_labels.Statement.{statement}
@@ -19,8 +20,8 @@ next c = (omega arith, filled-next (λ x. x) (c .before .loop .x) _ (omega arith
 
 at-end : tie.Need-returns Inv-loop μ-loop
 at-end c =
-    let x : c .before .loop .x ≡ 257 = omega arith in
-    c .before .loop .inv .1 ∙ ap (λ x. filled (λ x. x) x _) x ∙ filled-all (λ x. x) 257 _ refl ∙ map-id (upfrom 0 257)
+    let all : c .before .loop .x ≡ 257 = omega arith in
+    c .before .loop .inv .1 ∙ ap (λ x. filled (λ x. x) x (replicate 257 0)) all ∙ filled-all (λ x. x) 257 (replicate 257 0) refl ∙ map-id (upfrom 0 257)
 
 pub own-labels-spec : {M : Type 1} → statement M
 own-labels-spec =

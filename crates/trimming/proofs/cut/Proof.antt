@@ -1,93 +1,112 @@
--- `trimming::cut` meets its contract: the list is filled from the front with the cut capacities, or stays at a terminal.
-use mathlib.Core.Path.{_≡_, refl, sym, ap, _∙_}
+-- `trimming::cut` meets its contract: along the chain every link at v is cut, and no other link changes; at a terminal none does.
+use mathlib.Core.Path.{_≡_, refl, sym, _∙_}
 use mathlib.Core.Logic.{_≢_}
-use Prim.Native.Nat.{ℕ, _+_, _-_, _≤_, _<_}
+use Prim.Native.Nat.{_-_}
 use native.Mathlib.Omega.{arith}
-use lib.ListN.{length, length-set}
+use lib.ListN.{length}
 use Rattle.network.specs.Numbers.{look}
 use Rattle.network.specs.Network.{at, sumAt, leaf}
 use Rattle.network.specs.Trimming.{cutAt}
 use Rattle.theory.specs.Sums.{is-same, is-one}
+use Rattle.theory.specs.Cutting.{cutAt-away}
 use Rattle.tree.specs.Offer.{links}
-use Rattle.tree.specs.Links.{length-links, links-at-site}
-use Rattle.tree.specs.Places.{filled, filled-none, filled-next, filled-here, length-filled}
+use Rattle.tree.specs.Links.{length-links}
+use Rattle.trimming.specs.Steps.{lastAt}
 use Rattle.trimming.proofs.Laws.{at-most-all, cut-inner, cut-filled, cut-none}
+use Rattle.trimming.proofs.Chaining.{On, on-last, last-le, last-none, walk-goes-on, CutFrom, cut-start, cut-next, cut-end}
 use Rattle.trimming.proofs.cut.Statement.{statement}
 use Rattle.trimming.proofs.cut.Tie as tie
 
 abbrev Inv-loop : tie.InvT-loop
-Inv-loop v one two capacity₀ sum j₀ j-end capacity j =
-    (j ≤ length one) × (length capacity ≡ length capacity₀)
-    × (capacity ≡ filled (cutAt (links one two) (leaf (links one two)) v (look capacity₀)) j capacity₀)
+Inv-loop v last before one two capacity₀ sum p₀ capacity p =
+    On (links one two) v (length one) p × CutFrom (cutAt (links one two) (leaf (links one two)) v (look capacity₀)) (length one) p capacity₀ capacity
 
 abbrev μ-loop : tie.MeasureT-loop
-μ-loop v one two capacity₀ sum j₀ j-end capacity j = length one - j
-
--- what is known of the loop from before it: v is no terminal, and the sum is that of the links at v
-known : (t : tie.At-loop Inv-loop μ-loop) →
-    let a = t .before .before .before .before .before .before .before .before .args in
-    let ls = links (a .one .now) (a .two .now) in
-    (leaf ls (a .v) ≢ 1) × (t .before .before .before .at-site .result .capacity ≡ sumAt ls (a .v) (look (a .capacity .now)))
-unfolding leaf
-known t = (λ e. t .before .if1 .left (t .before .before .before .at-site .ensures .0 ∙ is-one e), t .before .before .before .at-site .ensures .1)
-
--- the link at hand: whether it is at v, and its capacity
-link : (c : tie.After-slice-known2 Inv-loop μ-loop) →
-    let t = c .before .before .before .before .before in
-    let a = t .before .before .before .before .before .before .before .before .args in
-    (c .before .at-link .result ≡ at (links (a .one .now) (a .two .now)) (a .v) (t .loop .j)) × (look (t .loop .capacity) (t .loop .j) ≡ look (a .capacity .now) (t .loop .j))
-link c =
-    let t = c .before .before .before .before .before in
-    let a = t .before .before .before .before .before .before .before .before .args in
-    let ls = links (a .one .now) (a .two .now) in (
-      c .before .at-link .ensures ∙ sym (links-at-site (a .one .now) (a .two .now) (a .v) (t .loop .j) (omega arith) (omega arith)),
-      filled-here (cutAt ls (leaf ls) (a .v) (look (a .capacity .now))) (t .loop .j) (a .capacity .now) (t .loop .inv .2),
-    )
+μ-loop v last before one two capacity₀ sum p₀ capacity p = p
 
 terminal : tie.Need-returns Inv-loop μ-loop
 unfolding leaf
 terminal c =
     let s = c .before .before .before .before .before .before .before in
-    cut-none (s .args .one .now) (s .args .two .now) (s .pre .seconds) (s .args .v) (s .args .capacity .now) (s .pre .places)
+    cut-none (s .args .one .now) (s .args .two .now) (s .pre .1 .placed .seconds) (s .args .v) (s .args .capacity .now) (s .pre .2 .places)
     (is-same (sym (c .before .before .at-site .ensures .0) ∙ c .if1 .taken))
 
 start : tie.Need-loop-holds Inv-loop μ-loop
-start c = (omega arith, refl, filled-none _ _)
+start c =
+    let s = c .before .before .before .before .before .before .before .before in
+    let a = s .args in
+    let ls = links (a .one .now) (a .two .now) in
+    let m = length (a .one .now) in
+    rw (s .pre .1 .lasts (a .v) (s .pre .0)) (
+      on-last ls (a .v) m m (omega arith),
+      cut-start _ m _ (a .capacity .now) (λ i k l. cutAt-away ls (leaf ls) (a .v) (look (a .capacity .now)) i (last-none ls (a .v) m i k l)),
+    )
 
-fits : tie.Need-cut-link-requires Inv-loop μ-loop
-fits c κs at-v =
-    let t = c .before .before .before .before .before in
-    let s = t .before .before .before .before .before .before .before .before in
-    let ls = links (s .args .one .now) (s .args .two .now) in
-    let l = link c in
+-- what is known from before the loop: v is no terminal, and the sum is that of the links at v
+known : (t : tie.At-loop Inv-loop μ-loop) →
+    let a = t .before .before .before .before .before .before .before .before .before .args in
+    let ls = links (a .one .now) (a .two .now) in
+    (leaf ls (a .v) ≢ 1) × (t .before .before .before .before .at-site .result .capacity ≡ sumAt ls (a .v) (look (a .capacity .now)))
+unfolding leaf
+known t = (λ e. t .before .before .if1 .left (t .before .before .before .before .at-site .ensures .0 ∙ is-one e), t .before .before .before .before .at-site .ensures .1)
+
+-- a link at v has no more than the sum
+fits : tie.Need-sub-lesser Inv-loop μ-loop
+fits c =
+    let t = c .before .before in
+    let s = t .before .before .before .before .before .before .before .before .before in
+    let a = s .args in
+    let ls = links (a .one .now) (a .two .now) in
+    let j = t .loop .p - 1 in
     omega (
       arith,
-      l .1,
+      t .loop .inv .1 .ahead j (omega arith),
       known t .1,
-      length-links (s .args .one .now) (s .args .two .now) (sym (s .pre .seconds)),
-      at-most-all ls (s .args .v) (look (s .args .capacity .now)) (t .loop .j) (omega (arith, length-links (s .args .one .now) (s .args .two .now) (sym (s .pre .seconds)))) (sym (l .0) ∙ at-v),
+      at-most-all ls (a .v) (look (a .capacity .now)) j (omega (arith, length-links (a .one .now) (a .two .now) (sym (s .pre .1 .placed .seconds)))) (t .loop .inv .0 .1 (c .before .loop-test .taken)),
     )
+
+-- the link before
+back : (c : tie.After-link-before Inv-loop μ-loop) → let t = c .before .before .before .before in
+    let a = t .before .before .before .before .before .before .before .before .before .args in
+    c .link-before .result ≡ lastAt (links (a .one .now) (a .two .now)) (t .loop .p - 1) (a .v)
+back c =
+    let t = c .before .before .before .before in
+    let s = t .before .before .before .before .before .before .before .before .before in
+    walk-goes-on (s .pre .1) (s .args .v) (t .loop .p - 1) (c .link-before .result) (omega arith) (t .loop .inv .0 .1 (c .before .before .before .loop-test .taken)) (c .link-before .ensures)
+
+falls : tie.Need-loop-less Inv-loop μ-loop
+falls c =
+    let t = c .before .before .before .before in
+    let a = t .before .before .before .before .before .before .before .before .before .args in
+    omega (arith, back c, last-le (links (a .one .now) (a .two .now)) (a .v) (t .loop .p - 1))
 
 next : tie.Need-loop-again Inv-loop μ-loop
 next c =
-    let t = c .before .before .before .before .before .before in
-    let a = t .before .before .before .before .before .before .before .before .args in
+    let t = c .before .before .before .before in
+    let s = t .before .before .before .before .before .before .before .before .before in
+    let a = s .args in
     let ls = links (a .one .now) (a .two .now) in
-    let l = link (c .before) in
-    let k = known t in (
-      omega arith,
-      simp length-set (t .loop .inv .1),
-      filled-next (cutAt ls (leaf ls) (a .v) (look (a .capacity .now))) (t .loop .j) (a .capacity .now) (omega arith) (t .loop .inv .2)
-          (c .cut-link .ensures ∙ cut-inner ls (a .v) (look (a .capacity .now)) (t .loop .j) (k .0) (l .0) (l .1) (k .1)),
+    let j = t .loop .p - 1 in
+    let k = known t in
+    let r = last-le ls (a .v) j in
+    let here = t .loop .inv .0 .1 (c .before .before .before .loop-test .taken) in
+    rw (back c) (
+      on-last ls (a .v) (length (a .one .now)) j (omega arith),
+      cut-next (t .loop .inv .1) (omega arith) (omega arith) (s .pre .2 .places)
+          (c .before .lesser .ensures ∙ cut-inner ls (a .v) (look (a .capacity .now)) j (k .0) here (t .loop .inv .1 .ahead j (omega arith)) (k .1))
+          (omega arith)
+          (λ i h l. cutAt-away ls (leaf ls) (a .v) (look (a .capacity .now)) i (last-none ls (a .v) j i h l)),
     )
 
 at-end : tie.Need-returns-2 Inv-loop μ-loop
 at-end c =
-    let s = c .before .before .before .before .before .before .before .before .before in
-    let ls = links (s .args .one .now) (s .args .two .now) in
-    let all : c .before .loop .j ≡ length (s .args .one .now) = omega arith in
-    c .before .loop .inv .2 ∙ ap (λ j. filled (cutAt ls (leaf ls) (s .args .v) (look (s .args .capacity .now))) j (s .args .capacity .now)) all
-    ∙ cut-filled (s .args .one .now) (s .args .two .now) (s .pre .seconds) (s .args .v) (s .args .capacity .now)
+    let t = c .before in
+    let s = t .before .before .before .before .before .before .before .before .before in
+    let a = s .args in
+    let ls = links (a .one .now) (a .two .now) in
+    let none : t .loop .p ≡ 0 = omega arith in
+    cut-end (cutAt ls (leaf ls) (a .v) (look (a .capacity .now))) (length (a .one .now)) (a .capacity .now) (t .loop .capacity) (s .pre .2 .places) (rw none at (t .loop .inv .1))
+    ∙ cut-filled (a .one .now) (a .two .now) (s .pre .1 .placed .seconds) (a .v) (a .capacity .now)
 
 pub cut-spec : {M : Type 1} → statement M
 cut-spec =
@@ -98,19 +117,20 @@ cut-spec =
     (λ c κs. c .before .before .before .before .pre)
     (λ c. refl)
     terminal
+    (λ c. omega arith)
+    (λ c. omega arith)
     start
     (λ c. omega arith)
     (λ c. omega arith)
-    (λ c. omega arith)
-    (λ c. omega arith)
+    (λ c. omega (arith, c .before .before .loop .inv .1 .long))
+    fits
     (λ c κs. tt)
     (λ c. omega arith)
     (λ c. omega arith)
-    fits
+    (λ c. omega (arith, c .before .before .before .loop .inv .1 .long))
     (λ c. omega arith)
-    (λ c. omega arith)
-    (λ c. omega arith)
-    (λ c. omega arith)
+    (λ c κs. let f = c .before .before .before .before .before .before .before .before .before .before .before .before .pre .1 .placed in (omega arith, omega arith, omega arith))
+    falls
     next
-    (λ c. omega arith)
+    (λ c. c .before .loop .inv .1 .long)
     at-end)

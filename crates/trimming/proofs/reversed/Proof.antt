@@ -2,7 +2,7 @@
 use mathlib.Core.Path.{_≡_, refl, ap, _∙_}
 use Prim.Native.Nat.{_≤_, _-_}
 use native.Mathlib.Omega.{arith}
-use lib.ListN.{take}
+use lib.ListN.{take, replicate}
 use Rattle.network.specs.Numbers.{look}
 use Rattle.tree.specs.Places.{filled, filled-none, filled-next}
 use Rattle.trimming.proofs.Laws.{take-filled-reverse}
@@ -25,7 +25,7 @@ at-end : tie.Need-returns Inv-loop μ-loop
 at-end c =
     let a = c .before .before .args in
     let all : c .before .loop .i ≡ a .n = omega arith in
-    ap (take (a .n)) (c .before .loop .inv .1 ∙ ap (λ i. filled (λ k. look (a .t2) (a .n - 1 - k)) i _) all) ∙ take-filled-reverse (a .n) (a .t2) _ (omega arith)
+    ap (take (a .n)) (c .before .loop .inv .1 ∙ ap (λ i. filled (λ k. look (a .t2) (a .n - 1 - k)) i (replicate 256 0)) all) ∙ take-filled-reverse (a .n) (a .t2) (replicate 256 0) (omega arith)
 
 pub reversed-spec : {M : Type 1} → statement M
 reversed-spec =

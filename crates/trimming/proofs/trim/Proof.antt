@@ -6,12 +6,13 @@ use borrow.Author.Needs.{needs}
 use borrow.Author.Tests.{le-leb, lt-leb}
 use lib.ListN.{length, take}
 use Rattle.network.specs.Edition.{edition1}
-use Rattle.tree.specs.Offer.{offer}
+use Rattle.network.specs.Trimming.{elimination}
+use Rattle.tree.specs.Offer.{links, offer}
 use Rattle.tree.specs.declared.Offer.the-variants.{Accepted}
 use Rattle.tree.specs.Accepted.{TreeWithin, accepted-is-a-tree-within-the-limits, eliminated-says, eliminated-in-order}
 use Rattle.trimming.specs.Steps.{cutFirst}
 use Rattle.trimming.specs.Outcome.{decide, answer, after, trimmed}
-use Rattle.trimming.proofs.Laws.{copied-limited, both-ways-balance}
+use Rattle.trimming.proofs.Laws.{offer-placed, order-up-to, copied-limited, both-ways-balance}
 use Rattle.trimming.proofs.trim.Statement.{statement}
 use Rattle.trimming.proofs.trim.Tie as tie
 
@@ -37,6 +38,11 @@ tree : (c : tie.After-enum-told3) → let a = c .before .before .before .before 
 tree c = let a = c .before .before .before .before .before .before .before .before .args in
     accepted-is-a-tree-within-the-limits edition1 (a .n) (a .one .now) (a .two .now) (a .capacity .now) (accepted c)
 
+order : (c : tie.After-enum-told3) → let a = c .before .before .before .before .before .before .before .before .args in
+    take (a .n) (c .before .before .before .eliminate .result .sites) ≡ elimination (links (a .one .now) (a .two .now)) (a .n)
+order c = let a = c .before .before .before .before .before .before .before .before .args in
+    ap (λ r. take (a .n) (r .sites)) (c .before .before .before .eliminate .ensures) ∙ eliminated-in-order (a .n) (a .one .now) (a .two .now) (a .capacity .now) (accepted c)
+
 short : tie.Need-returns
 unfolding answer decide trimmed after
 short c =
@@ -46,8 +52,13 @@ short c =
 
 limited : tie.Need-cut-both-ways-requires
 limited c κs =
-    let t = tree (c .before .before .before .before .before .before) in
-    (omega (arith, t .few), rw (c .before .before .before .copy .ensures) (copied-limited t _ (c .before .before .before .before .before .if1 .left)))
+    let e = c .before .before .before .before .before .before in
+    let t = tree e in (
+      omega (arith, t .few),
+      rw (order e) (order-up-to t),
+      offer-placed t,
+      rw (c .before .before .before .copy .ensures) (copied-limited t _ (c .before .before .before .before .before .if1 .left)),
+    )
 
 balanced : tie.Need-returns-4
 unfolding answer decide trimmed after
@@ -55,12 +66,10 @@ balanced c =
     let e = c .before .before .before .before .before .before .before .before .before in
     let a = e .before .before .before .before .before .before .before .before .args in
     let room = c .before .before .before .before .before .before .before .before .if1 .left in
-    let enough = le-leb (length (a .one .now)) (length (a .lent .now)) room in
-    let order = ap (λ r. take (a .n) (r .sites)) (e .before .before .before .eliminate .ensures)
-    ∙ eliminated-in-order (a .n) (a .one .now) (a .two .now) (a .capacity .now) (accepted e) in (
+    let enough = le-leb (length (a .one .now)) (length (a .lent .now)) room in (
       rw (accepted e, enough) refl,
       rw (accepted e, enough) (c .before .before .cut-both-ways .ensures
-          ∙ ap₂ (λ o l. cutFirst (a .one .now) (a .two .now) (o ++ reverse o) l) order (c .before .before .before .before .before .before .copy .ensures)
+          ∙ ap₂ (λ o l. cutFirst (a .one .now) (a .two .now) (o ++ reverse o) l) (order e) (c .before .before .before .before .before .before .copy .ensures)
           ∙ both-ways-balance (tree e) (a .lent .now) room),
     )
 

@@ -1,0 +1,70 @@
+-- What a visit of the walk is given, and what it leaves in the arrays of its three lists.
+-- Document 01, "Pairing", steps 1 to 4.
+use mathlib.Core.Path.{_≡_}
+use mathlib.Core.List.{List, [], _∷_}
+use Prim.Native.Nat.{ℕ, _+_, _*_, _≤_}
+use lib.ListN.{length, take}
+use Rattle.network.specs.Numbers.{look}
+use Rattle.network.specs.Network.{Site, leaf}
+use Rattle.network.specs.Trimming.{Balanced}
+use Rattle.network.specs.Pairing.{Part, walk, pairs}
+use Rattle.network.specs.declared.Pair.{Pair}
+use Rattle.network.specs.Edition.{edition1}
+use Rattle.tree.specs.Offer.{links}
+use Rattle.tree.specs.Accepted.{TreeWithin}
+use Rattle.walk.specs.Children.{size}
+use Rattle.walk.specs.Walk.{Start}
+use Rattle.decomposition.specs.declared.Tops.{Tops}
+use Rattle.decomposition.specs.declared.Decomposed.{Decomposed}
+use Rattle.decomposition.specs.Arrays.{flat, flatPairs, Added}
+
+-- the walk over a tree that is offered as lists, whose terminals are the sites with one link
+abbrev pub walkOf : ℕ → List ℕ → List ℕ → List ℕ → ℕ → ℕ → ℕ → ℕ → ℕ → Part
+walkOf n one two c fuel v j up down = walk (links one two) n (look c) (leaf (links one two)) fuel v j up down
+
+-- the lists of a part are added to the three arrays
+pub record Visited (w : Part) (u d p : List ℕ) (b : Tops) (x y z : List ℕ) (r : Tops) : Type 0 where
+  pub ups : Added u (b .ups) x (r .ups) (flat (w .ups))
+  pub downs : Added d (b .downs) y (r .downs) (flat (w .downs))
+  pub pairs : Added p (b .pairs) z (r .pairs) (flatPairs (w .pairs))
+
+-- site v of a tree with balanced capacities, as the walk comes to it, with room in the arrays for all the sites below it
+pub record Visit (n : ℕ) (one two c : List ℕ) (fuel v j up down : ℕ) (u d p : List ℕ) (b : Tops) : Type 0 where
+  pub tree : TreeWithin edition1 n one two c
+  pub balanced : Balanced (links one two) (leaf (links one two)) (look c)
+  pub site : Site n v
+  pub start : Start (links one two) (look c) (leaf (links one two)) j v up down
+  pub fuelled : size (links one two) n j v ≤ fuel
+  pub ups-room : b .ups + 2 * size (links one two) n j v ≤ length u
+  pub downs-room : b .downs + 2 * size (links one two) n j v ≤ length d
+  pub pairs-room : b .pairs + 3 * size (links one two) n j v ≤ length p
+
+-- ---- the whole walk
+
+-- a tree within the limits, with balanced capacities
+pub record Walkable (n : ℕ) (one two c : List ℕ) : Type 0 where
+  pub tree : TreeWithin edition1 n one two c
+  pub balanced : Balanced (links one two) (leaf (links one two)) (look c)
+
+-- the pairs of a tree that is offered as lists, in the order in which the walk makes them
+abbrev pub pairsOf : ℕ → List ℕ → List ℕ → List ℕ → List Pair
+pairsOf n one two c = pairs (links one two) n (look c)
+
+-- the pairs that numbers spell
+unfoldable pub spelled : List ℕ → List Pair
+spelled [] = []
+spelled (x ∷ []) = []
+spelled (x ∷ y ∷ []) = []
+spelled (x ∷ y ∷ a ∷ l) = record { first = x; second = y; amount = a } ∷ spelled l
+
+-- the numbers of a list below place e spell pairs, 256 at most
+pub record Spells (l : List ℕ) (e : ℕ) : Type 0 where
+  pub few : e ≤ 768
+  pub inside : e ≤ length l
+  pub whole : take e l ≡ flatPairs (spelled (take e l))
+
+-- the pairs es stand in the first places of a list of 256
+pub record Listing (es : List Pair) (r : Decomposed) : Type 0 where
+  pub counted : r .count ≡ length es
+  pub places : length (r .list) ≡ 256
+  pub held : take (r .count) (r .list) ≡ es

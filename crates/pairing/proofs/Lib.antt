@@ -1,0 +1,4 @@
+pub mod Searching
+pub mod Working
+pub mod Values
+pub mod Lending

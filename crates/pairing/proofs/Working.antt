@@ -1,0 +1,82 @@
+-- A refusal has nothing to store, a decomposition the pairs of the tree, no more than there are links; and storing them leaves the lent list as the definition says.
+use mathlib.Core.Path.{_≡_, refl, sym, ap, _∙_}
+use mathlib.Core.Logic.{if-pos}
+use mathlib.Core.List.{List, [], _++_}
+use Prim.Native.Nat.{ℕ, _≤_, min}
+use native.Mathlib.Omega.{arith}
+use native.Mathlib.Decide.{decLe}
+use lib.Seq.{length-take-le}
+use lib.ListN.{length, take, drop}
+use Rattle.network.specs.Numbers.{look}
+use Rattle.network.specs.Edition.{edition1}
+use Rattle.network.specs.Network.{leaf}
+use Rattle.network.specs.Trimming.{Balanced}
+use Rattle.network.specs.Pairing.{pairs, pairList, ordered}
+use Rattle.network.specs.declared.Pair.{Pair}
+use Rattle.tree.specs.Offer.{links}
+use Rattle.tree.specs.Links.{length-links}
+use Rattle.tree.specs.Accepted.{TreeWithin}
+use Rattle.walk.specs.PairingTheorem.{pairs-are-sound}
+use Rattle.pairlist.specs.PairList.{stored}
+use Rattle.pairlist.specs.Laws.{ordering-keeps-length}
+use Rattle.pairing.specs.declared.Pairing.{Pairing}
+use Rattle.pairing.specs.declared.Pairing.the-variants.{NoTree, TooLarge, Short, Heavy, Pairs}
+use Rattle.pairing.specs.declared.Work.{Work}
+use Rattle.pairing.specs.Outcome.{answer, pairCount, after, paired}
+use Rattle.pairing.specs.Storing.{toStore, Worked}
+use Rattle.pairing.specs.Promise.{balanced-capacities-are-paired}
+
+module _ (n : ℕ) (one two c : List ℕ) (places : ℕ) where
+  -- an answer that is no success, and a count of 0
+  pub refusal-works : (w : Work) (a : Pairing) → (w .answer ≡ a) × (w .count ≡ 0) → answer n one two c places ≡ a → pairCount a ≡ 0 → ((ps : List Pair) → toStore a ps ≡ [])
+      → Worked n one two c places w
+  refusal-works w a r said count none = record {
+    said = r .0 ∙ sym said;
+    counted = r .1 ∙ sym count ∙ ap pairCount (sym (r .0));
+    listed = rw (r .0, r .1) (sym (none (pairs (links one two) n (look c))));
+    few = omega (arith, r .1);
+    fits = omega (arith, r .1);
+  }
+
+  -- the pairs of an accepted tree with balanced capacities
+  module _ (t : TreeWithin edition1 n one two c) (B : Balanced (links one two) (leaf (links one two)) (look c)) (enough : length one ≤ places) (w : Work)
+      (made : take (w .count) (w .list) ≡ pairs (links one two) n (look c)) (few : w .count ≤ 255) (full : length (w .list) ≡ 256) where
+    number : length (pairs (links one two) n (look c)) ≡ w .count
+    number = sym (ap length made) ∙ length-take-le (w .count) (w .list) (omega arith)
+
+    says-pairs : answer n one two c places ≡ Pairs (w .count)
+    unfolding pairList
+    says-pairs = balanced-capacities-are-paired t B places enough ∙ ap Pairs (ordering-keeps-length (pairs (links one two) n (look c)) ∙ number)
+
+    pub decomposition-works : w .answer ≡ Pairs (w .count) → Worked n one two c places w
+    unfolding pairCount toStore
+    decomposition-works e = record {
+      said = e ∙ sym says-pairs;
+      counted = rw e refl;
+      listed = rw e made;
+      few = omega arith;
+      fits = omega (arith, pairs-are-sound (t .tree) (look c) B .few, number, length-links one two (omega (arith, t .firsts, t .seconds)));
+    }
+
+-- ---- storing
+
+stored-fits : (list l : List Pair) (count : ℕ) → count ≤ min (length list) (length l) → stored list count l ≡ ordered (take count list) ++ drop count l
+unfolding stored
+stored-fits list l count h = if-pos (decLe count (min (length list) (length l))) h _ _
+
+after-storing : (a : Pairing) (ps l : List Pair) → ordered (toStore a ps) ++ drop (pairCount a) l ≡ after a (ordered ps) l
+unfolding toStore pairCount after ordered
+after-storing NoTree ps l = refl
+after-storing TooLarge ps l = refl
+after-storing Short ps l = refl
+after-storing Heavy ps l = refl
+after-storing (Pairs count) ps l = refl
+
+-- stored in a list of so many places, they leave it as the definition says
+pub work-is-stored : (n : ℕ) (one two c : List ℕ) (l : List Pair) (w : Work) → Worked n one two c (length l) w → length (w .list) ≡ 256
+    → stored (w .list) (w .count) l ≡ paired n one two c l
+unfolding paired pairList
+work-is-stored n one two c l w h full =
+    stored-fits (w .list) l (w .count) (omega (arith, h .few, h .fits))
+    ∙ rw (h .listed, h .counted) (after-storing (w .answer) (pairs (links one two) n (look c)) l)
+    ∙ ap (λ a. after a (ordered (pairs (links one two) n (look c))) l) (h .said)

@@ -1,0 +1,4 @@
+pub mod Outcome
+pub mod Storing
+pub mod Heavy
+pub mod Promise

@@ -1,0 +1,92 @@
+-- The outcome of pairing: what is said of an offered tree, the lent list after it, and document 01's number.
+-- Document 01, "Pairing" (what is said, in its order; the pair list) and "Plans, trimmed sizes, end sets" (heavy).
+use mathlib.Core.Bool.{Bool, true, false, cond, _&&_, _||_}
+use mathlib.Core.List.{List, [], _∷_, _++_}
+use Prim.Native.Nat.{ℕ}
+use lib.Dec.{eqb, leb, ltb}
+use lib.ListN.{length, drop, replicate}
+use Rattle.network.specs.Numbers.{look, upfrom}
+use Rattle.network.specs.Edition.{edition1}
+use Rattle.network.specs.Network.{Links, sites, at, others, leaf}
+use Rattle.network.specs.Pairing.{pairList}
+use Rattle.network.specs.declared.Pair.{Pair}
+use Rattle.pairlist.specs.PairList.{noPair}
+use Rattle.tree.specs.Offer.{links, offer}
+use Rattle.tree.specs.declared.Offer.{Offer}
+use Rattle.tree.specs.declared.Offer.the-variants as offered
+use Rattle.pairing.specs.declared.Pairing.{Pairing}
+use Rattle.pairing.specs.declared.Pairing.the-variants.{NoTree, TooLarge, Short, Heavy, Pairs}
+
+-- ---- a heavy link
+
+-- some number of a list passes a test
+unfoldable pub any : (ℕ → Bool) → List ℕ → Bool
+any test [] = false
+any test (x ∷ xs) = test x || any test xs
+
+-- link j is at v, and larger than all other links at v together (01: heavy)
+unfoldable pub isHeavy : Links → (ℕ → ℕ) → ℕ → ℕ → Bool
+isHeavy ls t v j = eqb (at ls v j) 1 && ltb (others ls v j t) (t j)
+
+-- v is an inner site with a heavy link
+unfoldable pub heavyAt : Links → (ℕ → ℕ) → ℕ → Bool
+heavyAt ls t v = cond (eqb (leaf ls v) 1) false (any (isHeavy ls t v) (upfrom 0 (length ls)))
+
+-- some inner site has a heavy link (01: a link heavy at some joint)
+unfoldable pub heavySomewhere : Links → ℕ → (ℕ → ℕ) → Bool
+heavySomewhere ls n t = any (heavyAt ls t) (sites n)
+
+-- ---- what is said
+
+-- of the offer first, then whether the lent list has a place for each link, then of a heavy link; else how many pairs there are
+unfoldable pub decide : Offer → Bool → Bool → ℕ → Pairing
+decide offered.NoTree enough heavy count = NoTree
+decide offered.TooLarge enough heavy count = TooLarge
+decide offered.Accepted false heavy count = Short
+decide offered.Accepted true true count = Heavy
+decide offered.Accepted true false count = Pairs count
+
+-- what is said of an offer with so many lent places
+unfoldable pub answer : ℕ → List ℕ → List ℕ → List ℕ → ℕ → Pairing
+answer n one two c places =
+    let ls = links one two in
+    decide (offer edition1 n one two c) (leb (length one) places) (heavySomewhere ls n (look c)) (length (pairList ls n (look c)))
+
+-- ---- the lent list after
+
+-- the pairs and then its own places past their count, or its own places where something else is said
+unfoldable pub after : Pairing → List Pair → List Pair → List Pair
+after NoTree ps lent = lent
+after TooLarge ps lent = lent
+after Short ps lent = lent
+after Heavy ps lent = lent
+after (Pairs count) ps lent = ps ++ drop count lent
+
+unfoldable pub paired : ℕ → List ℕ → List ℕ → List ℕ → List Pair → List Pair
+paired n one two c lent = after (answer n one two c (length lent)) (pairList (links one two) n (look c)) lent
+
+-- 256 places without a pair
+unfoldable pub noPairs : List Pair
+noPairs = replicate 256 noPair
+
+-- ---- document 01's numbers
+
+-- 9 for a lent list with fewer places than links. It has none for an offer that is no tree or too large, nor for a heavy link, where numbers are 0,
+-- and success is 0; the line is always 0
+unfoldable pub number : Pairing → ℕ
+number NoTree = 0
+number TooLarge = 0
+number Short = 9
+number Heavy = 0
+number (Pairs count) = 0
+
+unfoldable pub line : Pairing → ℕ
+line a = 0
+
+-- how many pairs there are, 0 where something else is said
+unfoldable pub pairCount : Pairing → ℕ
+pairCount NoTree = 0
+pairCount TooLarge = 0
+pairCount Short = 0
+pairCount Heavy = 0
+pairCount (Pairs count) = count

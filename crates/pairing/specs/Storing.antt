@@ -1,0 +1,29 @@
+-- What is worked out before anything is stored: the answer, and the pairs to store.
+use mathlib.Core.Path.{_≡_}
+use mathlib.Core.List.{List, []}
+use Prim.Native.Nat.{ℕ, _≤_}
+use lib.ListN.{take}
+use Rattle.network.specs.Numbers.{look}
+use Rattle.network.specs.Pairing.{pairs}
+use Rattle.network.specs.declared.Pair.{Pair}
+use Rattle.tree.specs.Offer.{links}
+use Rattle.pairing.specs.declared.Pairing.{Pairing}
+use Rattle.pairing.specs.declared.Pairing.the-variants.{NoTree, TooLarge, Short, Heavy, Pairs}
+use Rattle.pairing.specs.declared.Work.{Work}
+use Rattle.pairing.specs.Outcome.{answer, pairCount}
+
+-- the pairs to store: all of them, or none where something else is said
+unfoldable pub toStore : Pairing → List Pair → List Pair
+toStore NoTree ps = []
+toStore TooLarge ps = []
+toStore Short ps = []
+toStore Heavy ps = []
+toStore (Pairs count) ps = ps
+
+-- the answer, and in the first places of the list the pairs to store, for which there is room
+pub record Worked (n : ℕ) (one two c : List ℕ) (places : ℕ) (w : Work) : Type 0 where
+  pub said : w .answer ≡ answer n one two c places
+  pub counted : w .count ≡ pairCount (w .answer)
+  pub listed : take (w .count) (w .list) ≡ toStore (w .answer) (pairs (links one two) n (look c))
+  pub few : w .count ≤ 256
+  pub fits : w .count ≤ places

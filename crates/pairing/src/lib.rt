@@ -1,0 +1,145 @@
+// What is said of an offered tree whose capacities are to be paired, and its pair list.
+use network::Pair;
+use tree::Offer;
+ghost use mathlib.Core.Path.{_≡_};
+ghost use mathlib.Core.Bool.{_&&_};
+ghost use Prim.Native.Nat.{suc, _-_, _≤_};
+ghost use lib.Dec.{eqb, ltb};
+ghost use lib.ListN.{length};
+ghost use Rattle.network.specs.Numbers.{look};
+ghost use Rattle.tree.specs.Offer.{links};
+ghost use Rattle.decomposition.specs.Given.{Accepted};
+ghost use Rattle.pairing.specs.Outcome.{heavyAt, heavySomewhere, answer, paired, noPairs};
+ghost use Rattle.pairing.specs.Storing.{Worked};
+
+// What is said of an offered tree whose balanced capacities are to be decomposed into pairs.
+pub enum Pairing {
+    // no tree of two or more sites within the limits
+    NoTree,
+    // a capacity above the limit
+    TooLarge,
+    // fewer lent places than links
+    Short,
+    // a link that is larger than all other links of an inner site together
+    Heavy,
+    // the first places hold the pairs, this many
+    Pairs { count: usize },
+}
+
+// Whether a link of capacity t, at the site or not, is larger than the other links there have of the sum.
+fn is_heavy(at: u64, t: u64, sum: u64) -> bool
+    requires { ⌜ (at ≡ 1 → t ≤ sum) ⌝ }
+    ensures { λ r. ⌜ r ≡ (eqb at 1 && ltb (sum - t) t) ⌝ }
+{
+    if at != 1 {
+        return false;
+    }
+    sum - t < t
+}
+
+// Whether v is an inner site with a heavy link.
+fn heavy_at(v: usize, one: &[usize], two: &[usize], capacity: &[u64]) -> bool
+    requires { ⌜ Accepted (now one) (now two) (now capacity) ⌝ }
+    ensures { λ r. ⌜ r ≡ heavyAt (links (now (one .entry)) (now (two .entry))) (look (now (capacity .entry))) v ⌝ }
+{
+    let site = decomposition::at_site(v, one, two, capacity);
+    if site.links == 1 {
+        return false;
+    }
+    let sum = site.capacity;
+    for j in 0..one.len() {
+        if is_heavy(tree::at_link(one[j], two[j], v), capacity[j], sum) {
+            return true;
+        }
+    }
+    false
+}
+
+// Whether some inner site has a heavy link.
+fn heavy(n: usize, one: &[usize], two: &[usize], capacity: &[u64]) -> bool
+    requires { ⌜ (n ≡ suc (length (now one))) × Accepted (now one) (now two) (now capacity) ⌝ }
+    ensures { λ r. ⌜ r ≡ heavySomewhere (links (now (one .entry)) (now (two .entry))) n (look (now (capacity .entry))) ⌝ }
+{
+    for v in 1..n + 1 {
+        if heavy_at(v, one, two, capacity) {
+            return true;
+        }
+    }
+    false
+}
+
+// What there is to say and to store: the first `count` pairs of the list, in the order in which they are made.
+struct Work {
+    answer: Pairing,
+    list: [Pair; 256],
+    count: usize,
+}
+
+// A refusal, with nothing to store.
+fn refused(answer: Pairing) -> Work
+    ensures { λ r. ⌜ (r .answer ≡ answer) × (r .count ≡ 0) ⌝ }
+{
+    let none = Pair {
+        first: 0,
+        second: 0,
+        amount: 0,
+    };
+    Work {
+        answer,
+        list: [none; 256],
+        count: 0,
+    }
+}
+
+// What is said of an offer with so many lent places, and the pairs to store there.
+fn work_out(n: usize, one: &[usize], two: &[usize], capacity: &[u64], places: usize) -> Work
+    ensures { λ r. ⌜ Worked n (now (one .entry)) (now (two .entry)) (now (capacity .entry)) places r ⌝ }
+{
+    match tree::test(n, one, two, capacity) {
+        Offer::NoTree => refused(Pairing::NoTree),
+        Offer::TooLarge => refused(Pairing::TooLarge),
+        Offer::Accepted => {
+            if places < one.len() {
+                return refused(Pairing::Short);
+            }
+            if heavy(n, one, two, capacity) {
+                return refused(Pairing::Heavy);
+            }
+            let made = decomposition::decompose(n, one, two, capacity);
+            let list = made.list;
+            let count = made.count;
+            Work {
+                answer: Pairing::Pairs { count },
+                list,
+                count,
+            }
+        }
+    }
+}
+
+// Decomposes the balanced capacities of an offered tree into pairs, in order, in a lent list.
+pub fn pair_up(n: usize, one: &[usize], two: &[usize], capacity: &[u64], pairs: &mut [Pair]) -> Pairing
+    ensures { λ r. ⌜ (r ≡ answer n (now (one .entry)) (now (two .entry)) (now (capacity .entry)) (length (now (pairs .entry)))) × (now (pairs .exit) ≡ paired n (now (one .entry)) (now (two .entry)) (now (capacity .entry)) (now (pairs .entry))) ⌝ }
+{
+    let done = work_out(n, one, two, capacity, pairs.len());
+    pairlist::store(pairs, done.list, done.count);
+    done.answer
+}
+
+// The pair list of an offered tree by value, in a list of 256 places; pairs of zeros past its count.
+pub struct PairList {
+    pub answer: Pairing,
+    pub list: [Pair; 256],
+}
+
+pub fn pair_list(n: usize, one: &[usize], two: &[usize], capacity: &[u64]) -> PairList
+    ensures { λ r. ⌜ (r .answer ≡ answer n (now (one .entry)) (now (two .entry)) (now (capacity .entry)) 256) × (r .list ≡ paired n (now (one .entry)) (now (two .entry)) (now (capacity .entry)) noPairs) ⌝ }
+{
+    let mut list = [Pair {
+        first: 0,
+        second: 0,
+        amount: 0,
+    }; 256];
+    let answer = pair_up(n, one, two, capacity, &mut list);
+    PairList { answer, list }
+}

@@ -1,0 +1,11 @@
+// Plans the sheet on standard input: writes its report, or the line of its refusal, to standard output.
+use libc::{STDIN_FILENO, STDOUT_FILENO};
+
+// One byte more than a sheet may have is enough to see that it has too many.
+fn main() {
+    let mut sheet = [0u8; 16385];
+    let n = io::read_full(STDIN_FILENO, &mut sheet);
+    let mut answer = io::large_buffer();
+    let length = planner::answer(&sheet[..n], &mut answer);
+    io::write_all(STDOUT_FILENO, &answer[..length]);
+}

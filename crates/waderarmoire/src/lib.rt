@@ -1,0 +1,25 @@
+// The planner as a library for other languages.
+use planner::Outcome;
+ghost use mathlib.Core.Path.{_≡_};
+ghost use Rattle.network.specs.Edition.{edition1};
+ghost use Rattle.planner.specs.Outcome.{planned};
+ghost use Rattle.waderarmoire.specs.Packed.{packed};
+
+// An outcome as one number: the refusal's number times 2^40, its line times 2^20, and the report's length.
+fn pack(outcome: Outcome) -> u64
+    ensures { λ r. ⌜ r ≡ packed outcome ⌝ }
+{
+    match outcome {
+        Outcome::Report { length } => length as u64 % 1048576,
+        Outcome::Refused { number, line } => number % 4096 * 1099511627776 + line as u64 % 1048576 * 1048576,
+    }
+}
+
+// Plans a sheet into the caller's buffer, as planner::plan does, and tells the outcome as one number.
+#[no_mangle]
+pub extern "C" fn waderarmoire_plan(sheet: &[u8], report: &mut [u8]) -> u64
+    ensures told { λ r. ⌜ r ≡ packed (planned edition1 (now (sheet .entry)) (now (report .entry)) .outcome) ⌝ }
+    ensures left { λ r. ⌜ now (report .exit) ≡ planned edition1 (now (sheet .entry)) (now (report .entry)) .buffer ⌝ }
+{
+    pack(planner::plan(sheet, report))
+}
