@@ -5,7 +5,7 @@ use libc::{STDIN_FILENO, STDOUT_FILENO};
 fn main() {
     let mut sheet = [0u8; 16385];
     let n = io::read_full(STDIN_FILENO, &mut sheet);
-    let mut answer = io::large_buffer();
-    let length = planner::answer(&sheet[..n], &mut answer);
-    io::write_all(STDOUT_FILENO, &answer[..length]);
+    let mut printed = io::large_buffer();
+    let length = planner::answer(&sheet[..n], &mut printed);
+    io::write_all(STDOUT_FILENO, &printed[..length]);
 }
