@@ -118,7 +118,13 @@ fn work_out(n: usize, one: &[usize], two: &[usize], capacity: &[u64], places: us
 }
 
 // Decomposes the balanced capacities of an offered tree into pairs, in order, in a lent list.
-pub fn pair_up(n: usize, one: &[usize], two: &[usize], capacity: &[u64], pairs: &mut [Pair]) -> Pairing
+pub fn pair_up(
+    n: usize,
+    one: &[usize],
+    two: &[usize],
+    capacity: &[u64],
+    pairs: &mut [Pair],
+) -> Pairing
     ensures { λ r. ⌜ (r ≡ answer n (now (one .entry)) (now (two .entry)) (now (capacity .entry)) (length (now (pairs .entry)))) × (now (pairs .exit) ≡ paired n (now (one .entry)) (now (two .entry)) (now (capacity .entry)) (now (pairs .entry))) ⌝ }
 {
     let done = work_out(n, one, two, capacity, pairs.len());

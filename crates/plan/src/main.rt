@@ -1,5 +1,6 @@
 // Plans the sheet on standard input: writes its report, or the line of its refusal, to standard output.
-use libc::{STDIN_FILENO, STDOUT_FILENO};
+use libc::STDIN_FILENO;
+use libc::STDOUT_FILENO;
 
 // One byte more than a sheet may have is enough to see that it has too many.
 fn main() {

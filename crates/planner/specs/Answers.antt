@@ -42,6 +42,7 @@ refused-stays s b k l e = by (readSheet edition1 s) e
         → (cond {A = Planned} t (record { outcome = Report (length r); buffer = r ++ drop (length r) b }) (record { outcome = Refused 9 0; buffer = b })) .buffer ≡ b
     within r true q = absurd (let z : _≡_ {A = ℕ} 0 1 = cc in omega arith)
     within r false q = refl
+
     by : (r : Read) → planRead s b r .outcome ≡ Refused k l → planRead s b r .buffer ≡ b
     by (refused n m) q = refl
     by (accepted net) q = within (report s net) (leb (length (report s net)) (length b)) q

@@ -99,7 +99,7 @@ module _ (s : List ℕ) (net : Network) (n : IsNetwork edition1 s net) where
         capacities-length = n .capacities ∙ sym o;
         trimmed-length = balanced-has-each-link (n .tree) (leaf ls) (net .capacities) ∙ sym o;
         named = λ j l. let k : j < length ls = omega arith in
-        rw (List·getD-map (λ l. l .0) ls j (0, 0), List·getD-map (λ l. l .1) ls j (0, 0)) (named-site (one ls j) (n .tree .ends j k .0), named-site (two ls j) (n .tree .ends j k .1));
+            rw (List·getD-map (λ l. l .0) ls j (0, 0), List·getD-map (λ l. l .1) ls j (0, 0)) (named-site (one ls j) (n .tree .ends j k .0), named-site (two ls j) (n .tree .ends j k .1));
       }
 
   -- ---- pairs
@@ -172,7 +172,7 @@ module _ (s : List ℕ) (net : Network) (n : IsNetwork edition1 s net) where
         few = omega (arith, pairs-are-few, links-are-few);
         held = held;
         named = λ i l. let named = pairs-join-named-sites (pairList ls size t) (sound .routes) i (omega (arith, ap length (works .paired), length-take-le (w .pairs) (w .list) held)) in
-        rw (← works .paired, getD-take (w .pairs) (w .list) i no-pair l) at named;
+            rw (← works .paired, getD-take (w .pairs) (w .list) i no-pair l) at named;
       };
       small = rw (works .paired) total-is-small;
     }

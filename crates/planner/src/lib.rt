@@ -23,13 +23,8 @@ use sheet::Network;
 
 // What planning comes to: a report of so many bytes, or a refusal with its number and line.
 pub enum Outcome {
-    Report {
-        length: usize,
-    },
-    Refused {
-        number: u64,
-        line: usize,
-    },
+    Report { length: usize },
+    Refused { number: u64, line: usize },
 }
 
 // What the planner works out of a network: the balanced capacities, 1 at the places of the terminals, the owner of each site, the size and count of
@@ -77,12 +72,8 @@ fn trimmed_of(n: usize, one: &[usize], two: &[usize], capacity: &[u64]) -> [u64;
 
 // The terminal cuts of a tree with its balanced capacities.
 fn cuts_of(n: usize, one: &[usize], two: &[usize], capacity: &[u64], trimmed: [u64; 256]) -> Cuts
-    requires {
-        ⌜ (offer edition1 n (now one) (now two) (now capacity) ≡ Accepted) × (take (length (now one)) trimmed ≡ capacities n (now one) (now two) (now capacity)) ⌝
-    }
-    ensures {
-        λ r. ⌜ r ≡ offeredCuts n (now (one .entry)) (now (two .entry)) (now (capacity .entry)) (capacities n (now (one .entry)) (now (two .entry)) (now (capacity .entry))) ⌝
-    }
+    requires { ⌜ (offer edition1 n (now one) (now two) (now capacity) ≡ Accepted) × (take (length (now one)) trimmed ≡ capacities n (now one) (now two) (now capacity)) ⌝ }
+    ensures { λ r. ⌜ r ≡ offeredCuts n (now (one .entry)) (now (two .entry)) (now (capacity .entry)) (capacities n (now (one .entry)) (now (two .entry)) (now (capacity .entry))) ⌝ }
 {
     let m = one.len();
     cuts::terminal_cuts(n, one, two, capacity, &trimmed[..m])
@@ -97,9 +88,7 @@ struct Paired {
 // The pair list of a tree with its balanced capacities.
 fn pairs_of(n: usize, one: &[usize], two: &[usize], trimmed: [u64; 256]) -> Paired
     requires { ⌜ PairsOf n (now one) (now two) trimmed ⌝ }
-    ensures {
-        λ r. ⌜ (take (r .pairs) (r .list) ≡ pairList (links (now (one .entry)) (now (two .entry))) n (look (take (length (now (one .entry))) trimmed))) × (r .pairs ≤ length (r .list)) ⌝
-    }
+    ensures { λ r. ⌜ (take (r .pairs) (r .list) ≡ pairList (links (now (one .entry)) (now (two .entry))) n (look (take (length (now (one .entry))) trimmed))) × (r .pairs ≤ length (r .list)) ⌝ }
 {
     let m = one.len();
     let found = pairing::pair_list(n, one, two, &trimmed[..m]);
@@ -191,10 +180,7 @@ fn deliver(sheet: &[u8], network: Network, worked: Worked, report: &mut [u8]) ->
 {
     let length = measure(sheet, network, worked);
     if report.len() < length {
-        return Outcome::Refused {
-            number: 9,
-            line: 0,
-        };
+        return Outcome::Refused { number: 9, line: 0 };
     }
     let written = write_plan(sheet, network, worked, report);
     Outcome::Report { length: written }

@@ -11,7 +11,8 @@ fn pack(outcome: Outcome) -> u64
 {
     match outcome {
         Outcome::Report { length } => length as u64 % 1048576,
-        Outcome::Refused { number, line } => number % 4096 * 1099511627776 + line as u64 % 1048576 * 1048576,
+        Outcome::Refused { number, line } => number % 4096 * 1099511627776
+            + line as u64 % 1048576 * 1048576,
     }
 }
 

@@ -233,8 +233,7 @@ module _ {M : Type 1} (𝓤 : URA M) (H : Heap 𝓤) (A : Atoms 𝓤) (W : Given
 
   pair-list-meets : Meets 𝓤 H A pair-list.signature (WpFn 𝓤 H (𝓣 .C) (𝓣 .Λ) code.function) (pair-list.spec 𝓤 H A mem run)
   pair-list-meets =
-      walk-meets 𝓤 H A pair-list.ended stayed W
-      (
+      walk-meets 𝓤 H A pair-list.ended stayed W (
         goes-dropped 𝓤 H A W 3 (plain (λ _. usize)) yes (λ κs x f. refl),
         (
           goes-dropped 𝓤 H A W 3 (shrSliceOf (0 ∷ []) tt (plain (λ _. usize))) yes (λ κs x f. refl),

@@ -222,8 +222,7 @@ module _ {M : Type 1} (𝓤 : URA M) (H : Heap 𝓤) (A : Atoms 𝓤) (W : Given
 
   pair-up-meets : Meets 𝓤 H A pair-up.signature (WpFn 𝓤 H (𝓣 .C) (𝓣 .Λ) code.function) (pair-up.spec 𝓤 H A mem run)
   pair-up-meets =
-      walk-meets 𝓤 H A pair-up.ended stayed W
-      (
+      walk-meets 𝓤 H A pair-up.ended stayed W (
         goes-dropped 𝓤 H A W 4 (plain (λ _. usize)) yes (λ κs x f. refl),
         (
           goes-dropped 𝓤 H A W 4 (shrSliceOf (0 ∷ []) tt (plain (λ _. usize))) yes (λ κs x f. refl),

@@ -25,8 +25,7 @@ returns c =
     let s = c .before .before .before .before .before .before .before .before .before .args in
     let p = c .before .before .before .before .before .plan .ensures in
     let e = sym (p .0) ∙ c .before .outcome .given .1 in
-    let a = a-report-is-printed (s .sheet .now) (s .buf .now) _ e in
-    (
+    let a = a-report-is-printed (s .sheet .now) (s .buf .now) _ e in (
       sym (ap (λ x. x .length) a),
       (p .1 ∙ sym (ap (λ x. x .buffer) a), λ h. rw (p .1) (a-report-is-within-the-buffer (s .sheet .now) (s .buf .now) _ e)),
     )
