@@ -18,6 +18,9 @@ path = (1, 2) ∷ (2, 3) ∷ (3, 4) ∷ []
 abbrev broom : Links
 broom = (1, 2) ∷ (1, 3) ∷ (1, 4) ∷ (2, 5) ∷ (2, 6) ∷ (2, 7) ∷ []
 
+abbrev twig : Links
+twig = (1, 2) ∷ (1, 3) ∷ (3, 4) ∷ (3, 5) ∷ (1, 6) ∷ []
+
 abbrev fork : Links
 fork = (1, 2) ∷ (1, 3) ∷ (1, 4) ∷ (2, 5) ∷ (2, 6) ∷ []
 
@@ -35,11 +38,14 @@ balanced-examples = refl
 list : Links → ℕ → List ℕ → List (ℕ × ℕ × ℕ)
 list ls n t = map (λ e. (e .first, e .second, e .amount)) (pairList ls n (look t))
 
--- the pairs (first, second, amount in halves) of star 1, 1, 1, of the fork, and of the broom of 1s, whose site 2 hands on the last halves of its children
+-- the pairs (first, second, amount in halves) of star 1, 1, 1, of the fork, and of the broom of 1s, whose site 2 hands on the last halves of its children;
+-- and of the twig, where another root than site 1 would give other pairs
 pair-examples :
     list star 4 (1 ∷ 1 ∷ 1 ∷ []) ∷ list fork 6 (2 ∷ 3 ∷ 3 ∷ 1 ∷ 1 ∷ [])
-    ∷ list broom 7 (1 ∷ 1 ∷ 1 ∷ 1 ∷ 1 ∷ 1 ∷ []) ∷ []
+    ∷ list broom 7 (1 ∷ 1 ∷ 1 ∷ 1 ∷ 1 ∷ 1 ∷ [])
+    ∷ list twig 6 (3 ∷ 2 ∷ 3 ∷ 3 ∷ 3 ∷ []) ∷ []
     ≡ ((2, 3, 1) ∷ (2, 4, 1) ∷ (3, 4, 1) ∷ []) ∷ ((3, 4, 4) ∷ (3, 5, 2) ∷ (4, 6, 2) ∷ [])
-    ∷ ((3, 4, 1) ∷ (3, 6, 1) ∷ (4, 6, 1) ∷ (5, 7, 2) ∷ []) ∷ []
+    ∷ ((3, 4, 1) ∷ (3, 6, 1) ∷ (4, 6, 1) ∷ (5, 7, 2) ∷ [])
+    ∷ ((2, 5, 2) ∷ (2, 6, 4) ∷ (4, 5, 4) ∷ (4, 6, 2) ∷ []) ∷ []
 unfolding list ℕ-discrete decLt pick is less sum at sumAt leaf put takeHalves dropHalves halves give match joins between children gather alone settle walk pairsFrom lowestInner pairs lowerFirst before insert ordered pairList
 pair-examples = refl
