@@ -14,20 +14,24 @@ use Rattle.network.specs.Network.{Links, sites}
 use Rattle.network.specs.Cuts.{inCut, ownerAmong}
 use Rattle.theory.specs.Sums.{pick-same, pick-other, is-same, is-other, cases, same?}
 use Rattle.theory.specs.Sites.{length-upfrom, look-values}
-use Rattle.bitset.specs.Members.{member}
 use Rattle.bitset.specs.Laws.{First}
-use Rattle.bitset.specs.declared.Set.{Set}
+use Rattle.tree.specs.Places.{same-values}
 use Rattle.cuts.specs.Steps.{claim}
 
+-- a cut is told by its places
+pub claims-same : (old : List ℕ) (cut cut′ : ℕ → ℕ) (a : ℕ) → ((i : ℕ) → cut i ≡ cut′ i) → map (claim old cut a) (upfrom 0 256) ≡ map (claim old cut′ a) (upfrom 0 256)
+unfolding claim
+claims-same old cut cut′ a e = same-values (claim old cut a) (claim old cut′ a) 256 (λ i h. rw (e i) refl)
+
 -- the owners are as they will be below p, and as they were from p up
-pub record Claiming (old : List ℕ) (cut : Set) (a p : ℕ) (owners : List ℕ) : Type 0 where
+pub record Claiming (old : List ℕ) (cut : ℕ → ℕ) (a p : ℕ) (owners : List ℕ) : Type 0 where
   pub long : length owners ≡ 256
   pub done : (i : ℕ) → i < p → look owners i ≡ claim old cut a i
   pub left : (i : ℕ) → p ≤ i → look owners i ≡ look old i
 
-module _ (old : List ℕ) (cut : Set) (a : ℕ) where
+module _ (old : List ℕ) (cut : ℕ → ℕ) (a : ℕ) where
   -- a place that the cut does not hold keeps its owner, and so does a place with one
-  claim-out : (i : ℕ) → member cut i ≢ 1 → look old i ≡ claim old cut a i
+  claim-out : (i : ℕ) → cut i ≢ 1 → look old i ≡ claim old cut a i
   unfolding claim
   claim-out i d = rw (pick-other d) (same? (look old i) 0 (λ e. rw (pick-same e) e) (λ n. sym (pick-other n _ _)))
 
@@ -35,14 +39,14 @@ module _ (old : List ℕ) (cut : Set) (a : ℕ) where
   unfolding claim
   claim-kept i d = sym (pick-other d _ _)
 
-  claim-new : (i : ℕ) → look old i ≡ 0 → member cut i ≡ 1 → a ≡ claim old cut a i
+  claim-new : (i : ℕ) → look old i ≡ 0 → cut i ≡ 1 → a ≡ claim old cut a i
   unfolding claim
   claim-new i z e = sym (pick-same z _ _ ∙ pick-same e _ _)
 
   pub claiming-start : length old ≡ 256 → Claiming old cut a 0 old
   claiming-start l = record { long = l; done = λ i h. absurd (omega arith); left = λ i h. refl }
 
-  module _ (p m : ℕ) (owners : List ℕ) (s : Claiming old cut a p owners) (f : First (member cut) p (256 - p) m) where
+  module _ (p m : ℕ) (owners : List ℕ) (s : Claiming old cut a p owners) (f : First cut p (256 - p) m) where
     -- the places before m stay
     passed : (i : ℕ) → i < m → look owners i ≡ claim old cut a i
     passed i h = cases (decLt i p) (λ l. s .done i l) (λ l. s .left i (omega arith) ∙ claim-out i (f .miss i (omega arith) h))
@@ -65,7 +69,7 @@ module _ (old : List ℕ) (cut : Set) (a : ℕ) where
       left = λ i h. getD-set-other owners m i a 0 (λ e. omega arith) ∙ s .left i (omega (arith, f .from));
     }
 
-  pub claiming-end : (p : ℕ) (owners : List ℕ) → Claiming old cut a p owners → ((i : ℕ) → p ≤ i → i < p + (256 - p) → member cut i ≢ 1)
+  pub claiming-end : (p : ℕ) (owners : List ℕ) → Claiming old cut a p owners → ((i : ℕ) → p ≤ i → i < p + (256 - p) → cut i ≢ 1)
       → owners ≡ map (claim old cut a) (upfrom 0 256)
   claiming-end p owners s none = ext-getD 0 owners (map (claim old cut a) (upfrom 0 256))
       (s .long ∙ sym (length-map (upfrom 0 256) (claim old cut a) ∙ length-upfrom 0 256))

@@ -4,7 +4,7 @@ use mathlib.Core.Logic.{_≢_}
 use mathlib.Core.List.{List, [], _∷_, _++_, map}
 use Prim.Native.Nat.{ℕ, zero, suc, _+_, _-_, _≤_, _<_}
 use native.Mathlib.Nat.{add-zero, add-suc, suc-add}
-use native.Mathlib.Numerals.{one-add}
+use native.Mathlib.Numerals.{add-one, one-add}
 use native.Mathlib.Decide.{decLt}
 use native.Mathlib.Omega.{arith}
 use lib.ListN.{length, set, replicate, length-append, length-map, length-set, length-replicate, List·getD-append}
@@ -13,6 +13,7 @@ use Rattle.network.specs.Numbers.{is, sum, over, count, look, upfrom}
 use Rattle.network.specs.Network.{sites}
 use Rattle.theory.specs.Sums.{pick-same, pick-other, is-other, cases, same?, sum-eq}
 use Rattle.theory.specs.Sites.{length-upfrom}
+use Rattle.groups.specs.Zeros.{zeros}
 use Rattle.bitset.specs.Parts.{sum-past, over-upfrom}
 use Rattle.cuts.specs.Outcome.{places, ofTerminal}
 
@@ -26,12 +27,11 @@ pub of-terminal : (terminal f : ℕ → ℕ) (x : ℕ) → terminal x ≡ 1 → 
 unfolding ofTerminal
 of-terminal terminal f x e = pick-same e (f x) 0
 
--- ---- the places
+pub of-alike : (terminal f g : ℕ → ℕ) → ((x : ℕ) → f x ≡ g x) → (x : ℕ) → ofTerminal terminal f x ≡ ofTerminal terminal g x
+unfolding ofTerminal
+of-alike terminal f g e x = rw (e x) refl
 
-zeros : (m q : ℕ) → look (replicate m 0) q ≡ 0
-zeros zero q = refl
-zeros (suc m) zero = refl
-zeros (suc m) (suc q) = zeros m q
+-- ---- the places
 
 module _ (f : ℕ → ℕ) where
   length-sites : (n : ℕ) → length (map f (sites n)) ≡ n
@@ -67,20 +67,35 @@ module _ (f : ℕ → ℕ) where
       (λ k. past i (omega arith) (omega arith) ∙ sym (past-places n i (omega arith))))
 
   -- the next site's place is set, or keeps its 0
-  pub places-next : (n : ℕ) → n < 256 → set (places n f) n (f (suc n)) ≡ places (suc n) f
+  places-next : (n : ℕ) → n < 256 → set (places n f) n (f (suc n)) ≡ places (suc n) f
   places-next n h = places-is (suc n) (set (places n f) n (f (suc n))) h (length-set (places n f) n (f (suc n)) ∙ length-places n (omega arith))
       (λ i lt. same? i n
       (λ e. rw e (getD-set-same (places n f) n (f (suc n)) 0 (omega (arith, length-places n (omega arith)))))
       (λ d. getD-set-other (places n f) n i (f (suc n)) 0 d ∙ look-places n i (omega arith)))
       (λ i le lt. getD-set-other (places n f) n i (f (suc n)) 0 (λ e. omega arith) ∙ past-places n i (omega arith))
 
-  pub places-skip : (n : ℕ) → n < 256 → f (suc n) ≡ 0 → places n f ≡ places (suc n) f
+  places-skip : (n : ℕ) → n < 256 → f (suc n) ≡ 0 → places n f ≡ places (suc n) f
   places-skip n h z = places-is (suc n) (places n f) h (length-places n (omega arith))
       (λ i lt. same? i n (λ e. rw e (past-places n n (omega arith) ∙ sym z)) (λ d. look-places n i (omega arith)))
       (λ i le lt. past-places n i (omega arith))
 
+  pub places-none : replicate 256 0 ≡ places 0 f
+  unfolding places upfrom
+  places-none = refl
+
+-- the places of terminals, one site more
+module _ (terminal f : ℕ → ℕ) {now : List ℕ} (i : ℕ) (h : i < 256) (e : now ≡ places i (ofTerminal terminal f)) where
+  pub places-terminal : {v : ℕ} → terminal (i + 1) ≡ 1 → v ≡ f (i + 1) → set now i v ≡ places (i + 1) (ofTerminal terminal f)
+  places-terminal = rw (add-one i, e) (λ o g. ap (set (places i (ofTerminal terminal f)) i) (g ∙ sym (of-terminal terminal f (suc i) o)) ∙ places-next (ofTerminal terminal f) i h)
+
+  pub places-inner : terminal (i + 1) ≢ 1 → now ≡ places (i + 1) (ofTerminal terminal f)
+  places-inner = rw (add-one i) (λ d. e ∙ places-skip (ofTerminal terminal f) i h (of-inner terminal f (suc i) d))
+
+pub places-upto : (f g : ℕ → ℕ) (n : ℕ) → n ≤ 256 → ((i : ℕ) → i < n → f (suc i) ≡ g (suc i)) → places n f ≡ places n g
+places-upto f g n h e = places-is g n (places n f) h (length-places f n h) (λ i lt. look-places f n i lt ∙ e i lt) (λ i le lt. past-places f n i le)
+
 pub places-same : (f g : ℕ → ℕ) (n : ℕ) → n ≤ 256 → ((x : ℕ) → f x ≡ g x) → places n f ≡ places n g
-places-same f g n h e = places-is g n (places n f) h (length-places f n h) (λ i lt. look-places f n i lt ∙ e (suc i)) (λ i le lt. past-places f n i le)
+places-same f g n h e = places-upto f g n h (λ i lt. e (suc i))
 
 -- where f is 0 there are zeros only
 pub places-zero : (f : ℕ → ℕ) (n : ℕ) → n ≤ 256 → ((x : ℕ) → f x ≡ 0) → replicate 256 0 ≡ places n f

@@ -1,47 +1,35 @@
--- What the helper functions give, and what they are given: steps on the way to the outcome.
-use mathlib.Core.Path.{_≡_}
+-- What the helper functions give: steps on the way to the outcome.
 use mathlib.Core.List.{List, map}
-use Prim.Native.Nat.{ℕ, _+_, _-_, _*_, _≤_, _<_}
-use lib.ListN.{length, set}
-use Rattle.network.specs.Numbers.{pick, differ, sum, upfrom, look}
-use Rattle.network.specs.Network.{Links, Site, sites}
-use Rattle.network.specs.Cuts.{cutSize, cutCount, ownerAmong}
-use Rattle.bitset.specs.Members.{member}
-use Rattle.bitset.specs.declared.Set.{Set}
+use Prim.Native.Nat.{ℕ, zero, suc}
+use lib.ListN.{replicate}
+use Rattle.network.specs.Numbers.{pick, sum, upfrom, look}
+use Rattle.groups.specs.Groups.{labelled}
 use Rattle.cuts.specs.declared.Answer.the-variants.{Done}
 use Rattle.cuts.specs.declared.Cuts.{Cuts}
 use Rattle.cuts.specs.Outcome.{places, ofTerminal}
 
--- what an accepted offer of n sites says of its lists: as many places, sites up to n, and capacities up to 1,000,000
-pub record Offered (n : ℕ) (one two c : List ℕ) : Type 0 where
-  pub few : length one ≤ 255
-  pub seconds : length two ≡ length one
-  pub capacities : length c ≡ length one
-  pub ends : (j : ℕ) → j < length one → Site n (look one j) × Site n (look two j)
-  pub small : (j : ℕ) → j < length one → look c j ≤ 1000000
-
 -- the owner at place i: the one that stands there, or a where there is none and the cut holds the place
-unfoldable pub claim : List ℕ → Set → ℕ → ℕ → ℕ
-claim owner cut a i = pick (look owner i) 0 (pick (member cut i) 1 a 0) (look owner i)
+unfoldable pub claim : List ℕ → (ℕ → ℕ) → ℕ → ℕ → ℕ
+claim owner cut a i = pick (look owner i) 0 (pick (cut i) 1 a 0) (look owner i)
 
--- the capacity of link j if just one of its sites is in the cut, else 0
-unfoldable pub crosses : Set → List ℕ → List ℕ → List ℕ → ℕ → ℕ
-crosses cut one two c j = differ (member cut (look one j - 1)) (member cut (look two j - 1)) * look c j
+-- cut l i is 1 if the sites with the label l hold place i
+module _ (cut : ℕ → ℕ → ℕ) (labels : List ℕ) where
+  -- the number of sites with the label of site a
+  unfoldable pub members : ℕ → ℕ
+  members a = sum 256 (cut (look labels a))
 
--- the cuts with that of the terminal at place i added
-unfoldable pub adding : Cuts → Set → ℕ → List ℕ → List ℕ → List ℕ → Cuts
-adding r cut i one two c = record {
-  owner = map (claim (r .owner) cut (i + 1)) (upfrom 0 256);
-  size = set (r .size) i (sum (length one) (crosses cut one two c));
-  count = set (r .count) i (sum 256 (member cut));
-  answer = r .answer;
-}
+  -- the owners after the terminals among the first k sites have claimed the places of their cuts
+  unfoldable pub ownersTo : List ℕ → List ℕ → ℕ → List ℕ
+  ownersTo owner degree zero = owner
+  ownersTo owner degree (suc k) =
+      let before = ownersTo owner degree k in
+      pick (look degree (suc k)) 1 (map (claim before (cut (look labels (suc k))) (suc k)) (upfrom 0 256)) before
 
--- the cuts of the terminals among the first k of n sites
-unfoldable pub cutsTo : Links → ℕ → (ℕ → ℕ) → (ℕ → ℕ) → (ℕ → ℕ) → ℕ → Cuts
-cutsTo ls n terminal c t k = record {
-  owner = places n (ownerAmong ls c t terminal (sites k));
-  size = places k (ofTerminal terminal (cutSize ls c t));
-  count = places k (ofTerminal terminal (cutCount ls c t n));
+-- the cuts of the sites with one link, by the labels and the numbers of links of n sites and the sums at the labels
+unfoldable pub cutsBy : ℕ → List ℕ → List ℕ → List ℕ → Cuts
+cutsBy n labels degree leaving = record {
+  owner = ownersTo (labelled n labels) labels (replicate 256 0) degree n;
+  size = places n (ofTerminal (look degree) (λ a. look leaving (look labels a)));
+  count = places n (ofTerminal (look degree) (members (labelled n labels) labels));
   answer = Done;
 }

@@ -4,16 +4,13 @@ use bitset::Set;
 use tree::Offer;
 ghost use mathlib.Core.Path.{_≡_};
 ghost use mathlib.Core.List.{map};
-ghost use Prim.Native.Nat.{ℕ, _+_, _-_, _*_, _≤_, _<_};
-ghost use lib.Dec.{eqb};
+ghost use Prim.Native.Nat.{ℕ, _≤_};
 ghost use lib.ListN.{length};
-ghost use Rattle.network.specs.Numbers.{is, differ, less, sum, upfrom, look};
-ghost use Rattle.network.specs.Network.{leaf};
-ghost use Rattle.network.specs.Cuts.{group};
+ghost use Rattle.network.specs.Numbers.{upfrom, look};
 ghost use Rattle.bitset.specs.Members.{member};
-ghost use Rattle.tree.specs.Offer.{links};
-ghost use Rattle.cuts.specs.Steps.{Offered, claim, crosses, adding};
-ghost use Rattle.cuts.specs.Outcome.{noCuts, offeredCuts, outcome};
+ghost use Rattle.groups.specs.Groups.{Offered, inWords};
+ghost use Rattle.cuts.specs.Steps.{members, claim, ownersTo, cutsBy};
+ghost use Rattle.cuts.specs.Outcome.{places, ofTerminal, noCuts, offeredCuts, outcome};
 
 // What is said of an offer of a tree with given and balanced capacities.
 pub enum Answer {
@@ -51,122 +48,111 @@ fn no_cuts(answer: Answer) -> Cuts
     }
 }
 
-// The label of each site by the links whose balanced capacity is below the given one, the last link first.
-fn groups(one: &[usize], two: &[usize], capacity: &[u64], balanced: &[u64]) -> [usize; 257]
-    requires { ⌜ Offered 256 (now one) (now two) (now capacity) × (length (now balanced) ≡ length (now one)) ⌝ }
-    ensures { λ r. ⌜ r ≡ map (group (links (now (one .entry)) (now (two .entry))) (look (now (capacity .entry))) (look (now (balanced .entry)))) (upfrom 0 257) ⌝ }
+// The set of a label: the four words from word 4 l on for label l.
+fn cut_of(words: &[u64; 1028], label: u16) -> Set
+    requires { ⌜ label ≤ 256 ⌝ }
+    ensures { λ r. ⌜ ((i : ℕ) → member r i ≡ inWords (now (words .entry)) label i) ⌝ }
 {
-    let mut labels = tree::own_labels();
-    let mut j = one.len();
-    while 0 < j {
-        j -= 1;
-        if balanced[j] < capacity[j] {
-            labels = tree::relabel_all(labels[one[j]], labels[two[j]], labels);
-        }
+    let w = label as usize * 4;
+    Set {
+        words: [words[w], words[w + 1], words[w + 2], words[w + 3]],
     }
-    labels
 }
 
-// Whether site v has just one link.
-fn is_terminal(one: &[usize], two: &[usize], v: usize) -> bool
-    requires { ⌜ length (now two) ≡ length (now one) ⌝ }
-    ensures { λ r. ⌜ r ≡ eqb (leaf (links (now (one .entry)) (now (two .entry))) v) 1 ⌝ }
+// Puts a where the cut has a place without an owner.
+fn put_owner(owner: &mut [usize; 256], cut: Set, a: usize)
+    requires { ⌜ length (now owner) ≡ 256 ⌝ }
+    ensures { λ _. ⌜ now (owner .exit) ≡ map (claim (now (owner .entry)) (member cut) a) (upfrom 0 256) ⌝ }
 {
-    let mut degree: u64 = 0;
-    for j in 0..one.len() {
-        degree += tree::at_link(one[j], two[j], v);
-    }
-    degree == 1
-}
-
-// The places of the sites with the label of site a: place i is that of site i + 1.
-fn cut_of(n: usize, labels: [usize; 257], a: usize) -> Set
-    requires { ⌜ (n ≤ 256) × (a ≤ n) ⌝ }
-    ensures { λ r. ⌜ ((i : ℕ) → member r i ≡ less i n * is (look labels (i + 1)) (look labels a)) ⌝ }
-{
-    let mut cut = Set::empty();
-    for i in 0..n {
-        if labels[i + 1] == labels[a] {
-            cut = cut.insert(i);
-        }
-    }
-    cut
-}
-
-// The owners with a put where the cut has a place without an owner.
-fn claimed(owner: [usize; 256], cut: Set, a: usize) -> [usize; 256]
-    ensures { λ r. ⌜ r ≡ map (claim owner cut a) (upfrom 0 256) ⌝ }
-{
-    let mut owners = owner;
     let mut p: usize = 0;
     loop {
         let Found::At(i) = cut.next(p) else {
-            return owners;
+            return;
         };
-        if owners[i] == NONE {
-            owners[i] = a;
+        if owner[i] == NONE {
+            owner[i] = a;
         }
         p = i + 1;
     }
 }
 
-// 1 if the cut holds site x, 0 if not.
-fn inside(cut: Set, x: usize) -> u64
-    requires { ⌜ 1 ≤ x ⌝ }
-    ensures { λ r. ⌜ r ≡ member cut (x - 1) ⌝ }
+// Puts terminal a where its cut has a place without an owner, and tells how many sites the cut has.
+fn take_cut(owner: &mut [usize; 256], words: &[u64; 1028], labels: &[u16; 257], a: usize) -> usize
+    requires { ⌜ (length (now owner) ≡ 256) × (a ≤ 256) × (look (now labels) a ≤ 256) ⌝ }
+    ensures { λ r. ⌜ (now (owner .exit) ≡ map (claim (now (owner .entry)) (inWords (now (words .entry)) (look (now (labels .entry)) a)) a) (upfrom 0 256)) × (r ≡ members (inWords (now (words .entry))) (now (labels .entry)) a) ⌝ }
 {
-    if cut.has(x - 1) { 1 } else { 0 }
+    let cut = cut_of(words, labels[a]);
+    put_owner(owner, cut, a);
+    cut.count()
 }
 
-// 1 if the cut holds just one of the sites a and b, 0 if not.
-fn crossing(cut: Set, a: usize, b: usize) -> u64
-    requires { ⌜ (1 ≤ a) × (1 ≤ b) ⌝ }
-    ensures { λ r. ⌜ r ≡ differ (member cut (a - 1)) (member cut (b - 1)) ⌝ }
+// Puts the terminals among n sites at the places of their cuts without an owner, and tells how many sites each cut has.
+fn put_owners(
+    owner: &mut [usize; 256],
+    n: usize,
+    words: &[u64; 1028],
+    labels: &[u16; 257],
+    degree: &[u64; 257],
+) -> [usize; 256]
+    requires { ⌜ (length (now owner) ≡ 256) × (n ≤ 256) × ((x : ℕ) → look (now labels) x ≤ 256) ⌝ }
+    ensures { λ r. ⌜ (now (owner .exit) ≡ ownersTo (inWords (now (words .entry))) (now (labels .entry)) (now (owner .entry)) (now (degree .entry)) n) × (r ≡ places n (ofTerminal (look (now (degree .entry))) (members (inWords (now (words .entry))) (now (labels .entry))))) ⌝ }
 {
-    let first = inside(cut, a);
-    let second = inside(cut, b);
-    if first == second { 0 } else { 1 }
+    let mut count = [0usize; 256];
+    for i in 0..n {
+        if degree[i + 1] == 1 {
+            count[i] = take_cut(owner, words, labels, i + 1);
+        }
+    }
+    count
 }
 
-// The given capacities of the links with just one site in the cut, summed.
-fn size_of(cut: Set, one: &[usize], two: &[usize], capacity: &[u64]) -> u64
-    requires { ⌜ Offered 256 (now one) (now two) (now capacity) ⌝ }
-    ensures { λ r. ⌜ r ≡ sum (length (now (one .entry))) (crosses cut (now (one .entry)) (now (two .entry)) (now (capacity .entry))) ⌝ }
+// The sums at the labels of the terminals among n sites.
+fn terminal_sizes(
+    n: usize,
+    labels: &[u16; 257],
+    degree: &[u64; 257],
+    leaving: &[u64; 257],
+) -> [u64; 256]
+    requires { ⌜ (n ≤ 256) × ((x : ℕ) → look (now labels) x ≤ 256) ⌝ }
+    ensures { λ r. ⌜ r ≡ places n (ofTerminal (look (now (degree .entry))) (λ a. look (now (leaving .entry)) (look (now (labels .entry)) a))) ⌝ }
 {
-    let mut size: u64 = 0;
-    for j in 0..one.len() {
-        size += crossing(cut, one[j], two[j]) * capacity[j];
+    let mut size = [0u64; 256];
+    for i in 0..n {
+        let x = i + 1;
+        if degree[x] == 1 {
+            size[i] = leaving[labels[x] as usize];
+        }
     }
     size
 }
 
-// The cuts with that of the terminal at place i added.
-fn with_cut(cuts: Cuts, cut: Set, i: usize, one: &[usize], two: &[usize], capacity: &[u64]) -> Cuts
-    requires { ⌜ (i < 256) × Offered 256 (now one) (now two) (now capacity) ⌝ }
-    ensures { λ r. ⌜ r ≡ adding cuts cut i (now (one .entry)) (now (two .entry)) (now (capacity .entry)) ⌝ }
+// The cuts of the terminals among n sites, by the labels and the numbers of links of the sites and the sums at the labels.
+fn cuts_by(n: usize, labels: &[u16; 257], degree: &[u64; 257], leaving: &[u64; 257]) -> Cuts
+    requires { ⌜ (n ≤ 256) × ((x : ℕ) → look (now labels) x ≤ 256) ⌝ }
+    ensures { λ r. ⌜ r ≡ cutsBy n (now (labels .entry)) (now (degree .entry)) (now (leaving .entry)) ⌝ }
 {
-    let mut more = cuts;
-    let owner = more.owner;
-    more.owner = claimed(owner, cut, i + 1);
-    more.size[i] = size_of(cut, one, two, capacity);
-    more.count[i] = cut.count();
-    more
+    let words = groups::sets(n, labels);
+    let mut owner = [NONE; 256];
+    let count = put_owners(&mut owner, n, &words, labels, degree);
+    let size = terminal_sizes(n, labels, degree, leaving);
+    Cuts {
+        owner,
+        size,
+        count,
+        answer: Answer::Done,
+    }
 }
 
 // The cuts of the terminals of a tree of n sites.
 fn cuts_of(n: usize, one: &[usize], two: &[usize], capacity: &[u64], balanced: &[u64]) -> Cuts
-    requires { ⌜ (n ≤ 256) × Offered n (now one) (now two) (now capacity) × (length (now balanced) ≡ length (now one)) ⌝ }
+    requires { ⌜ (n ≤ 256) × Offered (now one) (now two) (now capacity) × (length (now balanced) ≡ length (now one)) ⌝ }
     ensures { λ r. ⌜ r ≡ offeredCuts n (now (one .entry)) (now (two .entry)) (now (capacity .entry)) (now (balanced .entry)) ⌝ }
 {
-    let labels = groups(one, two, capacity, balanced);
-    let mut cuts = no_cuts(Answer::Done);
-    for i in 0..n {
-        if is_terminal(one, two, i + 1) {
-            let cut = cut_of(n, labels, i + 1);
-            cuts = with_cut(cuts, cut, i, one, two, capacity);
-        }
-    }
-    cuts
+    let tally = groups::of_links(one, two, capacity, balanced);
+    let labels = tally.labels;
+    let degree = tally.degree;
+    let leaving = tally.leaving;
+    cuts_by(n, &labels, &degree, &leaving)
 }
 
 // The terminal cuts of n sites and the links between the sites one[j] and two[j], by the given and the balanced capacities.

@@ -1,12 +1,3 @@
-pub mod Given
-pub mod Arrays
-pub mod Splits
-pub mod Finding
-pub mod Places
-pub mod Matching
-pub mod Moving
-pub mod Settling
-pub mod Rows
 pub mod Visiting
 pub mod Tests
 pub mod Reading

@@ -4,14 +4,13 @@ use mathlib.Core.List.{List, [], _∷_, _++_, append-assoc, append-nil}
 use Prim.Native.Nat.{ℕ, suc, _+_, _*_, _≤_, _<_}
 use native.Mathlib.Omega.{arith}
 use native.Mathlib.Numerals.{add-one}
-use lib.Seq.{slice, slice-empty, slice-cons, length-slice, take-suc-set, take-length}
-use lib.ListN.{length, take, set, length-append, length-set, length-take}
+use lib.Seq.{slice, slice-empty, slice-cons, length-slice, take-suc-set}
+use lib.ListN.{length, take, set, length-set, length-take}
 use Rattle.network.specs.Numbers.{look}
 use Rattle.network.specs.declared.Pair.{Pair}
-use Rattle.decomposition.specs.declared.Decomposed.{Decomposed}
-use Rattle.decomposition.specs.Arrays.{flatPairs}
-use Rattle.decomposition.specs.Visits.{spelled, Spells, Listing}
-use Rattle.decomposition.proofs.Arrays.{length-pairs}
+use Rattle.halves.specs.Arrays.{flatPairs}
+use Rattle.decomposition.specs.Visits.{spelledAt, spelled, Spells, Listing}
+use Rattle.halves.specs.Adding.{length-pairs}
 
 pub spelled-flat : (es : List Pair) → spelled (flatPairs es) ≡ es
 unfolding spelled flatPairs
@@ -45,11 +44,11 @@ module _ {l : List ℕ} {e at count : ℕ} {list : List Pair} (s : Spells l e) (
         rw (one, two, more) (slice-cons at e l 0 h (s .inside) ∙ ap (λ r. look l at ∷ r) (slice-cons (suc at) e l 0 (omega arith) (s .inside)
         ∙ ap (λ r. look l (suc at) ∷ r) (slice-cons (suc (suc at)) e l 0 (omega arith) (s .inside))))
 
-    pub reading-next : Reading l e (at + 3) (count + 1) (set list count (record { first = look l at; second = look l (at + 1); amount = look l (at + 2) }))
+    pub reading-next : Reading l e (at + 3) (count + 1) (set list count (spelledAt l at))
     unfolding spelled flatPairs
     reading-next =
         let room = reading-room h in
-        let p : Pair = record { first = look l at; second = look l (at + 1); amount = look l (at + 2) } in
+        let p = spelledAt l at in
         let as-pairs : spelled (slice at e l) ≡ p ∷ spelled (slice (at + 3) e l) = ap spelled three in
         record {
           ends = room .0;

@@ -2,25 +2,47 @@
 use mathlib.Core.Path.{_≡_, sym, ap, _∙_}
 use mathlib.Core.Logic.{_≢_, inr}
 use mathlib.Core.List.{List, []}
-use Prim.Native.Nat.{ℕ, _*_, _≤_}
+use Prim.Native.Nat.{ℕ, suc, _-_, _*_, _≤_}
 use native.Mathlib.Omega.{arith}
-use lib.ListN.{length, take}
+use lib.ListN.{length, take, List·getD-eq-default}
 use Rattle.network.specs.Numbers.{look}
-use Rattle.network.specs.Network.{Site, leaf}
+use Rattle.network.specs.Network.{leaf}
 use Rattle.network.specs.Pairing.{put, give, walk, pairsFrom, lowestInner, pairs}
 use Rattle.theory.specs.Sums.{pick-same, pick-other}
 use Rattle.tree.specs.Offer.{links}
 use Rattle.tree.specs.Links.{length-links}
 use Rattle.walk.specs.Walk.{size-le}
 use Rattle.walk.specs.PairingTheorem.{pairs-are-sound}
-use Rattle.decomposition.specs.declared.Tops.{Tops}
-use Rattle.decomposition.specs.Arrays.{flatPairs, Added}
-use Rattle.decomposition.specs.Visits.{walkOf, Visit, Walkable, pairsOf, spelled, Spells}
-use Rattle.decomposition.proofs.Arrays.{length-pairs}
+use Rattle.halves.specs.declared.Tops.{Tops}
+use Rattle.halves.specs.Arrays.{flatPairs, Added}
+use Rattle.decomposition.specs.Visits.{walkOf, Visit, Walkable, Root, pairsOf, spelled, Spells}
+use Rattle.halves.specs.Adding.{length-pairs}
 use Rattle.decomposition.proofs.Reading.{spelled-flat}
 
 abbrev pub bottom : Tops
 bottom = record { ups = 0; downs = 0; pairs = 0 }
+
+module _ {root : ℕ} {last before a b c : List ℕ} (r : Root root last before a b c) where
+  -- past the last link nothing comes down
+  pub none-down : 2 * look c (length a) - 0 ≡ 0
+  none-down = let w = r .walkable .tree in rw (List·getD-eq-default c 0 {n = length a} (omega (arith, w .firsts, w .capacities))) (omega arith)
+
+  -- the walk starts at a root with all sites below it, and with room for them
+  pub root-visit : (u d p : List ℕ) → 512 ≤ length u → 512 ≤ length d → 768 ≤ length p → Visit (suc (length a)) last before a b c (suc (length a)) root (length a) 0 0 u d p bottom
+  root-visit u d p hu hd hp =
+      let w = r .walkable .tree in
+      let few = size-le (links a b) (suc (length a)) (length a) root in
+      record {
+        tree = w;
+        balanced = r .walkable .balanced;
+        chained = r .chained;
+        site = r .site;
+        start = inr (sym (length-links a b (omega (arith, w .firsts, w .seconds))), r .inner, omega arith);
+        fuelled = few;
+        ups-room = omega (arith, few, w .few);
+        downs-room = omega (arith, few, w .few);
+        pairs-room = omega (arith, few, w .few);
+      }
 
 module _ {n : ℕ} {a b c : List ℕ} (w : Walkable n a b c) where
   number : length (links a b) ≡ length a
@@ -31,20 +53,6 @@ module _ {n : ℕ} {a b c : List ℕ} (w : Walkable n a b c) where
 
   -- with an inner site the walk starts at the lowest
   module _ (some : root ≢ 0) where
-    pub root-visit : Site n root → leaf (links a b) root ≢ 1 → (u d p : List ℕ) → 512 ≤ length u → 512 ≤ length d → 768 ≤ length p → Visit n a b c n root (length a) 0 0 u d p bottom
-    root-visit site inner u d p hu hd hp =
-        let few = size-le (links a b) n (length a) root in
-        record {
-          tree = w .tree;
-          balanced = w .balanced;
-          site = site;
-          start = inr (sym number, inner, omega arith);
-          fuelled = few;
-          ups-room = omega (arith, few, w .tree .few);
-          downs-room = omega (arith, few, w .tree .few);
-          pairs-room = omega (arith, few, w .tree .few);
-        }
-
     pub root-pairs : pairsOf n a b c ≡ walkOf n a b c n root (length a) 0 0 .pairs
     unfolding pairs pairsFrom
     root-pairs = pick-other some (give 1 (put 2 (2 * look c 0) [])) (pairsFrom (links a b) n (look c) (leaf (links a b)) root)

@@ -1,29 +1,26 @@
 -- The visit of a site: what its children hand back is gathered in the three arrays, and then settled.
-use mathlib.Core.Path.{_≡_, refl, sym, ap, _∙_}
-use mathlib.Core.Logic.{_≢_, _⊎_, inl, inr}
+use mathlib.Core.Path.{_≡_, sym, ap, _∙_}
+use mathlib.Core.Logic.{_≢_, inl, inr}
 use mathlib.Core.List.{List, [], _∷_, _++_, append-nil}
-use Prim.Native.Nat.{ℕ, zero, suc, _+_, _-_, _*_, _≤_, _<_, min}
+use Prim.Native.Nat.{ℕ, suc, _+_, _-_, _*_, _≤_, _<_, min}
 use native.Mathlib.Omega.{arith}
 use lib.ListN.{length, length-append}
 use Rattle.network.specs.Numbers.{look, is}
-use Rattle.network.specs.Network.{Links, Site, sumAt, leaf, Tree}
-use Rattle.network.specs.Trimming.{Balanced}
-use Rattle.network.specs.Pairing.{Part, nothing, join, put, takeHalves, dropHalves, halves, match, between, children, gather, alone, settle, walk}
-use Rattle.theory.specs.Sums.{is-same}
+use Rattle.network.specs.Network.{Links, sumAt, leaf}
+use Rattle.network.specs.Pairing.{Part, nothing, join, put, dropHalves, halves, match, between, children, gather, alone, settle}
 use Rattle.tree.specs.Offer.{links}
 use Rattle.walk.specs.Lists.{tally}
 use Rattle.walk.specs.Halves.{Filled, halves-drop, drop-thins, thinned-filled}
 use Rattle.walk.specs.Subtrees.{Child, child}
-use Rattle.walk.specs.Children.{size, sizes, size-children, between-joins, child-taken, child-passed}
+use Rattle.walk.specs.Children.{size, sizes, size-children, between-joins, child-taken}
 use Rattle.walk.specs.Walk.{Start, start-entered}
 use Rattle.walk.specs.Bounds.{walk-short, gather-short, gather-filled, walk-filled}
 use Rattle.walk.specs.Steps.{walk-terminal, walk-inner, gather-push}
-use Rattle.decomposition.specs.declared.Tops.{Tops}
-use Rattle.decomposition.specs.Arrays.{flat, flatPairs, listed, Added, Stands, Settling, Settled}
+use Rattle.halves.specs.declared.Tops.{Tops}
+use Rattle.halves.specs.Arrays.{flat, flatPairs, listed, Added, Settling, Settled}
 use Rattle.decomposition.specs.Visits.{walkOf, Visit, Visited}
-use Rattle.decomposition.proofs.Arrays.{flat-append, pairs-append, length-flat, length-pairs, added-nothing, added-more, added-again, added-listed, added-stands}
-use Rattle.decomposition.proofs.Rows.{between-le}
-use Rattle.decomposition.proofs.Splits.{match-enough}
+use Rattle.halves.specs.Adding.{flat-append, pairs-append, length-flat, length-pairs, added-nothing, added-more, added-again, added-listed, added-stands}
+use Rattle.halves.specs.Splits.{match-enough}
 
 -- ---- the arrays
 
@@ -76,37 +73,38 @@ gathering-starts n a b c fuel v j down u d p base =
     }
 
 -- a site and the subtrees of its children
-size-below : {n : ℕ} {a b c : List ℕ} {fuel v j up down : ℕ} {u d p : List ℕ} {base : Tops} → Visit n a b c fuel v j up down u d p base
+size-below : {n : ℕ} {last before a b c : List ℕ} {fuel v j up down : ℕ} {u d p : List ℕ} {base : Tops} → Visit n last before a b c fuel v j up down u d p base
     → size (links a b) n j v ≡ 1 + ahead n (links a b) v j 1
-size-below {n} {a} {b} {c} {v = v} {j = j} {up = up} {down = down} W =
+size-below {n} {a = a} {b = b} {c = c} {v = v} {j = j} {up = up} {down = down} W =
     let all : suc n - 1 ≡ n = omega arith in
     rw all (size-children (W .tree .tree) v j (start-entered (links a b) (look c) (leaf (links a b)) j v up down (W .start)) (W .site))
 
-module _ {n : ℕ} {a b c : List ℕ} {fuel v j up down : ℕ} {u d p : List ℕ} {base : Tops} (W : Visit n a b c (suc fuel) v j up down u d p base)
-    {u′ d′ p′ : List ℕ} {top : Tops} {rest x : ℕ} (g : Gathering n a b c fuel v j down u d p base u′ d′ p′ top rest x) (l : x ≤ n) where
+-- sites that are no children change nothing
+pub gathering-passes : {n : ℕ} {a b c : List ℕ} {fuel v j down : ℕ} {u d p : List ℕ} {base : Tops} {u′ d′ p′ : List ℕ} {top : Tops} {rest x : ℕ}
+    → Gathering n a b c fuel v j down u d p base u′ d′ p′ top rest x → (y : ℕ) → children (links a b) v j x (suc n - x) ≡ children (links a b) v j y (suc n - y)
+    → Gathering n a b c fuel v j down u d p base u′ d′ p′ top rest y
+gathering-passes g y same = record {
+  part = g .part;
+  held = g .held;
+  to-come = rw (← same) (g .to-come);
+  ups-fit = rw (← same) (g .ups-fit);
+  downs-fit = rw (← same) (g .downs-fit);
+  pairs-fit = rw (← same) (g .pairs-fit);
+}
+
+module _ {n : ℕ} {a b c : List ℕ} {fuel v j down : ℕ} {u d p : List ℕ} {base : Tops} {u′ d′ p′ : List ℕ} {top : Tops} {rest x : ℕ}
+    (g : Gathering n a b c fuel v j down u d p base u′ d′ p′ top rest x) where
   abbrev ls : Links
   ls = links a b
 
-  one-more : suc n - x ≡ suc (suc n - suc x)
-  one-more = omega arith
-
-  -- a site that is no child changes nothing
-  pub gathering-passes : (between ls v x ≡ j) ⊎ (between ls v x ≡ length ls) → Gathering n a b c fuel v j down u d p base u′ d′ p′ top rest (suc x)
-  gathering-passes e =
-      let same : children ls v j x (suc n - x) ≡ children ls v j (suc x) (suc n - suc x) = rw one-more (child-passed ls v j x (suc n - suc x) e) in
-      record {
-        part = g .part;
-        held = g .held;
-        to-come = rw (← same) (g .to-come);
-        ups-fit = rw (← same) (g .ups-fit);
-        downs-fit = rw (← same) (g .downs-fit);
-        pairs-fit = rw (← same) (g .pairs-fit);
-      }
-
   -- a child
-  module _ (k : ℕ) (is-k : k ≡ between ls v x) (below : k < length ls) (new : k ≢ j) where
+  module _ {last before : List ℕ} {up : ℕ} (W : Visit n last before a b c (suc fuel) v j up down u d p base)
+      (k : ℕ) (is-k : k ≡ between ls v x) (below : k < length ls) (new : k ≢ j) where
     child-here : Child ls n v j x k
     child-here = child (W .tree .tree) v j x k below new (rw (← is-k) at (between-joins ls v x (rw (← is-k) below)))
+
+    one-more : suc n - x ≡ suc (suc n - suc x)
+    one-more = omega (arith, child-here .site)
 
     abbrev later : List (ℕ × ℕ)
     later = children ls v j (suc x) (suc n - suc x)
@@ -119,10 +117,11 @@ module _ {n : ℕ} {a b c : List ℕ} {fuel v j up down : ℕ} {u d p : List ℕ
     split = ap (sizes ls n) taken
 
     -- it is visited with what is sent up and what comes down
-    pub gathering-visits : (s o : ℕ) → s + o ≡ 2 * look c k → Visit n a b c fuel x k s o u′ d′ p′ top
+    pub gathering-visits : (s o : ℕ) → s + o ≡ 2 * look c k → Visit n last before a b c fuel x k s o u′ d′ p′ top
     gathering-visits s o e = record {
       tree = W .tree;
       balanced = W .balanced;
+      chained = W .chained;
       site = child-here .site;
       start = inl (child-here .up, e);
       fuelled = omega (arith, split, size-below W, W .fuelled, g .ups-fit);
@@ -131,7 +130,7 @@ module _ {n : ℕ} {a b c : List ℕ} {fuel v j up down : ℕ} {u d p : List ℕ
       pairs-room = omega (arith, split, size-below W, W .pairs-room, g .pairs-fit, g .held .pairs, length-pairs (g .part .pairs));
     }
 
-    pub gathering-next : {x′ y′ z′ : List ℕ} {top′ : Tops}
+    gathering-next : {x′ y′ z′ : List ℕ} {top′ : Tops}
         → Visited (walkOf n a b c fuel x k (min (2 * look c k) rest) (2 * look c k - min (2 * look c k) rest)) u′ d′ p′ top x′ y′ z′ top′
         → Gathering n a b c fuel v j down u d p base x′ y′ z′ top′ (rest - min (2 * look c k) rest) (suc x)
     gathering-next {x′} {y′} {z′} {top′} q =
@@ -149,9 +148,15 @@ module _ {n : ℕ} {a b c : List ℕ} {fuel v j up down : ℕ} {u d p : List ℕ
           pairs-fit = omega (arith, split, g .pairs-fit, length-append (g .part .pairs) (w .pairs), short .pairs-short);
         }
 
+    -- and then the sites that are no children are passed over
+    pub gathering-goes-on : {x′ y′ z′ : List ℕ} {top′ : Tops} (y : ℕ) → later ≡ children ls v j y (suc n - y)
+        → Visited (walkOf n a b c fuel x k (min (2 * look c k) rest) (2 * look c k - min (2 * look c k) rest)) u′ d′ p′ top x′ y′ z′ top′
+        → Gathering n a b c fuel v j down u d p base x′ y′ z′ top′ (rest - min (2 * look c k) rest) y
+    gathering-goes-on y same q = gathering-passes (gathering-next q) y same
+
 -- ---- all children visited
 
-module _ {n : ℕ} {a b c : List ℕ} {fuel v j up down : ℕ} {u d p : List ℕ} {base : Tops} (W : Visit n a b c (suc fuel) v j up down u d p base)
+module _ {n : ℕ} {last before a b c : List ℕ} {fuel v j up down : ℕ} {u d p : List ℕ} {base : Tops} (W : Visit n last before a b c (suc fuel) v j up down u d p base)
     (inner : leaf (links a b) v ≢ 1) {u′ d′ p′ : List ℕ} {top : Tops} {rest x : ℕ} (g : Gathering n a b c fuel v j down u d p base u′ d′ p′ top rest x) (l : n < x) where
   abbrev G : Part
   G = whole n a b c fuel v j down
@@ -224,13 +229,11 @@ module _ {n : ℕ} {a b c : List ℕ} {fuel v j up down : ℕ} {u d p : List ℕ
 
 -- ---- other sites
 
--- no fuel: nothing, as it was
-pub visited-none : (n : ℕ) (a b c : List ℕ) (fuel v j up down : ℕ) (u d p : List ℕ) (base : Tops) → fuel ≡ 0
-    → Visited (walkOf n a b c fuel v j up down) u d p base u d p base
-unfolding walk
-visited-none n a b c fuel v j up down u d p base e = rw e (visited-nothing u d p base)
+-- there is fuel, and what is left of it for the children
+pub some-fuel : {n : ℕ} {last before a b c : List ℕ} {fuel v j up down : ℕ} {u d p : List ℕ} {base : Tops} → Visit n last before a b c fuel v j up down u d p base → fuel ≡ suc (fuel - 1)
+some-fuel W = omega (arith, size-below W, W .fuelled)
 
-module _ {n : ℕ} {a b c : List ℕ} {fuel v j up down : ℕ} {u d p : List ℕ} {base : Tops} (W : Visit n a b c (suc fuel) v j up down u d p base) where
+module _ {n : ℕ} {last before a b c : List ℕ} {fuel v j up down : ℕ} {u d p : List ℕ} {base : Tops} (W : Visit n last before a b c (suc fuel) v j up down u d p base) where
   -- a terminal
   pub alone-room : (base .ups + 2 ≤ length u) × (base .downs + 2 ≤ length d)
   alone-room = let s = size-below W in (omega (arith, W .ups-room), omega (arith, W .downs-room))
@@ -242,10 +245,19 @@ module _ {n : ℕ} {a b c : List ℕ} {fuel v j up down : ℕ} {u d p : List ℕ
       (record { ups = q; downs = s; pairs = rw k (added-nothing p (base .pairs)) })
 
 -- what comes down to an inner site is no more than its links carry
-pub down-within : {n : ℕ} {a b c : List ℕ} {fuel v j up down : ℕ} {u d p : List ℕ} {base : Tops} → Visit n a b c fuel v j up down u d p base
+pub down-within : {n : ℕ} {last before a b c : List ℕ} {fuel v j up down : ℕ} {u d p : List ℕ} {base : Tops} → Visit n last before a b c fuel v j up down u d p base
     → leaf (links a b) v ≢ 1 → down ≤ sumAt (links a b) v (look c)
 down-within {a = a} {b = b} {c = c} {v = v} {j = j} {up = up} {down = down} W inner = within (W .start)
   where
     within : Start (links a b) (look c) (leaf (links a b)) j v up down → down ≤ sumAt (links a b) v (look c)
     within (inl s) = omega (arith, W .balanced v inner j (s .0 .bound) (s .0 .here), s .1)
+    within (inr s) = omega (arith, s .2)
+
+-- what is sent up over a link is at most twice its capacity
+pub down-over : {n : ℕ} {last before a b c : List ℕ} {fuel v j up down : ℕ} {u d p : List ℕ} {base : Tops} → Visit n last before a b c fuel v j up down u d p base
+    → j < length c → (look c j ≤ 1000000) × (up ≤ 2 * look c j)
+down-over {a = a} {b = b} {c = c} {v = v} {j = j} {up = up} {down = down} W l = (W .tree .limited j l, within (W .start))
+  where
+    within : Start (links a b) (look c) (leaf (links a b)) j v up down → up ≤ 2 * look c j
+    within (inl s) = omega (arith, s .1)
     within (inr s) = omega (arith, s .2)

@@ -1,8 +1,9 @@
 -- What a visit of the walk is given, and what it leaves in the arrays of its three lists.
 -- Document 01, "Pairing", steps 1 to 4.
 use mathlib.Core.Path.{_≡_}
+use mathlib.Core.Logic.{_≢_}
 use mathlib.Core.List.{List, [], _∷_}
-use Prim.Native.Nat.{ℕ, _+_, _*_, _≤_}
+use Prim.Native.Nat.{ℕ, suc, _+_, _*_, _≤_}
 use lib.ListN.{length, take}
 use Rattle.network.specs.Numbers.{look}
 use Rattle.network.specs.Network.{Site, leaf}
@@ -12,11 +13,12 @@ use Rattle.network.specs.declared.Pair.{Pair}
 use Rattle.network.specs.Edition.{edition1}
 use Rattle.tree.specs.Offer.{links}
 use Rattle.tree.specs.Accepted.{TreeWithin}
+use Rattle.links.specs.Chains.{Chained}
 use Rattle.walk.specs.Children.{size}
 use Rattle.walk.specs.Walk.{Start}
-use Rattle.decomposition.specs.declared.Tops.{Tops}
+use Rattle.halves.specs.declared.Tops.{Tops}
 use Rattle.decomposition.specs.declared.Decomposed.{Decomposed}
-use Rattle.decomposition.specs.Arrays.{flat, flatPairs, Added}
+use Rattle.halves.specs.Arrays.{flat, flatPairs, Added}
 
 -- the walk over a tree that is offered as lists, whose terminals are the sites with one link
 abbrev pub walkOf : ℕ → List ℕ → List ℕ → List ℕ → ℕ → ℕ → ℕ → ℕ → ℕ → Part
@@ -28,10 +30,11 @@ pub record Visited (w : Part) (u d p : List ℕ) (b : Tops) (x y z : List ℕ) (
   pub downs : Added d (b .downs) y (r .downs) (flat (w .downs))
   pub pairs : Added p (b .pairs) z (r .pairs) (flatPairs (w .pairs))
 
--- site v of a tree with balanced capacities, as the walk comes to it, with room in the arrays for all the sites below it
-pub record Visit (n : ℕ) (one two c : List ℕ) (fuel v j up down : ℕ) (u d p : List ℕ) (b : Tops) : Type 0 where
+-- site v of a tree with balanced capacities and chained links, as the walk comes to it, with fuel and room in the arrays for all the sites below it
+pub record Visit (n : ℕ) (last before one two c : List ℕ) (fuel v j up down : ℕ) (u d p : List ℕ) (b : Tops) : Type 0 where
   pub tree : TreeWithin edition1 n one two c
   pub balanced : Balanced (links one two) (leaf (links one two)) (look c)
+  pub chained : Chained one two last before
   pub site : Site n v
   pub start : Start (links one two) (look c) (leaf (links one two)) j v up down
   pub fuelled : size (links one two) n j v ≤ fuel
@@ -46,9 +49,24 @@ pub record Walkable (n : ℕ) (one two c : List ℕ) : Type 0 where
   pub tree : TreeWithin edition1 n one two c
   pub balanced : Balanced (links one two) (leaf (links one two)) (look c)
 
+-- an inner site of such a tree, whose links are chained
+pub record Root (root : ℕ) (last before one two c : List ℕ) : Type 0 where
+  pub walkable : Walkable (suc (length one)) one two c
+  pub chained : Chained one two last before
+  pub site : Site (suc (length one)) root
+  pub inner : leaf (links one two) root ≢ 1
+
+-- the pairs of the walk from a root
+abbrev pub pairsBelow : ℕ → List ℕ → List ℕ → List ℕ → List Pair
+pairsBelow root one two c = walkOf (suc (length one)) one two c (suc (length one)) root (length one) 0 0 .pairs
+
 -- the pairs of a tree that is offered as lists, in the order in which the walk makes them
 abbrev pub pairsOf : ℕ → List ℕ → List ℕ → List ℕ → List Pair
 pairsOf n one two c = pairs (links one two) n (look c)
+
+-- the pair that three numbers from a place on spell
+abbrev pub spelledAt : List ℕ → ℕ → Pair
+spelledAt l at = record { first = look l at; second = look l (at + 1); amount = look l (at + 2) }
 
 -- the pairs that numbers spell
 unfoldable pub spelled : List ℕ → List Pair

@@ -23,7 +23,7 @@ use Rattle.walk.specs.Sound.{Sound}
 use Rattle.sheet.specs.Sheet.{Network}
 use Rattle.sheet.specs.SheetTheorem.{IsNetwork}
 use Rattle.report.specs.Report.{decimal, line, lines, Plan, planOf, planRecord, linkRecord, linkLine, ownerName, siteLine, cutRecord, cutLine, pairLine, reportOf, report}
-use Rattle.report.specs.Decimal.{decimal-length}
+use Rattle.writers.specs.Decimal.{decimal-length}
 use Rattle.demands.specs.Printed.{Record}
 use Rattle.demands.specs.Plans.{trimmed-is-greatest, full-plan-is-sound}
 use Rattle.demands.specs.Records.{planFields, linkFields, siteFields, cutFields, pairFields}

@@ -15,10 +15,11 @@ use Rattle.theory.specs.Sums.{cases}
 use Rattle.line_kinds.specs.LineKinds.{all, isLetterOrDigit, isName}
 use Rattle.line_kinds.specs.LineKindLaws.{both, name-length as length-of-a-name}
 use Rattle.sheet.specs.Sheet.{Network, lookup}
-use Rattle.sheet.specs.LookupLaws.{nameAt, Says, lookup-says}
+use Rattle.names.specs.Names.{nameAt}
+use Rattle.names.specs.LookupLaws.{Says, lookup-says}
 use Rattle.sheet.specs.SheetTheorem.{IsNetwork}
-use Rattle.sheet.specs.declared.Found.{Found}
-use Rattle.sheet.specs.declared.Found.the-variants.{At, Absent}
+use Rattle.names.specs.declared.Found.{Found}
+use Rattle.names.specs.declared.Found.the-variants.{At, Absent}
 use Rattle.demands.specs.Printed.{siteFound, siteNamed}
 use Rattle.demands.specs.Parsing.{Plain}
 

@@ -13,8 +13,8 @@ use Rattle.network.specs.Text.{bytes}
 use Rattle.network.specs.declared.Pair.{Pair}
 use Rattle.line_kinds.specs.LineKinds.{push, fields, field, same, value}
 use Rattle.sheet.specs.Sheet.{Network, lookup}
-use Rattle.sheet.specs.declared.Found.{Found}
-use Rattle.sheet.specs.declared.Found.the-variants.{At, Absent}
+use Rattle.names.specs.declared.Found.{Found}
+use Rattle.names.specs.declared.Found.the-variants.{At, Absent}
 use Rattle.planner.specs.Outcome.{Planned, lengthOf}
 
 -- ---- plans

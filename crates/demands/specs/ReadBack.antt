@@ -20,7 +20,7 @@ use Rattle.theory.specs.Owners.{owner-or-none}
 use Rattle.walk.specs.Lists.{each-map}
 use Rattle.line_kinds.specs.LineKinds.{field, value}
 use Rattle.sheet.specs.Sheet.{Network}
-use Rattle.sheet.specs.LookupLaws.{nameAt}
+use Rattle.names.specs.Names.{nameAt}
 use Rattle.sheet.specs.SheetTheorem.{IsNetwork}
 use Rattle.report.specs.Report.{decimal, ownerName, planOf, report}
 use Rattle.demands.specs.Printed.{Record, records, headed, lastField, siteNamed, endsAmong, EndSet, Printed, readRecords, readReport}

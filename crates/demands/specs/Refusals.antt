@@ -14,8 +14,8 @@ use Rattle.line_kinds.specs.declared.Line.{Line}
 use Rattle.line_kinds.specs.declared.Line.the-variants as line
 use Rattle.sheet.specs.Sheet.{Network, empty, Read, refused, accepted, part, lookup, newName, addSite, newLink, addLink, readHeading, readRecord, readLine}
 use Rattle.sheet.specs.Sheet.{andThen, readLines, allJoined, finish, readSheet}
-use Rattle.sheet.specs.declared.Found.{Found}
-use Rattle.sheet.specs.declared.Found.the-variants.{At, Absent}
+use Rattle.names.specs.declared.Found.{Found}
+use Rattle.names.specs.declared.Found.the-variants.{At, Absent}
 
 -- a number of the table's causes 1 to 8
 abbrev pub Cause : ℕ → Type 0

@@ -2,28 +2,21 @@
 -- By counting the bytes of the fields.
 use mathlib.Core.Bool.{Bool, true, false, cond}
 use mathlib.Core.List.{List, [], _∷_}
-use mathlib.Core.Logic.{_⊎_, inl, inr, ⊎-elim}
+use mathlib.Core.Logic.{⊎-elim}
 use mathlib.Core.Path.{_≡_, refl, sym, ap, _∙_}
-use Prim.Native.Nat.{ℕ, suc, _+_, _-_, _≤_, _<_}
+use Prim.Native.Nat.{ℕ, suc, _+_, _-_, _≤_}
 use native.Mathlib.Nat.{add-sub-cancel-left}
 use native.Mathlib.Omega.{arith}
-use lib.Dec.{leb, ltb}
+use lib.Dec.{leb}
 use lib.ListN.{length, take, drop, length-take, length-drop}
 use lib.Seq.{take-length}
-use borrow.Author.Tests.{leb-true, ltb-true, ltb-false}
+use borrow.Author.Tests.{leb-true}
 use Rattle.line_kinds.specs.LineKinds.{push, fields, field, isName, value, isHeading, isSite, isLink, linkLine, kindOf, kind}
-use Rattle.line_kinds.specs.LineParts.{fieldLength}
-use Rattle.line_kinds.specs.LineKindLaws.{site-parts, link-parts, field-length-within, first-byte, some-field, last-field, first-field}
+use Rattle.fields.specs.Fields.{fieldLength}
+use Rattle.fields.specs.FieldLaws.{tab-or-none, first-byte, some-field, last-field, first-field}
+use Rattle.line_kinds.specs.LineKindLaws.{site-parts, link-parts}
 use Rattle.line_kinds.specs.declared.Line.{Line}
 use Rattle.line_kinds.specs.declared.Line.the-variants.{Heading, Site, Link, Fault}
-
--- a line has no tab, and is one field; or it has one, and there are more
-tab-or-none : (l : List ℕ) → (fieldLength l ≡ length l) ⊎ (fieldLength l < length l)
-tab-or-none l = by (ltb (fieldLength l) (length l)) refl
-  where
-    by : (t : Bool) → ltb (fieldLength l) (length l) ≡ t → (fieldLength l ≡ length l) ⊎ (fieldLength l < length l)
-    by true e = inr (ltb-true _ _ e)
-    by false e = inl (omega (arith, ltb-false (fieldLength l) (length l) e, field-length-within l))
 
 one-field : (l : List ℕ) → length (fields l) ≡ 1 → fields l ≡ l ∷ []
 one-field l e = ⊎-elim

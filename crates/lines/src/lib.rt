@@ -11,7 +11,7 @@ fn line_start(sheet: &[u8], at: usize) -> usize
 }
 
 // The offset at which the line at an offset ends: that of its byte 10, or the end of the sheet.
-pub fn line_end(sheet: &[u8], at: usize) -> usize
+fn line_end(sheet: &[u8], at: usize) -> usize
     ensures { λ r. ⌜ r ≡ lineEnd (now (sheet .entry)) at ⌝ }
 {
     let mut end = line_start(sheet, at);

@@ -1,4 +1,3 @@
-pub mod Searching
 pub mod Working
 pub mod Values
 pub mod Lending

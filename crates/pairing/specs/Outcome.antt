@@ -1,40 +1,21 @@
 -- The outcome of pairing: what is said of an offered tree, the lent list after it, and document 01's number.
--- Document 01, "Pairing" (what is said, in its order; the pair list) and "Plans, trimmed sizes, end sets" (heavy).
-use mathlib.Core.Bool.{Bool, true, false, cond, _&&_, _||_}
-use mathlib.Core.List.{List, [], _∷_, _++_}
+-- Document 01, "Pairing" (what is said, in its order; the pair list).
+use mathlib.Core.Bool.{Bool, true, false}
+use mathlib.Core.List.{List, _++_}
 use Prim.Native.Nat.{ℕ}
-use lib.Dec.{eqb, leb, ltb}
+use lib.Dec.{leb}
 use lib.ListN.{length, drop, replicate}
-use Rattle.network.specs.Numbers.{look, upfrom}
+use Rattle.network.specs.Numbers.{look}
 use Rattle.network.specs.Edition.{edition1}
-use Rattle.network.specs.Network.{Links, sites, at, others, leaf}
 use Rattle.network.specs.Pairing.{pairList}
 use Rattle.network.specs.declared.Pair.{Pair}
 use Rattle.pairlist.specs.PairList.{noPair}
 use Rattle.tree.specs.Offer.{links, offer}
 use Rattle.tree.specs.declared.Offer.{Offer}
 use Rattle.tree.specs.declared.Offer.the-variants as offered
+use Rattle.heavy.specs.Heavy.{heavySomewhere}
 use Rattle.pairing.specs.declared.Pairing.{Pairing}
 use Rattle.pairing.specs.declared.Pairing.the-variants.{NoTree, TooLarge, Short, Heavy, Pairs}
-
--- ---- a heavy link
-
--- some number of a list passes a test
-unfoldable pub any : (ℕ → Bool) → List ℕ → Bool
-any test [] = false
-any test (x ∷ xs) = test x || any test xs
-
--- link j is at v, and larger than all other links at v together (01: heavy)
-unfoldable pub isHeavy : Links → (ℕ → ℕ) → ℕ → ℕ → Bool
-isHeavy ls t v j = eqb (at ls v j) 1 && ltb (others ls v j t) (t j)
-
--- v is an inner site with a heavy link
-unfoldable pub heavyAt : Links → (ℕ → ℕ) → ℕ → Bool
-heavyAt ls t v = cond (eqb (leaf ls v) 1) false (any (isHeavy ls t v) (upfrom 0 (length ls)))
-
--- some inner site has a heavy link (01: a link heavy at some joint)
-unfoldable pub heavySomewhere : Links → ℕ → (ℕ → ℕ) → Bool
-heavySomewhere ls n t = any (heavyAt ls t) (sites n)
 
 -- ---- what is said
 

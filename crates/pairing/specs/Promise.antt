@@ -19,11 +19,11 @@ use Rattle.tree.specs.Offer.{links, offer}
 use Rattle.tree.specs.Accepted.{TreeWithin, accepted-is-a-tree-within-the-limits, a-tree-within-the-limits-is-accepted}
 use Rattle.tree.specs.declared.Offer.{Offer}
 use Rattle.tree.specs.declared.Offer.the-variants as offered
+use Rattle.heavy.specs.Heavy.{heavySomewhere, balanced-has-no-heavy-link, no-heavy-link-is-balanced}
 use Rattle.walk.specs.Sound.{Sound, Ascending}
 use Rattle.walk.specs.PairingTheorem.{pair-list-is-sound, pair-list-ascends, pair-list-lower-first}
 use Rattle.pairing.specs.declared.Pairing.the-variants.{Heavy, Pairs}
-use Rattle.pairing.specs.Outcome.{heavySomewhere, decide, answer, after, paired}
-use Rattle.pairing.specs.Heavy.{balanced-has-no-heavy-link, no-heavy-link-is-balanced}
+use Rattle.pairing.specs.Outcome.{decide, answer, after, paired}
 
 -- the first `count` places of a list hold the pairs of a tree with the balanced capacities c
 pub record Promise (n : ℕ) (one two c : List ℕ) (count : ℕ) (list : List Pair) : Type 0 where

@@ -2,14 +2,8 @@
 use network::Pair;
 use tree::Offer;
 ghost use mathlib.Core.Path.{_≡_};
-ghost use mathlib.Core.Bool.{_&&_};
-ghost use Prim.Native.Nat.{suc, _-_, _≤_};
-ghost use lib.Dec.{eqb, ltb};
 ghost use lib.ListN.{length};
-ghost use Rattle.network.specs.Numbers.{look};
-ghost use Rattle.tree.specs.Offer.{links};
-ghost use Rattle.decomposition.specs.Given.{Accepted};
-ghost use Rattle.pairing.specs.Outcome.{heavyAt, heavySomewhere, answer, paired, noPairs};
+ghost use Rattle.pairing.specs.Outcome.{answer, paired, noPairs};
 ghost use Rattle.pairing.specs.Storing.{Worked};
 
 // What is said of an offered tree whose balanced capacities are to be decomposed into pairs.
@@ -24,48 +18,6 @@ pub enum Pairing {
     Heavy,
     // the first places hold the pairs, this many
     Pairs { count: usize },
-}
-
-// Whether a link of capacity t, at the site or not, is larger than the other links there have of the sum.
-fn is_heavy(at: u64, t: u64, sum: u64) -> bool
-    requires { ⌜ (at ≡ 1 → t ≤ sum) ⌝ }
-    ensures { λ r. ⌜ r ≡ (eqb at 1 && ltb (sum - t) t) ⌝ }
-{
-    if at != 1 {
-        return false;
-    }
-    sum - t < t
-}
-
-// Whether v is an inner site with a heavy link.
-fn heavy_at(v: usize, one: &[usize], two: &[usize], capacity: &[u64]) -> bool
-    requires { ⌜ Accepted (now one) (now two) (now capacity) ⌝ }
-    ensures { λ r. ⌜ r ≡ heavyAt (links (now (one .entry)) (now (two .entry))) (look (now (capacity .entry))) v ⌝ }
-{
-    let site = decomposition::at_site(v, one, two, capacity);
-    if site.links == 1 {
-        return false;
-    }
-    let sum = site.capacity;
-    for j in 0..one.len() {
-        if is_heavy(tree::at_link(one[j], two[j], v), capacity[j], sum) {
-            return true;
-        }
-    }
-    false
-}
-
-// Whether some inner site has a heavy link.
-fn heavy(n: usize, one: &[usize], two: &[usize], capacity: &[u64]) -> bool
-    requires { ⌜ (n ≡ suc (length (now one))) × Accepted (now one) (now two) (now capacity) ⌝ }
-    ensures { λ r. ⌜ r ≡ heavySomewhere (links (now (one .entry)) (now (two .entry))) n (look (now (capacity .entry))) ⌝ }
-{
-    for v in 1..n + 1 {
-        if heavy_at(v, one, two, capacity) {
-            return true;
-        }
-    }
-    false
 }
 
 // What there is to say and to store: the first `count` pairs of the list, in the order in which they are made.
@@ -102,7 +54,7 @@ fn work_out(n: usize, one: &[usize], two: &[usize], capacity: &[u64], places: us
             if places < one.len() {
                 return refused(Pairing::Short);
             }
-            if heavy(n, one, two, capacity) {
+            if heavy::heavy(n, one, two, capacity) {
                 return refused(Pairing::Heavy);
             }
             let made = decomposition::decompose(n, one, two, capacity);

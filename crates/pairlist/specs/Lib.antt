@@ -1,3 +1,2 @@
 pub mod PairList
-pub mod Choice
 pub mod Laws

@@ -1,18 +1,17 @@
 -- What the program prints: a report lies within the buffer, and a refusal's line stands at its front.
-use mathlib.Core.Path.{_≡_, refl, sym, ap, _∙_}
+use mathlib.Core.Path.{_≡_, refl, ap}
 use mathlib.Core.Bool.{Bool, true, false, cond}
 use mathlib.Core.List.{List, _++_}
 use Prim.Native.Nat.{ℕ, _+_, _≤_}
 use native.Mathlib.Omega.{arith}
 use lib.Dec.{leb}
 use lib.ListN.{length, drop, length-append}
-use lib.Seq.{sets, length-sets}
+use lib.Seq.{length-sets}
 use Rattle.network.specs.Edition.{edition1}
 use Rattle.sheet.specs.Sheet.{Read, refused, accepted, readSheet}
 use Rattle.report.specs.Report.{report, refusalLine}
-use Rattle.report.specs.Wrote.{Wrote}
-use Rattle.planner.specs.Outcome.{Planned, Answer, deliver, planRead, planned, spelt, answered}
-use Rattle.planner.specs.declared.Outcome.{Outcome}
+use Rattle.writers.specs.Wrote.{Wrote}
+use Rattle.planner.specs.Outcome.{Planned, deliver, planRead, planned, spelt, answered}
 use Rattle.planner.specs.declared.Outcome.the-variants.{Report, Refused}
 
 -- a report's length is within the buffer after

@@ -1,8 +1,4 @@
 pub mod Outcome
-pub mod Shows
-pub mod Ready
-pub mod Writes
-pub mod Working
-pub mod Listing
+pub mod Fits
 pub mod Worked
 pub mod Answers

@@ -1,12 +1,11 @@
 -- The outcome of planning, for every sheet and every buffer: number, line, length, and the buffer after.
 -- Document 01, the table of causes and the lines below it.
 use mathlib.Core.Bool.{cond}
-use mathlib.Core.List.{List, [], _++_}
+use mathlib.Core.List.{List, _++_}
 use Prim.Native.Nat.{ℕ}
 use lib.Dec.{leb}
 use lib.ListN.{length, drop}
 use lib.Seq.{sets}
-use Rattle.network.specs.Edition.{edition1}
 use Rattle.network.specs.declared.Edition.{Edition}
 use Rattle.sheet.specs.Sheet.{Read, refused, accepted, readSheet}
 use Rattle.report.specs.Report.{report, refusalLine}
@@ -30,14 +29,6 @@ lengthOf (Refused k l) = 0
 pub record Planned : Type 0 where
   pub outcome : Outcome
   pub buffer : List ℕ
-
--- the report of a sheet; no bytes where it is refused
-unfoldable pub reportOfRead : List ℕ → Read → List ℕ
-reportOfRead s (refused n k) = []
-reportOfRead s (accepted net) = report s net
-
-abbrev pub reportFor : List ℕ → List ℕ
-reportFor s = reportOfRead s (readSheet edition1 s)
 
 -- a report into a buffer: 9 where it is longer than the buffer; the bytes after it keep their values
 unfoldable pub deliver : List ℕ → List ℕ → Planned

@@ -1,23 +1,21 @@
 -- From an accepted sheet to what is ready to be written: the network's lists are a tree that is accepted, and what is worked out of them shows its plan.
-use mathlib.Core.Path.{_≡_, refl, sym, ap, ap₂, _∙_}
-use mathlib.Core.Logic.{_≢_, _↔_}
-use mathlib.Core.List.{List, [], _∷_, _++_, map}
-use Prim.Native.Nat.{ℕ, zero, suc, _+_, _-_, _*_, _≤_, _<_}
+use mathlib.Core.Path.{_≡_, refl, sym, ap, _∙_}
+use mathlib.Core.Logic.{_≢_}
+use mathlib.Core.List.{List, [], _∷_, map}
+use Prim.Native.Nat.{ℕ, suc, _+_, _-_, _*_, _≤_, _<_}
 use native.Mathlib.Omega.{arith}
 use native.Mathlib.Numerals.{one-add}
-use native.Mathlib.Decide.{decLt}
-use lib.ListN.{length, getD, take, length-map, List·getD-map}
+use lib.ListN.{length, take, length-map}
 use Rattle.network.specs.Edition.{edition1}
-use Rattle.network.specs.Numbers.{is, less, over, look, upfrom}
+use Rattle.network.specs.Numbers.{is, look}
 use Rattle.network.specs.Network.{Links, Site, sites, leaf}
 use Rattle.network.specs.Trimming.{balanced}
-use Rattle.network.specs.Pairing.{pairList}
 use Rattle.network.specs.Cuts.{inCut, cutSize, cutCount, owner}
-use Rattle.theory.specs.Sums.{pick-same, pick-other, same?, is-le, is-other, less-one, less-none}
+use Rattle.theory.specs.Sums.{pick-same, pick-other, same?, is-le, is-other}
 use Rattle.theory.specs.Sites.{over-le, over-is, sites-once}
 use Rattle.theory.specs.TerminalCuts.{a-cut-holds-its-terminal}
 use Rattle.tree.specs.Offer.{links, offer}
-use Rattle.tree.specs.Accepted.{TreeWithin, a-tree-within-the-limits-is-accepted}
+use Rattle.tree.specs.Accepted.{a-tree-within-the-limits-is-accepted}
 use Rattle.tree.specs.declared.Offer.the-variants.{Accepted}
 use Rattle.trimming.specs.Outcome.{capacities}
 use Rattle.cuts.specs.Outcome.{places, ofTerminal, cuts, offeredCuts}
@@ -29,26 +27,17 @@ use Rattle.sheet.specs.SheetTheorem.{IsNetwork, an-accepted-sheet-is-a-tree}
 use Rattle.sheet.specs.declared.Network.{Network as Lists}
 use Rattle.planner.specs.Outcome.{planRead, planned}
 use Rattle.planner.specs.declared.Outcome.the-variants.{Refused}
-use Rattle.planner.specs.Shows.{Works}
-use Rattle.planner.specs.Ready.{Ready}
-use Rattle.planner.specs.Writes.{padded-front, padded-length}
-use Rattle.planner.specs.declared.Worked.{Worked}
+use Rattle.full_report.specs.Shows.{Works}
+use Rattle.full_report.specs.Ready.{Ready}
+use Rattle.full_report.specs.Writes.{padded-front, padded-length}
+use Rattle.working.specs.Working.{WorkedOut}
+use Rattle.working.specs.declared.Worked.{Worked}
 
 -- the lists of the network of an accepted sheet
 pub record Listed (s : List ℕ) (network : Lists) : Type 0 where
   pub net : Network
   pub read : readSheet edition1 s ≡ accepted net
   pub listed : network ≡ lists net
-
--- what is worked out of n sites, the first and second sites of the links, and the capacities
-pub record WorkedOut (n : ℕ) (one two c : List ℕ) (w : Worked) : Type 0 where
-  pub trimmed : take (length one) (w .trimmed) ≡ capacities n one two c
-  pub owners : w .owner ≡ offeredCuts n one two c (capacities n one two c) .owner
-  pub sizes : w .size ≡ offeredCuts n one two c (capacities n one two c) .size
-  pub counts : w .count ≡ offeredCuts n one two c (capacities n one two c) .count
-  pub ends : w .end ≡ map (less 0) (w .count)
-  pub pairs : take (w .pairs) (w .list) ≡ pairList (links one two) n (look (capacities n one two c))
-  pub held : w .pairs ≤ length (w .list)
 
 -- links taken apart and put together
 links-again : (ls : Links) → links (map (λ l. l .0) ls) (map (λ l. l .1) ls) ≡ ls
@@ -164,22 +153,16 @@ module _ (s : List ℕ) (network : Lists) (net : Network) (read : readSheet edit
     unfolding ofTerminal
     inner-place f i l d = place (ofTerminal (leaf ls) f) i l ∙ pick-other d (f (1 + i)) 0
 
-    terminals : (i : ℕ) → i < n → (look (w .end) i ≡ 1) ↔ (leaf ls (1 + i) ≡ 1)
-    unfolding less decLt
-    terminals i l =
-        let f = cutCount ls (look (net .capacities)) (look t) n in
-        let marks : look (w .end) i ≡ less 0 (look (places n (ofTerminal (leaf ls) f)) i)
-        = ap (λ e. look e i) (o .ends ∙ ap (map (less 0)) cut-counts) ∙ List·getD-map (less 0) (places n (ofTerminal (leaf ls) f)) i 0 in
-        same? (leaf ls (1 + i)) 1
-        (λ e. (λ _. e, λ _. marks ∙ ap (less 0) (terminal-place f i l e) ∙ less-one (some-member (1 + i) (omega arith, omega arith))))
-        (λ d. (λ z. absurd (omega (arith, marks, ap (less 0) (inner-place f i l d), less-none {a = 0} {b = 0} (λ h. omega arith))), λ z. absurd (d z)))
+    count-at : (i : ℕ) → i < n → leaf ls (1 + i) ≡ 1 → look (w .count) i ≡ cutCount ls (look (net .capacities)) (look t) n (1 + i)
+    count-at i l e = ap (λ z. look z i) cut-counts ∙ terminal-place (cutCount ls (look (net .capacities)) (look t) n) i l e
 
-    works : Works net (w .end) (w .owner) (w .size) (w .count) (take (w .pairs) (w .list))
+    works : Works net (w .owner) (w .size) (w .count) (take (w .pairs) (w .list))
     works = record {
-      end = terminals;
       own = λ i l. ap (λ e. look e i) owners ∙ place (owner ls (look (net .capacities)) (look t) (leaf ls) n) i l;
       cut = λ i l e. ap (λ z. look z i) cut-sizes ∙ terminal-place (cutSize ls (look (net .capacities)) (look t)) i l e;
-      members = λ i l e. ap (λ z. look z i) cut-counts ∙ terminal-place (cutCount ls (look (net .capacities)) (look t) n) i l e;
+      members = count-at;
+      some = λ i l e z. absurd (omega (arith, z, count-at i l e, some-member (1 + i) (omega arith, omega arith)));
+      none = λ i l d. ap (λ z. look z i) cut-counts ∙ inner-place (cutCount ls (look (net .capacities)) (look t) n) i l d;
       paired = o .pairs ∙ rw (same-trimmed, same-links, count);
     }
 
@@ -190,7 +173,6 @@ module _ (s : List ℕ) (network : Lists) (net : Network) (read : readSheet edit
       listed = listed;
       trimmed = ap (λ k. take k (w .trimmed)) (sym (ap length ones ∙ length-map ls (λ l. l .0))) ∙ o .trimmed ∙ same-trimmed;
       works = works;
-      terminals-held = ap length (o .ends) ∙ length-map (w .count) (less 0) ∙ ap length cut-counts ∙ length-places (ofTerminal (leaf ls) (cutCount ls (look (net .capacities)) (look t) n)) n few;
       owners-held = ap length owners ∙ length-places (owner ls (look (net .capacities)) (look t) (leaf ls) n) n few;
       sizes-held = ap length cut-sizes ∙ length-places (ofTerminal (leaf ls) (cutSize ls (look (net .capacities)) (look t))) n few;
       counts-held = ap length cut-counts ∙ length-places (ofTerminal (leaf ls) (cutCount ls (look (net .capacities)) (look t) n)) n few;

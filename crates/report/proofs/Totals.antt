@@ -1,13 +1,13 @@
 -- Totals of the first pairs of a list: one pair more, and no more than the whole.
-use mathlib.Core.Path.{_≡_, refl, ap, _∙_}
-use mathlib.Core.List.{List, [], _∷_, _++_}
+use mathlib.Core.Path.{_≡_}
+use mathlib.Core.List.{List, [], _∷_}
 use Prim.Native.Nat.{ℕ, zero, suc, _+_, _≤_, _<_}
 use native.Mathlib.Numerals.{add-one}
 use native.Mathlib.Omega.{arith}
 use lib.ListN.{length, getD, take}
 use Rattle.network.specs.Network.{total}
 use Rattle.network.specs.declared.Pair.{Pair}
-use Rattle.report.specs.Wrote.{no-pair}
+use Rattle.report.specs.Shown.{no-pair}
 
 total-suc : (pairs : List Pair) (i : ℕ) → i < length pairs → total (take (suc i) pairs) ≡ total (take i pairs) + getD pairs i no-pair .amount
 unfolding total

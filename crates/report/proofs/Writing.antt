@@ -1,50 +1,19 @@
--- Laws of writing: one run of bytes after another is one run.
+-- Laws of writing names, and line after line.
 use mathlib.Core.Path.{_≡_, refl, sym, ap, _∙_}
 use mathlib.Core.List.{List, [], _∷_, _++_, append-assoc, append-nil}
 use Prim.Native.Nat.{ℕ, zero, suc, _+_, _-_, _≤_, _<_}
 use native.Mathlib.Nat.{add-zero}
 use native.Mathlib.Numerals.{add-one}
 use native.Mathlib.Omega.{arith}
-use lib.ListN.{length, getD, take, drop, set, length-append, length-take}
-use lib.Seq.{sets, set-out, length-sets, take-suc}
+use lib.ListN.{length, getD, take, drop, length-append, length-take}
+use lib.Seq.{take-suc}
 use Rattle.network.specs.Numbers.{look, upfrom}
+use Rattle.network.specs.Text.{bytes}
 use Rattle.network.specs.declared.Pair.{Pair}
-use Rattle.report.specs.Report.{line, lines}
-use Rattle.report.specs.Wrote.{Wrote, nameBy, Named, no-pair}
-
-sets-append : (a b l : List ℕ) (i : ℕ) → sets l i (a ++ b) ≡ sets (sets l i a) (i + length a) b
-sets-append [] b l i = rw add-zero
-sets-append (x ∷ a) b l i =
-    let e : suc i + length a ≡ i + suc (length a) = omega arith in
-    rw (← e) (sets-append a b (set l i x) (suc i))
-
-pub nothing : (l : List ℕ) (at : ℕ) → Wrote l at [] l at
-nothing l at = record { next = sym (add-zero at); stored = refl }
-
--- a byte past the end
-pub past : (l : List ℕ) (at b : ℕ) → length l ≤ at → Wrote l at (b ∷ []) l (at + 1)
-past l at b h = record { next = refl; stored = sym (set-out l at b h) }
-
-pub then : {l m k : List ℕ} {at r q : ℕ} {a b : List ℕ} → Wrote l at a m r → Wrote m r b k q → Wrote l at (a ++ b) k q
-then {l} {m} {k} {at} {r} {q} {a} {b} v w = record {
-  next = omega (arith, v .next, w .next, length-append a b);
-  stored = w .stored ∙ (rw (v .next, v .stored) (sym (sets-append a b l at)));
-}
-
--- a writer keeps the buffer's length
-pub same-size : {l m : List ℕ} {at r : ℕ} {a : List ℕ} → Wrote l at a m r → length m ≡ length l
-same-size {l} {m} {at} {r} {a} v = ap length (v .stored) ∙ length-sets l at a
-
--- ---- lines, field by field from the last
-
-pub last-field : {l m : List ℕ} {at r : ℕ} (f : List ℕ) → Wrote l at (f ++ (10 ∷ [])) m r → Wrote l at (line (f ∷ [])) m r
-unfolding line
-last-field f w = w
-
-pub field-before : {l m k : List ℕ} {at r q : ℕ} (f g : List ℕ) (fs : List (List ℕ)) → Wrote l at (f ++ (9 ∷ [])) m r → Wrote m r (line (g ∷ fs)) k q
-    → Wrote l at (line (f ∷ g ∷ fs)) k q
-unfolding line
-field-before f g fs v w = rw append-assoc at (then v w)
+use Rattle.writers.specs.Wrote.{Wrote}
+use Rattle.writers.specs.Writing.{nothing, then}
+use Rattle.report.specs.Report.{line, lines, ownerName, siteLine}
+use Rattle.report.specs.Shown.{nameBy, Named, heldRecord, heldLine, no-pair}
 
 -- a name is at most 12 bytes
 pub name-room : {l m : List ℕ} {at r : ℕ} (s starts ends : List ℕ) (v stop : ℕ) → Wrote l at (nameBy s starts ends v ++ (stop ∷ [])) m r
@@ -74,6 +43,18 @@ lines-next f b n x e v w = rw (add-one, lines-last f b n, e) (then v w)
 pub lines-none : (l : List ℕ) (at : ℕ) (f : ℕ → List ℕ) (b : ℕ) → Wrote l at (lines f (upfrom b 0)) l at
 unfolding lines upfrom
 lines-none l at f b = nothing l at
+
+-- the line of a site, by the place before its number
+pub site-written : {l m : List ℕ} {at r : ℕ} (name : ℕ → List ℕ) (owners : List ℕ) (i : ℕ) → Wrote l at (line (bytes "N" ∷ name (i + 1) ∷ ownerName name (look owners i) ∷ [])) m r
+    → Wrote l at (siteLine name owners (i + 1)) m r
+unfolding siteLine
+site-written name owners i w = let e : i + 1 - 1 ≡ i = omega arith in rw e w
+
+-- so for the line of a cut
+pub cut-written : {l m : List ℕ} {at r : ℕ} (name : ℕ → List ℕ) (sizes counts : List ℕ) (i : ℕ) → Wrote l at (heldRecord name (i + 1) (look sizes i) (look counts i)) m r
+    → Wrote l at (heldLine name sizes counts (i + 1)) m r
+unfolding heldLine
+cut-written name sizes counts i w = let e : i + 1 - 1 ≡ i = omega arith in rw e w
 
 -- ---- lines for the pairs of a list
 

@@ -1,3 +1,2 @@
 pub mod Report
-pub mod Wrote
-pub mod Decimal
+pub mod Shown

@@ -1,33 +1,16 @@
 -- The report of a network: its bytes. Document 01, "The report, given whole".
-use mathlib.Core.Bool.{cond}
 use mathlib.Core.List.{List, [], _∷_, _++_, map}
-use Prim.Native.Nat.{ℕ, zero, suc, _+_, _-_, _/_, _%_}
-use lib.Dec.{ltb}
+use Prim.Native.Nat.{ℕ, _-_}
 use lib.ListN.{length, getD}
 use Rattle.network.specs.Numbers.{pick, look, upfrom}
-use Rattle.network.specs.Network.{Links, sites, one, two, sumAt, leaf, total}
+use Rattle.network.specs.Network.{sites, one, two, sumAt, leaf, total}
 use Rattle.network.specs.Trimming.{balanced}
 use Rattle.network.specs.Cuts.{cutSize, cutCount, owner}
 use Rattle.network.specs.Pairing.{pairList}
 use Rattle.network.specs.Text.{bytes}
 use Rattle.network.specs.declared.Pair.{Pair}
 use Rattle.sheet.specs.Sheet.{Network, part}
-
--- ---- numbers and lines
-
--- a number in decimal without a leading zero, like a size; fuel: more than its digits
-unfoldable pub digits : ℕ → ℕ → List ℕ
-digits zero n = []
-digits (suc fuel) n = cond (ltb n 10) ((48 + n) ∷ []) (digits fuel (n / 10) ++ ((48 + n % 10) ∷ []))
-
-unfoldable pub decimal : ℕ → List ℕ
-decimal n = digits (suc n) n
-
--- fields parted by one tab and ended by byte 10
-unfoldable pub line : List (List ℕ) → List ℕ
-line [] = []
-line (f ∷ []) = f ++ (10 ∷ [])
-line (f ∷ g ∷ fs) = f ++ (9 ∷ line (g ∷ fs))
+unfoldable pub use Rattle.writers.specs.Fields.{digits, decimal, line}
 
 -- the lines that f gives for each element of a list
 unfoldable pub lines : {A : Type 0} → (A → List ℕ) → List A → List ℕ

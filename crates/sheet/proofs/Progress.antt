@@ -1,30 +1,35 @@
 -- How far a sheet is read: the lists hold a network that the lines so far gave, and the lines left decide what reading comes to.
 -- Each step takes one line from those left to those read.
-use mathlib.Core.Bool.{true, false, cond, _&&_}
+use mathlib.Core.Bool.{true, false, cond}
 use mathlib.Core.List.{List, [], _∷_, _++_, map, map-append, reverse, reverseAux-append}
 use mathlib.Core.Path.{_≡_, refl, sym, ap, subst, _∙_}
 use Prim.Native.Nat.{ℕ, _+_, _-_, _≤_, _<_}
 use native.Mathlib.Nat.{sub-zero}
 use native.Mathlib.Numerals.{add-one}
 use native.Mathlib.Omega.{arith}
-use lib.Dec.{leb}
-use lib.ListN.{length, set, length-append, length-map}
+use lib.ListN.{length, replicate, set, length-append, length-map}
 use Rattle.network.specs.Numbers.{look, upfrom}
 use Rattle.network.specs.Network.{Site, relabel}
 use Rattle.network.specs.Edition.{edition1}
-use Rattle.lines.specs.Lines.{lineEnd, afterLine}
+use Rattle.labels.specs.Labels.{linked, whole}
+use Rattle.labels.specs.LabelPlaces.{linked-sites, whole-sites}
+use Rattle.lines.specs.Lines.{lineAt, afterLine}
+use Rattle.lines.specs.LineLaws.{length-of-line}
+use Rattle.names.specs.Names.{part, ranges, hash, entered, Indexes}
+use Rattle.names.specs.TableLaws.{no-sites, site-entered}
+use Rattle.steps.specs.Steps.{stepAt}
+use Rattle.steps.specs.declared.Step.{Step}
+use Rattle.steps.specs.declared.Step.the-variants as step
 use Rattle.sheet.specs.Sheet.{Network, empty, refused, accepted, readLine, readLines, andThen, finish}
 use Rattle.sheet.specs.Reading.{padded, lists, reading}
 use Rattle.sheet.specs.Sound.{Sound, Accepts, none-is-sound, a-line-keeps-sound, links-are-few}
 use Rattle.sheet.specs.ReadLaws.{lines-end, lines-step, read-line-is-ended}
-use Rattle.sheet.specs.Steps.{ranges, labels, alike, stepAt, applied}
-use Rattle.sheet.specs.ListLaws.{padded-more, length-padded}
-use Rattle.sheet.specs.LabelLaws.{length-labels, labels-join, alike-tells}
+use Rattle.sheet.specs.Steps.{labels, applied}
+use Rattle.sheet.specs.ListLaws.{padded-more}
+use Rattle.sheet.specs.LabelLaws.{own-labels, length-labels, labels-join, alike-tells}
 use Rattle.sheet.specs.StepLaws.{names-are, step-reads-the-line}
 use Rattle.sheet.specs.declared.Network.{Network as Lists}
 use Rattle.sheet.specs.declared.Answer.the-variants.{Accepted}
-use Rattle.sheet.specs.declared.Step.{Step}
-use Rattle.sheet.specs.declared.Step.the-variants as step
 
 -- an element more of a list, in the first free place of the list of one of its parts
 placed : (f : ℕ × ℕ → ℕ) (rs : List (ℕ × ℕ)) (r : ℕ × ℕ) → length rs < 256 → set (padded 256 (map f rs)) (length rs) (f r) ≡ padded 256 (map f (rs ++ (r ∷ [])))
@@ -56,28 +61,30 @@ withLink net a b size = record {
   links = net .links + 1;
 }
 
--- the lists hold the network of the lines before the line at an offset, and the lines from there on decide
-pub record Progress (s : List ℕ) (net : Lists) (marks : List ℕ) (at number : ℕ) : Type 0 where
+-- the lists hold the network of the lines before the line at an offset, the table its names, and the lines from there on decide
+pub record Progress (s : List ℕ) (net : Lists) (table marks : List ℕ) (at number : ℕ) : Type 0 where
   pub read : Network
   pub lists-are : net ≡ lists read
+  pub indexed : Indexes s (read .names) table
   pub labels-are : marks ≡ labels 257 (reverse (read .links))
   pub sound : Sound edition1 s read
   pub on-sheet : at ≤ length s
   pub numbered : number ≤ at + 1
   pub rest : readLines edition1 s (length s) 1 0 empty ≡ readLines edition1 s (length s - at) number at read
 
-pub start : (s : List ℕ) → Progress s (lists empty) (labels 257 []) 0 1
+pub start : (s : List ℕ) → Progress s (lists empty) (replicate 16384 0) (upfrom 0 257) 0 1
 start s = record {
   read = empty;
   lists-are = refl;
-  labels-are = refl;
+  indexed = no-sites s;
+  labels-are = sym (own-labels 257);
   sound = none-is-sound edition1 s;
   on-sheet = omega arith;
   numbered = omega arith;
   rest = rw sub-zero;
 }
 
-module _ {s marks : List ℕ} {net : Lists} {at number : ℕ} (P : Progress s net marks at number) where
+module _ {s table marks : List ℕ} {net : Lists} {at number : ℕ} (P : Progress s net table marks at number) where
   -- how many sites and links there are, and that the lists have their places
   sites-are : net .sites ≡ length (P .read .names)
   unfolding lists
@@ -87,23 +94,22 @@ module _ {s marks : List ℕ} {net : Lists} {at number : ℕ} (P : Progress s ne
   unfolding lists
   links-are = ap (λ n. n .links) (P .lists-are)
 
-  pub lengths : (length (net .start) ≡ 256) × (length (net .end) ≡ 256) × (length marks ≡ 257) × (net .sites ≤ 256)
+  pub lengths : (length marks ≡ 257) × (net .sites ≤ 256)
+  lengths = (ap length (P .labels-are) ∙ length-labels 257 (reverse (P .read .links)), omega (arith, sites-are, P .sound .few))
+
+  -- the names of the lists, of which the table is
+  ranges-are : ranges (net .start) (net .end) 0 (net .sites) ≡ P .read .names
   unfolding lists
-  lengths =
-      let few = P .sound .few in
-      let names = P .read .names in (
-        ap (λ n. length (n .start)) (P .lists-are) ∙ length-padded 256 (map (λ r. r .0) names) (omega (arith, length-map names (λ r. r .0))),
-        ap (λ n. length (n .end)) (P .lists-are) ∙ length-padded 256 (map (λ r. r .1) names) (omega (arith, length-map names (λ r. r .1))),
-        ap length (P .labels-are) ∙ length-labels 257 (reverse (P .read .links)),
-        omega (arith, sites-are),
-      )
+  ranges-are = rw (P .lists-are) (names-are 256 (P .read .names))
+
+  pub table-is : Indexes s (ranges (net .start) (net .end) 0 (net .sites)) table
+  table-is = rw ranges-are (P .indexed)
 
   module _ (w : Step) (h : at < length s) (e : w ≡ stepAt edition1 s (ranges (net .start) (net .end) 0 (net .sites)) marks number at) where
     -- the step reads the line
     line-is : readLine edition1 s (P .read) number at ≡ applied (P .read) number w
-    unfolding lists
     line-is =
-        let here = rw (P .lists-are, P .labels-are, names-are 256 (P .read .names)) at e in
+        let here = rw (ranges-are, P .labels-are) at e in
         step-reads-the-line (P .read) number 257 (omega (arith, P .sound .few)) edition1 s at ∙ ap (applied (P .read) number) (sym here)
 
     -- the network after a line is sound
@@ -111,16 +117,18 @@ module _ {s marks : List ℕ} {net : Lists} {at number : ℕ} (P : Progress s ne
     sound-next next q = subst (Accepts (Sound edition1 s)) (line-is ∙ q) (a-line-keeps-sound edition1 s (P .read) number (P .sound) at (P .on-sheet))
 
     -- and the lines left go on from it
-    on : (next : Network) → applied (P .read) number w ≡ accepted next → (after : Lists) → after ≡ lists next
-        → (joined : List ℕ) → joined ≡ labels 257 (reverse (next .links)) → Progress s after joined (lineEnd s at + 1) (number + 1)
-    unfolding afterLine lineEnd andThen
-    on next q after l joined m =
+    on : (next : Network) → applied (P .read) number w ≡ accepted next → (after : Lists) → after ≡ lists next → (entries : List ℕ) → Indexes s (next .names) entries
+        → (joined : List ℕ) → joined ≡ labels 257 (reverse (next .links)) → Progress s after entries joined (at + length (lineAt s at) + 1) (number + 1)
+    unfolding afterLine andThen
+    on next q after l entries t joined m =
         let read = line-is ∙ q in
         let ended = read-line-is-ended edition1 s number at (P .read) next read in
-        let past : afterLine s at ≡ lineEnd s at + 1 = omega arith in
+        let long = length-of-line s at in
+        let past : afterLine s at ≡ at + length (lineAt s at) + 1 = omega arith in
         record {
           read = next;
           lists-are = l;
+          indexed = t;
           labels-are = m;
           sound = sound-next next q;
           on-sheet = omega arith;
@@ -129,20 +137,22 @@ module _ {s marks : List ℕ} {net : Lists} {at number : ℕ} (P : Progress s ne
         }
 
     -- a heading leaves the lists as they are
-    pub by-heading : w ≡ step.Nothing → Progress s net marks (lineEnd s at + 1) (number + 1)
-    by-heading q = on (P .read) (ap (applied (P .read) number) q) net (P .lists-are) marks (P .labels-are)
+    pub by-heading : w ≡ step.Nothing → Progress s net table marks (at + length (lineAt s at) + 1) (number + 1)
+    by-heading q = on (P .read) (ap (applied (P .read) number) q) net (P .lists-are) table (P .indexed) marks (P .labels-are)
 
     -- a site takes the next place of the names
     pub site-fits : (a b : ℕ) → w ≡ step.Site a b → net .sites < 256
     site-fits a b q = omega (arith, sites-are, sound-next _ (ap (applied (P .read) number) q) .few, length-append (P .read .names) ((a, b) ∷ []))
 
-    pub by-site : (a b : ℕ) → w ≡ step.Site a b → Progress s (withSite net a b) marks (lineEnd s at + 1) (number + 1)
+    pub by-site : (a b : ℕ) → w ≡ step.Site a b → (entries : List ℕ) → entries ≡ entered table (hash (part s (a, b))) (net .sites + 1)
+        → Progress s (withSite net a b) entries marks (at + length (lineAt s at) + 1) (number + 1)
     unfolding lists
-    by-site a b q =
+    by-site a b q entries e =
         let names = P .read .names in
         let room : length names < 256 = omega (arith, sites-are, site-fits a b q) in
         on (record { names = names ++ ((a, b) ∷ []); links = P .read .links; capacities = P .read .capacities }) (ap (applied (P .read) number) q) _
         (rw (P .lists-are, placed (λ r. r .0) names (a, b) room, placed (λ r. r .1) names (a, b) room, length-append names ((a, b) ∷ [])))
+        entries (rw (e, sites-are) (site-entered (P .indexed) (a, b)))
         marks (P .labels-are)
 
     -- a link takes the next place of the links, and joins its sites
@@ -156,8 +166,8 @@ module _ {s marks : List ℕ} {net : Lists} {at number : ℕ} (P : Progress s ne
         let few = P .sound .few in
         omega (arith, links-are, links-are-few (P .sound) (omega arith))
 
-    pub by-link : (a b size : ℕ) → w ≡ step.Link a b size → (joined : List ℕ) → joined ≡ map (relabel (look marks a) (look marks b)) marks
-        → Progress s (withLink net a b size) joined (lineEnd s at + 1) (number + 1)
+    pub by-link : (a b size : ℕ) → w ≡ step.Link a b size → (joined : List ℕ) → joined ≡ linked marks a b
+        → Progress s (withLink net a b size) table joined (at + length (lineAt s at) + 1) (number + 1)
     unfolding lists
     by-link a b size q joined e =
         let ls = P .read .links in
@@ -168,8 +178,9 @@ module _ {s marks : List ℕ} {net : Lists} {at number : ℕ} (P : Progress s ne
         = rw (← (P .sound .capacities)) (padded-more 256 cs size (omega (arith, P .sound .capacities))) in
         on (record { names = P .read .names; links = ls ++ ((a, b) ∷ []); capacities = cs ++ (size ∷ []) }) (ap (applied (P .read) number) q) _
         (rw (P .lists-are, placed (λ l. l .0) ls (a, b) room, placed (λ l. l .1) ls (a, b) room, sized, length-append ls ((a, b) ∷ [])))
+        table (P .indexed)
         joined
-        (e ∙ ap (λ m. map (relabel (look m a) (look m b)) m) (P .labels-are) ∙ labels-join 257 a b (reverse ls) (fits .1) (fits .2) ∙ ap (labels 257) (sym (link-behind a b)))
+        (e ∙ linked-sites marks a b (omega (arith, lengths)) (omega (arith, lengths)) ∙ ap (λ m. map (relabel (look m a) (look m b)) m) (P .labels-are) ∙ labels-join 257 a b (reverse ls) (fits .1) (fits .2) ∙ ap (labels 257) (sym (link-behind a b)))
 
     -- a refused line decides
     pub by-refusal : (n : ℕ) → w ≡ step.Refused n → andThen (readLines edition1 s (length s) 1 0 empty) finish ≡ refused n number
@@ -183,16 +194,17 @@ module _ {s marks : List ℕ} {net : Lists} {at number : ℕ} (P : Progress s ne
     unfolding andThen
     finished = rw (P .rest, lines-end edition1 s (length s - at) number at (P .read) h)
 
-    whole : finish (P .read) ≡ cond (leb 2 (net .sites) && alike marks (upfrom 1 (net .sites))) (accepted (P .read)) (refused 8 0)
+    all-joined : finish (P .read) ≡ cond (whole marks (net .sites)) (accepted (P .read)) (refused 8 0)
     unfolding finish
-    whole = rw (alike-tells (P .read .links) 257 1 (length (P .read .names)) (omega arith) (omega (arith, P .sound .few)), ← (P .labels-are), ← sites-are)
+    all-joined =
+        rw (whole-sites marks (net .sites) (omega (arith, lengths)), alike-tells (P .read .links) 257 1 (length (P .read .names)) (omega arith) (omega (arith, P .sound .few)), ← (P .labels-are), ← sites-are)
 
     -- under two sites, or not all joined
-    pub by-parts : (leb 2 (net .sites) && alike marks (upfrom 1 (net .sites))) ≡ false → andThen (readLines edition1 s (length s) 1 0 empty) finish ≡ refused 8 0
-    by-parts e = finished ∙ whole ∙ rw e
+    pub by-parts : whole marks (net .sites) ≡ false → andThen (readLines edition1 s (length s) 1 0 empty) finish ≡ refused 8 0
+    by-parts e = finished ∙ all-joined ∙ rw e
 
     -- else the network is that of the lists
-    pub by-acceptance : (leb 2 (net .sites) && alike marks (upfrom 1 (net .sites))) ≡ true
+    pub by-acceptance : whole marks (net .sites) ≡ true
         → reading (andThen (readLines edition1 s (length s) 1 0 empty) finish) ≡ record { answer = Accepted; network = net }
     unfolding reading
-    by-acceptance e = rw (finished, whole, e, ← (P .lists-are))
+    by-acceptance e = rw (finished, all-joined, e, ← (P .lists-are))

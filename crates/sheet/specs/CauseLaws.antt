@@ -20,11 +20,11 @@ use Rattle.line_kinds.specs.FaultyLines.{fault-numbers}
 use Rattle.line_kinds.specs.declared.Line.{Line}
 use Rattle.line_kinds.specs.declared.Line.the-variants as line
 use Rattle.sheet.specs.Sheet.{Network, Read, refused, accepted, part, lookup, newName, addSite, newLink, addLink, readHeading, readRecord, readLine}
-use Rattle.sheet.specs.LookupLaws.{Says, lookup-says}
+use Rattle.names.specs.LookupLaws.{Says, lookup-says}
 use Rattle.sheet.specs.Sound.{Sound}
 use Rattle.sheet.specs.Causes.{Named, NotGiven, Ended, Cause, unended, no-heading, second-heading, wrong-form, too-large, too-many, given, not-given, already-joined}
-use Rattle.sheet.specs.declared.Found.{Found}
-use Rattle.sheet.specs.declared.Found.the-variants.{At, Absent}
+use Rattle.names.specs.declared.Found.{Found}
+use Rattle.names.specs.declared.Found.the-variants.{At, Absent}
 
 -- ---- look-ups
 

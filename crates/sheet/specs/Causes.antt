@@ -11,7 +11,7 @@ use Rattle.lines.specs.Lines.{lineAt, afterLine}
 use Rattle.line_kinds.specs.LineKinds.{kind}
 use Rattle.line_kinds.specs.declared.Line.the-variants as line
 use Rattle.sheet.specs.Sheet.{Network, empty, accepted, part, readLine}
-use Rattle.sheet.specs.LookupLaws.{nameAt}
+use Rattle.names.specs.Names.{nameAt}
 
 -- site v has the name f
 pub record Named (s : List ℕ) (names : List (ℕ × ℕ)) (f : List ℕ) (v : ℕ) : Type 0 where

@@ -1,15 +1,12 @@
 -- The list of labels tells what is joined, and is kept by joining: each link more relabels it, so it holds the labels of the links from the last one on.
-use mathlib.Core.Bool.{Bool, true, false, _&&_}
-use mathlib.Core.List.{List, [], _∷_, map, map-map, reverse}
+use mathlib.Core.Bool.{Bool, true, false}
+use mathlib.Core.List.{[], _∷_, map, map-id, map-map, reverse}
 use mathlib.Core.Logic.{_↔_}
 use mathlib.Core.Path.{_≡_, refl, sym, _∙_}
-use Prim.Native.Nat.{ℕ, zero, suc, _+_, _-_, _≤_, _<_}
-use native.Mathlib.Numerals.{add-one}
+use Prim.Native.Nat.{ℕ, zero, suc, _+_, _≤_, _<_}
 use native.Mathlib.Omega.{arith}
 use lib.Dec.{eqb}
-use lib.ListN.{length, set, length-map}
-use lib.Seq.{ext-getD, getD-set-same, getD-set-other}
-use borrow.Author.Count.{below-more}
+use lib.ListN.{length, length-map}
 use borrow.Author.Tests.{eqb-true, eqb-false, eq-eqb, ne-eqb}
 use Rattle.network.specs.Numbers.{is, look, upfrom}
 use Rattle.network.specs.Network.{Links, relabel, label, joined}
@@ -17,7 +14,8 @@ use Rattle.theory.specs.Sums.{is-one, is-same}
 use Rattle.theory.specs.Sites.{length-upfrom, look-values}
 use Rattle.theory.specs.Fresh.{joined-reversed}
 use Rattle.sheet.specs.Sheet.{allJoined}
-use Rattle.sheet.specs.Steps.{labels, alike}
+use Rattle.labels.specs.Labels.{alike}
+use Rattle.sheet.specs.Steps.{labels}
 
 -- two equations that hold together are tested alike
 test-iff : (a b c d : ℕ) → (a ≡ b) ↔ (c ≡ d) → eqb a b ≡ eqb c d
@@ -46,26 +44,12 @@ alike-tells ls n b zero h l = refl
 alike-tells ls n b (suc m) h l = rw (labels-tell ls n 1 b h (omega arith), alike-tells ls n (suc b) m h (omega arith))
 
 -- the labels before the first link
-pub own-labels : (n : ℕ) (l : List ℕ) → length l ≡ n → ((x : ℕ) → x < n → look l x ≡ x) → l ≡ labels n []
+pub own-labels : (n : ℕ) → labels n [] ≡ upfrom 0 n
 unfolding labels label
-own-labels n l e h = ext-getD 0 l (map (label []) (upfrom 0 n)) (e ∙ sym (length-labels n []))
-    (λ x b. h x (omega arith) ∙ sym (look-values (label []) n x (omega arith)))
-
--- a list filled with its own places up to x, and at x
-pub own-place : (l : List ℕ) (x : ℕ) → x < length l → ((y : ℕ) → y < x → look l y ≡ y) → (y : ℕ) → y < x + 1 → look (set l x x) y ≡ y
-own-place l x b h = below-more (λ y. look (set l x x) y ≡ y) x (λ y p. getD-set-other l x y x 0 (λ e. omega arith) ∙ h y p) (getD-set-same l x x 0 b)
+own-labels n = map-id (upfrom 0 n)
 
 -- the labels with one link more
 pub labels-join : (n a b : ℕ) (ls : Links) → a < n → b < n
     → map (relabel (look (labels n ls) a) (look (labels n ls) b)) (labels n ls) ≡ labels n ((a, b) ∷ ls)
 unfolding labels label
 labels-join n a b ls p q = rw (look-values (label ls) n a p, look-values (label ls) n b q) (map-map (relabel (label ls a) (label ls b)) (label ls) (upfrom 0 n))
-
--- the sites from x on are alike, by site x
-pub alike-step : (l : List ℕ) (n x : ℕ) → x ≤ n → alike l (upfrom x (n + 1 - x)) ≡ (eqb (look l 1) (look l x) && alike l (upfrom (x + 1) (n + 1 - (x + 1))))
-unfolding alike upfrom
-alike-step l n x h = let more : n + 1 - x ≡ suc (n + 1 - suc x) = omega arith in rw (more, add-one x)
-
-pub alike-end : (l : List ℕ) (n x : ℕ) → n < x → alike l (upfrom x (n + 1 - x)) ≡ true
-unfolding alike upfrom
-alike-end l n x h = let none : n + 1 - x ≡ 0 = omega arith in rw none

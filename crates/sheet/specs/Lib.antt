@@ -3,7 +3,6 @@ pub mod Reading
 pub mod Steps
 pub mod Causes
 pub mod ListLaws
-pub mod LookupLaws
 pub mod LabelLaws
 pub mod ReadLaws
 pub mod Sound

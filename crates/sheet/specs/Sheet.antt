@@ -2,17 +2,20 @@
 -- Document 01, "The network sheet". What a line by itself is stands in `LineKinds`.
 use mathlib.Core.Bool.{Bool, true, cond, _&&_}
 use mathlib.Core.List.{List, [], _∷_, _++_}
-use Prim.Native.Nat.{ℕ, zero, suc, _+_, _-_}
+use Prim.Native.Nat.{ℕ, zero, suc, _+_}
 use lib.Dec.{eqb, leb, ltb}
-use lib.ListN.{length, getD, take, drop}
+use lib.ListN.{length, getD, drop}
 use Rattle.network.specs.Network.{Links, sites, joined}
 use Rattle.network.specs.declared.Edition.{Edition}
 use Rattle.lines.specs.Lines.{lineLength, lineAt, afterLine, hasLine}
-use Rattle.line_kinds.specs.LineKinds.{same, kind}
+use Rattle.line_kinds.specs.LineKinds.{kind}
 use Rattle.line_kinds.specs.declared.Line.{Line}
 use Rattle.line_kinds.specs.declared.Line.the-variants.{Heading, Site, Link, Fault}
-use Rattle.sheet.specs.declared.Found.{Found}
-use Rattle.sheet.specs.declared.Found.the-variants.{At, Absent}
+use Rattle.names.specs.declared.Found.{Found}
+use Rattle.names.specs.declared.Found.the-variants.{At, Absent}
+-- a part of the sheet, and the look-up of a name
+pub use Rattle.names.specs.Names.{part, lookup}
+unfoldable pub use Rattle.names.specs.Names.{lookupFrom}
 
 -- ---- the network read so far
 
@@ -29,18 +32,6 @@ empty = record { names = []; links = []; capacities = [] }
 pub data Read : Type 0 where
   refused : ℕ → ℕ → Read
   accepted : Network → Read
-
--- the part of the sheet from start to end
-abbrev pub part : List ℕ → ℕ × ℕ → List ℕ
-part s r = take (r .1 - r .0) (drop (r .0) s)
-
--- the number of the first site whose name is f, the names given being those of the sites from k up
-unfoldable pub lookupFrom : List ℕ → List (ℕ × ℕ) → ℕ → List ℕ → Found
-lookupFrom s [] k f = Absent
-lookupFrom s (r ∷ rs) k f = cond (same (part s r) f) (At k) (lookupFrom s rs (suc k) f)
-
-abbrev pub lookup : List ℕ → List (ℕ × ℕ) → List ℕ → Found
-lookup s names f = lookupFrom s names 1 f
 
 -- ---- a line read into the network: at offset `at`, with number k
 

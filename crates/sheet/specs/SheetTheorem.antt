@@ -16,7 +16,7 @@ use Rattle.theory.specs.Labels.{joined-label}
 use Rattle.theory.specs.Fresh.{joined-reversed, fresh-links-make-a-tree, tree-reversed}
 use Rattle.line_kinds.specs.LineKindLaws.{both}
 use Rattle.sheet.specs.Sheet.{Network, empty, Read, refused, accepted, readLines, allJoined, finish, andThen, readSheet}
-use Rattle.sheet.specs.LookupLaws.{nameAt}
+use Rattle.names.specs.Names.{nameAt}
 use Rattle.sheet.specs.ReadLaws.{enough-fuel}
 use Rattle.sheet.specs.Causes.{Refusal}
 use Rattle.sheet.specs.RefusalLaws.{all-joined, a-refused-sheet-has-its-cause, a-cause-refuses-its-sheet}

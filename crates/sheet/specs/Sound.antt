@@ -8,12 +8,12 @@ use Prim.Native.Nat.{ℕ, zero, suc, _+_, _-_, _≤_, _<_}
 use native.Mathlib.Omega.{arith}
 use lib.Dec.{eqb, leb, ltb}
 use lib.ListN.{length, getD, take, drop, length-append, length-drop, length-reverse, List·getD-append}
-use lib.Seq.{drop-drop, drop-append-le, take-append-le, getD-append-seam}
+use lib.Seq.{drop-drop, drop-append-le, take-append-le}
 use borrow.Author.Tests.{eqb-false, leb-false}
 use Rattle.network.specs.Numbers.{is, look}
 use Rattle.network.specs.Network.{Links, Site, Ends, label, joined}
 use Rattle.network.specs.declared.Edition.{Edition}
-use Rattle.theory.specs.Sums.{is-same, same?, sum-ge}
+use Rattle.theory.specs.Sums.{is-same, sum-ge}
 use Rattle.theory.specs.Labels.{Fresh, reps, reps-eq, label-label, label-site}
 use Rattle.theory.specs.Fresh.{joined-reversed}
 use Rattle.lines.specs.Lines.{lineLength, lineAt, afterLine, hasLine}
@@ -22,10 +22,12 @@ use Rattle.line_kinds.specs.LineKinds.{isName, kind}
 use Rattle.line_kinds.specs.FormedLines.{Formed, kinds-are-formed}
 use Rattle.line_kinds.specs.declared.Line.{Line}
 use Rattle.line_kinds.specs.declared.Line.the-variants as line
+use Rattle.names.specs.Names.{nameAt}
+use Rattle.names.specs.Lists.{one-more}
+use Rattle.names.specs.LookupLaws.{Says, lookup-says}
+use Rattle.names.specs.declared.Found.{Found}
+use Rattle.names.specs.declared.Found.the-variants.{At, Absent}
 use Rattle.sheet.specs.Sheet.{Network, empty, Read, refused, accepted, part, lookup, newName, addSite, newLink, addLink, readHeading, readRecord, readLine, andThen, readLines}
-use Rattle.sheet.specs.LookupLaws.{nameAt, Says, lookup-says}
-use Rattle.sheet.specs.declared.Found.{Found}
-use Rattle.sheet.specs.declared.Found.the-variants.{At, Absent}
 
 -- a range of the sheet that holds a name
 pub record IsNameRange (s : List ℕ) (r : ℕ × ℕ) : Type 0 where
@@ -48,15 +50,6 @@ pub record Sound (ed : Edition) (s : List ℕ) (net : Network) : Type 0 where
 abbrev pub Accepts : (Network → Type 0) → Read → Type 0
 Accepts P (refused n k) = Unit {0}
 Accepts P (accepted net) = P net
-
--- ---- a list with one more
-
-module _ {A : Type 0} (P : ℕ → A → Type 0) (l : List A) (a d : A) where
-  -- what holds of each element, and of the one more, holds of each element with it
-  one-more : ((i : ℕ) → i < length l → P i (getD l i d)) → P (length l) a → (i : ℕ) → i < length (l ++ (a ∷ [])) → P i (getD (l ++ (a ∷ [])) i d)
-  one-more h k i b = same? i (length l)
-      (λ e. rw (e, getD-append-seam l a [] d) k)
-      (λ e. rw (List·getD-append l (a ∷ []) d i (omega (arith, length-append l (a ∷ [])))) (h i (omega (arith, length-append l (a ∷ [])))))
 
 -- ---- a part of a line is a part of the sheet
 

@@ -1,56 +1,33 @@
 -- A step reads a line as the definition does: names are looked up in the lists, labels tell what is joined, and the rest goes case by case.
 use mathlib.Core.Bool.{Bool, true, false, cond}
 use mathlib.Core.List.{List, [], _∷_, map, reverse}
-use mathlib.Core.Logic.{_≢_}
-use mathlib.Core.Path.{_≡_, refl, ap, subst, _∙_}
-use Prim.Native.Nat.{ℕ, zero, suc, _+_, _-_, _≤_, _<_}
-use native.Mathlib.Numerals.{add-one}
+use mathlib.Core.Path.{_≡_, refl, _∙_}
+use Prim.Native.Nat.{ℕ, suc, _+_, _<_}
 use native.Mathlib.Omega.{arith}
 use native.Mathlib.Nat.{add-zero, zero-add}
 use lib.Dec.{eqb, leb, ltb}
 use lib.ListN.{length, drop, getD, List·getD-map}
-use borrow.Author.Tests.{eqb-true, eq-eqb, ne-eqb, lt-ltb, le-ltb}
+use borrow.Author.Tests.{eqb-true}
 use Rattle.network.specs.Numbers.{look}
 use Rattle.network.specs.Network.{Site}
 use Rattle.network.specs.declared.Edition.{Edition}
 use Rattle.lines.specs.Lines.{lineLength, lineAt}
-use Rattle.lines.specs.LineLaws.{length-of-line}
-use Rattle.line_kinds.specs.LineKinds.{same, kind}
+use Rattle.line_kinds.specs.LineKinds.{kind}
 use Rattle.line_kinds.specs.declared.Line.{Line}
 use Rattle.line_kinds.specs.declared.Line.the-variants as line
-use Rattle.sheet.specs.Sheet.{Network, refused, part, lookupFrom, lookup, newName, addSite, newLink, addLink, readHeading, readRecord, readLine}
+use Rattle.names.specs.Names.{ranges}
+use Rattle.names.specs.declared.Found.{Found}
+use Rattle.names.specs.declared.Found.the-variants.{At, Absent}
+use Rattle.steps.specs.Steps.{siteBy, siteStep, linkStep, Labelled, headingStep, recordStep, stepAt}
+use Rattle.steps.specs.StepCases.{labelled}
+use Rattle.steps.specs.declared.Step.the-variants.{Link, Refused}
+use Rattle.sheet.specs.Sheet.{Network, refused, part, lookup, newName, addSite, newLink, addLink, readHeading, readRecord, readLine}
 use Rattle.sheet.specs.Reading.{padded}
-use Rattle.sheet.specs.LookupLaws.{Says, lookup-says}
-use Rattle.sheet.specs.Steps.{ranges, labels, siteBy, siteStep, linkBy, linkStep, headingStep, recordStep, stepAt, applied}
+use Rattle.sheet.specs.Steps.{labels, applied}
 use Rattle.sheet.specs.LabelLaws.{labels-tell}
 use Rattle.sheet.specs.ListLaws.{look-padded}
-use Rattle.sheet.specs.declared.Found.{Found}
-use Rattle.sheet.specs.declared.Found.the-variants.{At, Absent}
-use Rattle.sheet.specs.declared.Step.the-variants.{Link, Refused}
 
 -- ---- names in two lists
-
--- the look-up over the ranges from place i on, by the range at i
-pub lookup-step : (s f starts ends : List ℕ) (i n : ℕ) → i < n
-    → lookupFrom s (ranges starts ends i (n - i)) (i + 1) f
-    ≡ cond (same (part s (look starts i, look ends i)) f) (At (i + 1)) (lookupFrom s (ranges starts ends (i + 1) (n - (i + 1))) (i + 1 + 1) f)
-unfolding ranges lookupFrom
-lookup-step s f starts ends i n l =
-    let more : n - i ≡ suc (n - suc i) = omega arith in
-    rw (more, add-one i, add-one (suc i))
-
-pub lookup-end : (s f starts ends : List ℕ) (i n k : ℕ) → n ≤ i → lookupFrom s (ranges starts ends i (n - i)) k f ≡ Absent
-unfolding ranges lookupFrom
-lookup-end s f starts ends i n k l = let none : n - i ≡ 0 = omega arith in rw none
-
-pub length-ranges : (starts ends : List ℕ) (i n : ℕ) → length (ranges starts ends i n) ≡ n
-unfolding ranges
-length-ranges starts ends i zero = refl
-length-ranges starts ends i (suc n) = ap suc (length-ranges starts ends (suc i) n)
-
--- what is found is one of the sites
-pub found-is-a-site : (s f : List ℕ) (names : List (ℕ × ℕ)) (v : ℕ) → lookup s names f ≡ At v → Site (length names) v
-found-is-a-site s f names v e = let h = subst (Says s names 1 f) e (lookup-says s f names 1) in omega arith
 
 ranges-are : (starts ends : List ℕ) (i : ℕ) (rs : List (ℕ × ℕ))
     → ((j : ℕ) → j < length rs → (look starts (i + j) ≡ getD rs j (0, 0) .0) × (look ends (i + j) ≡ getD rs j (0, 0) .1))
@@ -72,20 +49,8 @@ names-are n rs = ranges-are (padded n (map (λ r. r .0) rs)) (padded n (map (λ 
 
 -- ---- steps
 
--- a site that is found has a label
-abbrev Labelled : ℕ → Found → Type 0
-Labelled n (At v) = v < n
-Labelled n Absent = Unit {0}
-
-labelled : (s f : List ℕ) (names : List (ℕ × ℕ)) (n : ℕ) → length names < n → Labelled n (lookup s names f)
-labelled s f names n l = by (lookup s names f) (lookup-says s f names 1)
-  where
-    by : (w : Found) → Says s names 1 f w → Labelled n w
-    by (At v) h = omega arith
-    by Absent h = tt
-
 module _ (net : Network) (k : ℕ) where
-  site-step : (ed : Edition) (s : List ℕ) (r : ℕ × ℕ) → addSite ed s net k r ≡ applied net k (siteStep ed s (net .names) r)
+  site-step : (ed : Edition) (s : List ℕ) (r : ℕ × ℕ) → addSite ed s net k r ≡ applied net k (siteStep ed (length (net .names)) r (lookup s (net .names) (part s r)))
   unfolding addSite siteStep newName
   site-step ed s r = by (leb (ed .sites) (length (net .names))) (lookup s (net .names) (part s r))
     where
@@ -94,7 +59,7 @@ module _ (net : Network) (k : ℕ) where
       by false (At v) = refl
       by false Absent = refl
 
-  link-by : (n size : ℕ) (u w : Found) → Labelled n u → Labelled n w → newLink net k size u w ≡ applied net k (linkBy (labels n (reverse (net .links))) size u w)
+  link-by : (n size : ℕ) (u w : Found) → Labelled n u → Labelled n w → newLink net k size u w ≡ applied net k (linkStep (labels n (reverse (net .links))) size u w)
   unfolding newLink
   link-by n size Absent w p q = refl
   link-by n size (At a) Absent p q = refl
@@ -105,8 +70,8 @@ module _ (net : Network) (k : ℕ) where
       by false = refl
 
   module _ (n : ℕ) (l : length (net .names) < n) where
-    link-step : (s : List ℕ) (r q : ℕ × ℕ) (size : ℕ) → addLink s net k r q size ≡ applied net k (linkStep s (net .names) (labels n (reverse (net .links))) (part s r) (part s q) size)
-    unfolding addLink linkStep
+    link-step : (s : List ℕ) (r q : ℕ × ℕ) (size : ℕ) → addLink s net k r q size ≡ applied net k (linkStep (labels n (reverse (net .links))) size (lookup s (net .names) (part s r)) (lookup s (net .names) (part s q)))
+    unfolding addLink
     link-step s r q size = link-by n size (lookup s (net .names) (part s r)) (lookup s (net .names) (part s q))
         (labelled s (part s r) (net .names) n l)
         (labelled s (part s q) (net .names) n l)
@@ -138,18 +103,3 @@ module _ (net : Network) (k : ℕ) where
       by false u e w = refl
       by true true e w = heading-step (eqb-true k 1 e) w
       by true false e w = record-step n l ed s at w
-
--- ---- a step, case by case
-
-module _ (ed : Edition) (s : List ℕ) (names : List (ℕ × ℕ)) (marks : List ℕ) (k at : ℕ) where
-  pub unended-step : length s ≤ at + length (lineAt s at) → stepAt ed s names marks k at ≡ Refused 2
-  unfolding stepAt
-  unended-step h = rw (le-ltb (at + lineLength (drop at s)) (length s) (omega (arith, length-of-line s at)))
-
-  pub first-step : at + length (lineAt s at) < length s → k ≡ 1 → stepAt ed s names marks k at ≡ headingStep (kind (ed .size) (lineAt s at))
-  unfolding stepAt
-  first-step h e = rw (lt-ltb (at + lineLength (drop at s)) (length s) (omega (arith, length-of-line s at)), eq-eqb k 1 e)
-
-  pub later-step : at + length (lineAt s at) < length s → k ≢ 1 → stepAt ed s names marks k at ≡ recordStep ed s names marks at (kind (ed .size) (lineAt s at))
-  unfolding stepAt
-  later-step h d = rw (lt-ltb (at + lineLength (drop at s)) (length s) (omega (arith, length-of-line s at)), ne-eqb k 1 d)

@@ -5,10 +5,10 @@ use mathlib.Core.List.{List}
 use Prim.Native.Nat.{ℕ}
 use native.Mathlib.Omega.{arith}
 use Rattle.theory.specs.Trees.{loopless}
-use Rattle.tree.specs.Offer.{links}
-use Rattle.tree.specs.Links.{length-links, links-one, links-two}
+use Rattle.elimination.specs.Links.{length-links, links-one, links-two}
+use Rattle.elimination.specs.Steps.{Proper}
 use Rattle.tree.specs.Accepted.{TreeOf}
-use Rattle.tree.specs.Steps.{Tells, Proper}
+use Rattle.tree.specs.Steps.{Tells}
 
 pub told : (b : Bool) {P : Type 0} → Tells b P → b ≡ true → P
 told true t e = t

@@ -4,23 +4,25 @@ use mathlib.Core.Bool.{Bool, true, false, cond, _&&_}
 use mathlib.Core.List.{List, [], _∷_}
 use Prim.Native.Nat.{ℕ, zero, suc, _-_, _≤_, _<_}
 use native.Mathlib.Omega.{arith}
-use borrow.Author.Tests.{leb-true, eqb-true, le-leb, eq-eqb, ne-eqb}
+use borrow.Author.Tests.{leb-true, eqb-true, le-leb, eq-eqb}
 use lib.Dec.{eqb, leb}
 use lib.Seq.{take-at}
 use lib.ListN.{length, take, replicate}
 use Rattle.network.specs.Numbers.{count, look}
-use Rattle.network.specs.Network.{Links, Tree, label, sites}
-use Rattle.network.specs.Trimming.{elimination}
+use Rattle.network.specs.Network.{Links, Site, Tree, label, sites}
+use Rattle.network.specs.Trimming.{elimination, InwardOrder}
 use Rattle.network.specs.Edition.{edition1}
 use Rattle.network.specs.declared.Edition.{Edition}
 use Rattle.theory.specs.Sums.{is-same, is-other, same?}
 use Rattle.theory.specs.Sites.{sites-once, sites-site}
 use Rattle.theory.specs.TreeTest.{length-elimination}
+use Rattle.elimination.specs.Links.{length-links, links-one, links-two}
+use Rattle.elimination.specs.Toward.{eliminationToward, orderIn}
+use Rattle.elimination.specs.Rooted.{elimination-toward-a-root-is-inward, ends-at-the-root, without-a-root, length-elimination-toward}
 use Rattle.tree.specs.declared.Offer.{Offer}
 use Rattle.tree.specs.declared.Offer.the-variants.{NoTree, TooLarge, Accepted}
-use Rattle.tree.specs.Offer.{links, within, labelled, isTree, offer}
-use Rattle.tree.specs.Elimination.{orderIn, decide, eliminated}
-use Rattle.tree.specs.Links.{length-links, links-one, links-two}
+use Rattle.tree.specs.Offer.{links, within, labelled, isTree, offerOf, offer}
+use Rattle.tree.specs.Elimination.{decide, eliminated, eliminatedToward}
 
 -- a tree of at most `most` sites, offered as lists
 pub record TreeOf (most n : ℕ) (one two : List ℕ) : Type 0 where
@@ -125,31 +127,13 @@ accepted-tests true true e = (refl, refl)
 accepted-tests true false e = absurd (let z : _≡_ {A = ℕ} 0 1 = cc in omega arith)
 accepted-tests false b e = absurd (let z : _≡_ {A = ℕ} 0 1 = cc in omega arith)
 
-is-false : (a : Bool) → (a ≡ true → ⊥) → a ≡ false
+pub is-false : (a : Bool) → (a ≡ true → ⊥) → a ≡ false
 is-false true h = absurd (h refl)
 is-false false h = refl
 
 module _ (ed : Edition) (n : ℕ) (a b c : List ℕ) where
-  -- what is said, test by test
-  pub no-tree-is-said : (TreeOf (ed .sites) n a b → ⊥) → offer ed n a b c ≡ NoTree
-  unfolding offer
-  no-tree-is-said h = rw (is-false (isTree (ed .sites) n a b) (λ e. h (is-tree-is-a-tree (ed .sites) n a b e))) refl
-
-  module _ (t : TreeOf (ed .sites) n a b) where
-    pub no-capacities-is-said : (length c ≡ length a → ⊥) → offer ed n a b c ≡ NoTree
-    unfolding offer
-    no-capacities-is-said d = rw (a-tree-is-tree (ed .sites) n a b t, ne-eqb (length c) (length a) d) refl
-
-    pub too-large-is-said : length c ≡ length a → within 0 (ed .size) c ≡ false → offer ed n a b c ≡ TooLarge
-    unfolding offer
-    too-large-is-said e f = rw (a-tree-is-tree (ed .sites) n a b t, eq-eqb (length c) (length a) e, f) refl
-
-    pub accepted-is-said : length c ≡ length a → within 0 (ed .size) c ≡ true → offer ed n a b c ≡ Accepted
-    unfolding offer
-    accepted-is-said e f = rw (a-tree-is-tree (ed .sites) n a b t, eq-eqb (length c) (length a) e, f) refl
-
   pub accepted-is-a-tree-within-the-limits : offer ed n a b c ≡ Accepted → TreeWithin ed n a b c
-  unfolding offer
+  unfolding offer offerOf
   accepted-is-a-tree-within-the-limits e =
       let t = accepted-tests (isTree (ed .sites) n a b && eqb (length c) (length a)) (within 0 (ed .size) c) e in
       let lengths = both-true (isTree (ed .sites) n a b) (eqb (length c) (length a)) (t .0) in
@@ -164,22 +148,59 @@ module _ (ed : Edition) (n : ℕ) (a b c : List ℕ) where
       }
 
   pub a-tree-within-the-limits-is-accepted : TreeWithin ed n a b c → offer ed n a b c ≡ Accepted
-  a-tree-within-the-limits-is-accepted w =
-      accepted-is-said record { tree = w .tree; few = w .few; firsts = w .firsts; seconds = w .seconds } (omega arith)
-      (within-all 0 (ed .size) c (λ j h. (omega arith, w .limited j h)))
+  unfolding offer offerOf
+  a-tree-within-the-limits-is-accepted w = rw (
+    a-tree-is-tree (ed .sites) n a b record { tree = w .tree; few = w .few; firsts = w .firsts; seconds = w .seconds },
+    eq-eqb (length c) (length a) (omega arith),
+    within-all 0 (ed .size) c (λ j h. (omega arith, w .limited j h)),
+  ) refl
+
+-- links of an accepted offer make a tree
+pub accepted-tree : (ed : Edition) (tree : Bool) (k : ℕ) (c : List ℕ) → offerOf ed tree k c ≡ Accepted → tree ≡ true
+unfolding offerOf
+accepted-tree ed tree k c e = both-true tree (eqb (length c) k) (accepted-tests (tree && eqb (length c) k) (within 0 (ed .size) c) e .0) .0
 
 -- ---- the answer of an elimination
 
-said : (o : Offer) (ls : Links) (n : ℕ) → decide o ls n .offer ≡ o
+said : (o : Offer) (order : List ℕ) → decide o order .offer ≡ o
 unfolding decide
-said NoTree ls n = refl
-said TooLarge ls n = refl
-said Accepted ls n = refl
+said NoTree order = refl
+said TooLarge order = refl
+said Accepted order = refl
 
-pub eliminated-says : (n : ℕ) (a b c : List ℕ) → eliminated n a b c .offer ≡ offer edition1 n a b c
-unfolding eliminated
-eliminated-says n a b c = said (offer edition1 n a b c) (links a b) n
+in-order : (o : Offer) (n : ℕ) (order : List ℕ) → o ≡ Accepted → length order ≡ n → take n (decide o (orderIn n order) .sites) ≡ order
+unfolding decide orderIn
+in-order o n order e l = rw e (take-at order (replicate (256 - n) 0) n l)
 
-pub eliminated-in-order : (n : ℕ) (a b c : List ℕ) → offer edition1 n a b c ≡ Accepted → take n (eliminated n a b c .sites) ≡ elimination (links a b) n
-unfolding eliminated decide orderIn
-eliminated-in-order n a b c e = rw e (take-at (elimination (links a b) n) (replicate (256 - n) 0) n (length-elimination (links a b) n))
+module _ (n : ℕ) (a b c : List ℕ) where
+  pub eliminated-says : eliminated n a b c .offer ≡ offer edition1 n a b c
+  unfolding eliminated
+  eliminated-says = said (offer edition1 n a b c) (orderIn n (elimination (links a b) n))
+
+  pub eliminated-in-order : offer edition1 n a b c ≡ Accepted → take n (eliminated n a b c .sites) ≡ elimination (links a b) n
+  unfolding eliminated
+  eliminated-in-order e = in-order (offer edition1 n a b c) n (elimination (links a b) n) e (length-elimination (links a b) n)
+
+  module _ (root : ℕ) where
+    pub eliminated-toward-says : eliminatedToward n a b c root .offer ≡ offer edition1 n a b c
+    unfolding eliminatedToward
+    eliminated-toward-says = said (offer edition1 n a b c) (orderIn n (eliminationToward (links a b) n root))
+
+    -- an accepted offer is answered with the order toward the root: from outside inward, and the root last
+    pub eliminated-toward-in-order : offer edition1 n a b c ≡ Accepted → take n (eliminatedToward n a b c root .sites) ≡ eliminationToward (links a b) n root
+    unfolding eliminatedToward
+    eliminated-toward-in-order e =
+        let big = accepted-is-a-tree-within-the-limits edition1 n a b c e .tree .big in
+        in-order (offer edition1 n a b c) n (eliminationToward (links a b) n root) e (length-elimination-toward (links a b) n root (omega arith))
+
+    pub eliminated-toward-is-inward : offer edition1 n a b c ≡ Accepted → InwardOrder (links a b) n (take n (eliminatedToward n a b c root .sites))
+    eliminated-toward-is-inward e =
+        rw (eliminated-toward-in-order e) (elimination-toward-a-root-is-inward (accepted-is-a-tree-within-the-limits edition1 n a b c e .tree) root)
+
+    pub eliminated-toward-ends-at-the-root : offer edition1 n a b c ≡ Accepted → Site n root → look (take n (eliminatedToward n a b c root .sites)) (n - 1) ≡ root
+    eliminated-toward-ends-at-the-root e p = rw (eliminated-toward-in-order e) (ends-at-the-root (links a b) n root p)
+
+    -- a root that is no site changes nothing
+    pub eliminated-without-a-root : (Site n root → ⊥) → eliminatedToward n a b c root ≡ eliminated n a b c
+    unfolding eliminatedToward eliminated
+    eliminated-without-a-root d = rw (without-a-root (links a b) n root d) refl

@@ -1,20 +1,15 @@
 -- A tree that is offered as lists: the number of sites, the two sites of each link, and the capacities.
 -- Document 01, "Pairing": what every public function that is offered a tree with sizes says before anything else.
-use mathlib.Core.Bool.{Bool, true, false, cond, _&&_}
+use mathlib.Core.Bool.{Bool, true, cond, _&&_}
 use mathlib.Core.List.{List, [], _∷_}
 use Prim.Native.Nat.{ℕ, suc}
 use lib.Dec.{eqb, leb}
 use lib.ListN.{length}
 use Rattle.network.specs.Network.{Links, sites, label}
 use Rattle.network.specs.declared.Edition.{Edition}
+unfoldable pub use Rattle.elimination.specs.Links.{links}
 use Rattle.tree.specs.declared.Offer.{Offer}
 use Rattle.tree.specs.declared.Offer.the-variants.{NoTree, TooLarge, Accepted}
-
--- the links whose first and second sites stand in two lists, position by position
-unfoldable pub links : List ℕ → List ℕ → Links
-links [] ys = []
-links (x ∷ xs) [] = []
-links (x ∷ xs) (y ∷ ys) = (x, y) ∷ links xs ys
 
 -- every number of a list lies between low and high
 unfoldable pub within : ℕ → ℕ → List ℕ → Bool
@@ -32,9 +27,14 @@ isTree most n one two =
     leb 2 n && leb n most && eqb n (suc (length one)) && eqb n (suc (length two)) && within 1 n one && within 1 n two
     && labelled (links one two) (label (links one two) 1) (sites n)
 
--- what is said of an offer: no tree, or a list of capacities of another length than the links; then a capacity above the limit
-unfoldable pub offer : Edition → ℕ → List ℕ → List ℕ → List ℕ → Offer
-offer ed n one two c =
-    cond (isTree (ed .sites) n one two && eqb (length c) (length one))
+-- what is said by whether the links make a tree, how many they are, and the capacities:
+-- no tree, or a list of capacities of another length than the links; then a capacity above the limit
+unfoldable pub offerOf : Edition → Bool → ℕ → List ℕ → Offer
+offerOf ed tree k c =
+    cond (tree && eqb (length c) k)
     (cond (within 0 (ed .size) c) Accepted TooLarge)
     NoTree
+
+-- what is said of an offer
+unfoldable pub offer : Edition → ℕ → List ℕ → List ℕ → List ℕ → Offer
+offer ed n one two c = offerOf ed (isTree (ed .sites) n one two) (length one) c

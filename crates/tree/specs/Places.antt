@@ -2,17 +2,18 @@
 -- What a loop over the places of a list leaves to show.
 use mathlib.Core.Path.{_≡_, refl, sym, ap, ap₂, _∙_}
 use mathlib.Core.Bool.{true, false, _&&_}
-use mathlib.Core.List.{List, [], _∷_, _++_, map, append-nil}
+use mathlib.Core.List.{List, [], _∷_, _++_, map}
 use Prim.Native.Nat.{ℕ, zero, suc, _+_, _≤_, _<_}
 use native.Mathlib.Omega.{arith}
 use native.Mathlib.Numerals.{add-one}
 use native.Mathlib.Nat.{add-zero, zero-add, add-suc, suc-add}
 use borrow.Author.Tests.{le-leb, lt-leb}
 use lib.Dec.{leb}
-use lib.Seq.{drop-cons, drop-length, getD-append-add, getD-drop, getD-take, length-take-le, ext-getD}
+use lib.Seq.{drop-cons, getD-take, length-take-le, ext-getD}
 use lib.ListN.{length, drop, set, length-map, length-append, length-drop, take, take-append-drop, drop-of-length-le}
-use Rattle.network.specs.Numbers.{look, sum, upfrom}
+use Rattle.network.specs.Numbers.{look, upfrom}
 use Rattle.theory.specs.Sites.{length-upfrom, look-values}
+pub use Rattle.elimination.specs.Links.{sum-next}
 use Rattle.tree.specs.Offer.{within}
 
 -- the list l with f i at every place i below k
@@ -37,17 +38,6 @@ module _ (f : ℕ → ℕ) where
   pub filled-next : {now : List ℕ} {v : ℕ} (k : ℕ) (l : List ℕ) → k < length l → now ≡ filled f k l → v ≡ f k → set now k v ≡ filled f (k + 1) l
   unfolding filled
   filled-next k l h e g = rw (e, g, add-one) (rw (zero-add k) at (next-from 0 k l h))
-
-  pub filled-all : (n : ℕ) (l : List ℕ) → length l ≡ n → filled f n l ≡ map f (upfrom 0 n)
-  unfolding filled
-  filled-all n l e = rw (← e, drop-length l, append-nil) refl
-
-  -- the place to be filled next is as it was
-  pub filled-here : {now : List ℕ} (k : ℕ) (l : List ℕ) → now ≡ filled f k l → look now k ≡ look l k
-  unfolding filled
-  filled-here k l e =
-      let seam : length (map f (upfrom 0 k)) + 0 ≡ k = omega (arith, length-table k) in
-      rw e (ap (look (map f (upfrom 0 k) ++ drop k l)) (sym seam) ∙ getD-append-add (map f (upfrom 0 k)) (drop k l) 0 0 ∙ getD-drop k l 0 0 ∙ ap (look l) (add-zero k))
 
   pub length-filled : (k : ℕ) (l : List ℕ) → k ≤ length l → length (filled f k l) ≡ length l
   unfolding filled
@@ -93,9 +83,3 @@ module _ (low high : ℕ) (l : List ℕ) (i : ℕ) (h : i < length l) where
 pub within-end : (low high : ℕ) (l : List ℕ) (i : ℕ) → length l ≤ i → within low high (drop i l) ≡ true
 unfolding within
 within-end low high l i h = rw (drop-of-length-le l h) refl
-
--- ---- a sum over the places passed
-
-pub sum-next : {a b : ℕ} (f : ℕ → ℕ) (j : ℕ) → a ≡ sum j f → b ≡ f j → a + b ≡ sum (j + 1) f
-unfolding sum
-sum-next f j e g = rw (e, g, add-one) refl

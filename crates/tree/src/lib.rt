@@ -1,16 +1,15 @@
 // A tree that is offered as lists: whether it is one within the limits of the edition, and the elimination order of its sites.
+use elimination::Order;
 use network::Edition;
 ghost use mathlib.Core.Path.{_≡_};
-ghost use mathlib.Core.Logic.{_≢_};
-ghost use mathlib.Core.List.{map};
-ghost use Prim.Native.Nat.{ℕ, _+_, _*_, _≤_, _<_, max};
+ghost use Prim.Native.Nat.{ℕ, _<_};
 ghost use lib.ListN.{length};
-ghost use Rattle.network.specs.Numbers.{pick, is, look, upfrom};
-ghost use Rattle.network.specs.Network.{relabel};
+ghost use Rattle.network.specs.Numbers.{look};
 ghost use Rattle.network.specs.Edition.{edition1};
-ghost use Rattle.tree.specs.Offer.{within, offer};
-ghost use Rattle.tree.specs.Elimination.{unordered, eliminated};
-ghost use Rattle.tree.specs.Steps.{Tells, Link, Proper, Counted, Lowest, Behind, Back, Eliminated};
+ghost use Rattle.elimination.specs.Steps.{Link, Proper};
+ghost use Rattle.tree.specs.Offer.{within, offerOf, offer};
+ghost use Rattle.tree.specs.Elimination.{decide, eliminated, eliminatedToward};
+ghost use Rattle.tree.specs.Steps.{Tells, Ordered};
 
 // What a function that is offered a tree with capacities says of the offer.
 pub enum Offer {
@@ -20,16 +19,6 @@ pub enum Offer {
     TooLarge,
     // a tree whose capacities are within the limit
     Accepted,
-}
-
-// 1 if v is a site of the link between a and b, 0 if not.
-pub fn at_link(a: usize, b: usize, v: usize) -> u64
-    ensures { λ r. ⌜ r ≡ pick a v 1 (is b v) ⌝ }
-{
-    if a == v {
-        return 1;
-    }
-    if b == v { 1 } else { 0 }
 }
 
 // Whether every capacity of a list is within a limit.
@@ -42,143 +31,6 @@ fn capacities_within(most: u64, list: &[u64]) -> bool
         }
     }
     true
-}
-
-// Every place with its own number: the labels while there is no link.
-pub fn own_labels() -> [usize; 257]
-    ensures { λ r. ⌜ r ≡ upfrom 0 257 ⌝ }
-{
-    let mut labels = [0usize; 257];
-    for x in 0..257 {
-        labels[x] = x;
-    }
-    labels
-}
-
-// The label u with p in the place of q.
-fn relabel_one(p: usize, q: usize, u: usize) -> usize
-    ensures { λ r. ⌜ r ≡ relabel p q u ⌝ }
-{
-    if u == q { p } else { u }
-}
-
-// All labels with p in the place of q.
-pub fn relabel_all(p: usize, q: usize, labels: [usize; 257]) -> [usize; 257]
-    ensures { λ r. ⌜ r ≡ map (relabel p q) labels ⌝ }
-{
-    let mut next = labels;
-    for x in 0..257 {
-        next[x] = relabel_one(p, q, next[x]);
-    }
-    next
-}
-
-// For each site the number of its unvisited links and the sum of their positions.
-struct Unvisited {
-    numbers: [usize; 257],
-    positions: [usize; 257],
-}
-
-// Adds d at two places of a list.
-fn add_at(list: &mut [usize; 257], a: usize, b: usize, d: usize)
-    requires { ⌜ (length (now list) ≡ 257) × (a < 257) × (b < 257) × (a ≢ b) × (d ≤ 255) × ((x : ℕ) → look (now list) x ≤ 65536) ⌝ }
-    ensures { λ _. ⌜ (length (now (list .exit)) ≡ 257) × ((x : ℕ) → look (now (list .exit)) x ≡ look (now (list .entry)) x + pick a x 1 (is b x) * d) ⌝ }
-{
-    list[a] += d;
-    list[b] += d;
-}
-
-// The number of links at each site, and the sum of their positions.
-fn count_links(n: usize, one: &[usize], two: &[usize]) -> Unvisited
-    requires { ⌜ Proper n (now one) (now two) ⌝ }
-    ensures { λ r. ⌜ Counted (now (one .entry)) (now (two .entry)) r ⌝ }
-{
-    let mut numbers = [0usize; 257];
-    let mut positions = [0usize; 257];
-    for j in 0..one.len() {
-        add_at(&mut numbers, one[j], two[j], 1);
-        add_at(&mut positions, one[j], two[j], j);
-    }
-    Unvisited { numbers, positions }
-}
-
-// The lowest site from `from` to n with a number of at most 1, 0 if there is none.
-fn lowest_from(from: usize, n: usize, numbers: &[usize; 257]) -> usize
-    requires { ⌜ (1 ≤ from) × (from ≤ n) × (n ≤ 256) ⌝ }
-    ensures { λ r. ⌜ Lowest from n (now (numbers .entry)) r ⌝ }
-{
-    for x in from..n + 1 {
-        if numbers[x] < 2 {
-            return x;
-        }
-    }
-    0
-}
-
-// The lowest site with a number of at most 1, 0 if there is none: the one that is known behind `from`, else one from there on.
-fn lowest(back: usize, from: usize, n: usize, numbers: &[usize; 257]) -> usize
-    requires { ⌜ (n ≤ 256) × Behind n (now numbers) back from ⌝ }
-    ensures { λ r. ⌜ Lowest 1 n (now (numbers .entry)) r ⌝ }
-{
-    if back != 0 {
-        return back;
-    }
-    lowest_from(from, n, numbers)
-}
-
-// The greater of two numbers.
-fn greater(a: usize, b: usize) -> usize
-    ensures { λ r. ⌜ r ≡ max a b ⌝ }
-{
-    if a < b { b } else { a }
-}
-
-// Site w if it stands behind `from` and has a number of at most 1, else 0.
-fn behind(w: usize, number: usize, from: usize) -> usize
-    requires { ⌜ 1 ≤ w ⌝ }
-    ensures { λ r. ⌜ Back w number from r ⌝ }
-{
-    if from <= w {
-        return 0;
-    }
-    if number < 2 { w } else { 0 }
-}
-
-// Sites in the order taken, and whether all could be taken.
-struct Order {
-    sites: [usize; 256],
-    all: bool,
-}
-
-// Takes always the lowest untaken site with at most one unvisited link. A taken site has the number 2.
-fn order_of(n: usize, one: &[usize], two: &[usize]) -> Order
-    requires { ⌜ Proper n (now one) (now two) ⌝ }
-    ensures { λ r. ⌜ Eliminated n (now (one .entry)) (now (two .entry)) r ⌝ }
-{
-    let unvisited = count_links(n, one, two);
-    let mut numbers = unvisited.numbers;
-    let mut positions = unvisited.positions;
-    let mut sites = [0usize; 256];
-    let mut from = 1;
-    let mut back = 0;
-    for i in 0..n {
-        let v = lowest(back, from, n, &numbers);
-        if v == 0 {
-            return Order { sites, all: false };
-        }
-        sites[i] = v;
-        from = greater(from, v);
-        back = 0;
-        if numbers[v] == 1 {
-            let j = positions[v];
-            let w = one[j] + two[j] - v;
-            numbers[w] -= 1;
-            positions[w] -= j;
-            back = behind(w, numbers[w], from);
-        }
-        numbers[v] = 2;
-    }
-    Order { sites, all: true }
 }
 
 // Whether a and b are two different sites from 1 to n.
@@ -235,44 +87,78 @@ fn is_proper(n: usize, one: &[usize], two: &[usize]) -> bool
     all_links(n, one, two)
 }
 
+// Whether n sites and their links are a tree of 2 to 256 sites, and then the order of its sites toward a root.
+fn order_of(n: usize, one: &[usize], two: &[usize], root: usize) -> Order
+    ensures { λ r. ⌜ Ordered n (now (one .entry)) (now (two .entry)) root r ⌝ }
+{
+    if !is_proper(n, one, two) {
+        return Order {
+            sites: [0usize; 256],
+            all: false,
+        };
+    }
+    if n < root {
+        return elimination::order_of(n, one, two, 0);
+    }
+    elimination::order_of(n, one, two, root)
+}
+
+// What is said of an offer, by whether its links make a tree, how many they are, and the capacities.
+fn offer_of(tree: bool, links: usize, capacity: &[u64]) -> Offer
+    ensures { λ r. ⌜ r ≡ offerOf edition1 tree links (now (capacity .entry)) ⌝ }
+{
+    if !tree {
+        return Offer::NoTree;
+    }
+    if capacity.len() != links {
+        return Offer::NoTree;
+    }
+    if !capacities_within(Edition::SIZE, capacity) {
+        return Offer::TooLarge;
+    }
+    Offer::Accepted
+}
+
 // What is said of an offered tree, and the elimination order of its sites: 0 past the last site, and everywhere if it is refused.
 pub struct Elimination {
     pub offer: Offer,
     pub sites: [usize; 256],
 }
 
-// The answer to an offer that is not accepted.
-fn refused(offer: Offer) -> Elimination
-    ensures { λ r. ⌜ r ≡ unordered offer ⌝ }
+// The order if the offer is accepted, else 0 everywhere.
+fn kept(offer: Offer, order: [usize; 256]) -> [usize; 256]
+    ensures { λ r. ⌜ r ≡ decide offer order .sites ⌝ }
 {
-    Elimination {
-        offer,
-        sites: [0usize; 256],
+    match offer {
+        Offer::NoTree => [0usize; 256],
+        Offer::TooLarge => [0usize; 256],
+        Offer::Accepted => order,
     }
+}
+
+// What is said of an offer of n sites, the two sites of each link and the capacities, and the elimination order that takes the root last.
+// A root that is no site changes nothing.
+pub fn eliminate_toward(
+    n: usize,
+    one: &[usize],
+    two: &[usize],
+    capacity: &[u64],
+    root: usize,
+) -> Elimination
+    ensures { λ r. ⌜ r ≡ eliminatedToward n (now (one .entry)) (now (two .entry)) (now (capacity .entry)) root ⌝ }
+{
+    let order = order_of(n, one, two, root);
+    let taken = order.sites;
+    let offer = offer_of(order.all, one.len(), capacity);
+    let sites = kept(offer, taken);
+    Elimination { offer, sites }
 }
 
 // What is said of an offer of n sites, the two sites of each link and the capacities, and the elimination order.
 pub fn eliminate(n: usize, one: &[usize], two: &[usize], capacity: &[u64]) -> Elimination
     ensures { λ r. ⌜ r ≡ eliminated n (now (one .entry)) (now (two .entry)) (now (capacity .entry)) ⌝ }
 {
-    if !is_proper(n, one, two) {
-        return refused(Offer::NoTree);
-    }
-    let order = order_of(n, one, two);
-    if !order.all {
-        return refused(Offer::NoTree);
-    }
-    if capacity.len() != one.len() {
-        return refused(Offer::NoTree);
-    }
-    if !capacities_within(Edition::SIZE, capacity) {
-        return refused(Offer::TooLarge);
-    }
-    let sites = order.sites;
-    Elimination {
-        offer: Offer::Accepted,
-        sites,
-    }
+    eliminate_toward(n, one, two, capacity, 0)
 }
 
 // What is said of an offer of n sites, the two sites of each link and the capacities.

@@ -1,36 +1,33 @@
 -- Cutting in a lent list, place by place: what one cut leaves is what the definition says, and cuts follow each other.
 use mathlib.Core.Path.{_≡_, refl, sym, ap, _∙_}
 use mathlib.Core.Logic.{_≢_}
-use mathlib.Core.List.{List, [], _∷_, _++_, map, map-id, reverse, reverse-cons}
-use Prim.Native.Nat.{ℕ, zero, suc, _-_, _*_, _≤_, _<_, min}
+use mathlib.Core.List.{List, [], _∷_, _++_, map-id, reverse, reverse-cons}
+use Prim.Native.Nat.{ℕ, zero, suc, _+_, _-_, _*_, _≤_, _<_, min}
 use native.Mathlib.Omega.{arith}
-use lib.Seq.{getD-take, getD-append-seam, take-at, drop-at, length-take-le, ext-getD}
-use lib.ListN.{length, take, drop, take-append-drop, length-map, length-append, length-reverse, List·getD-append}
-use Rattle.network.specs.Numbers.{count, look, upfrom}
+use native.Mathlib.Decide.{decLt}
+use lib.Seq.{getD-take, getD-append-add, getD-append-seam, take-at, drop-at, length-take-le}
+use lib.ListN.{length, take, drop, take-append-drop, length-append, length-reverse, List·getD-append}
+use Rattle.network.specs.Numbers.{count, look}
 use Rattle.network.specs.Network.{Links, at, sumAt, leaf}
 use Rattle.network.specs.Edition.{edition1}
 use Rattle.network.specs.Trimming.{cutAt, cutSite, cutSites, elimination, balancedAlong, balanced}
-use Rattle.theory.specs.Sums.{pick-same, pick-other, same?, is-same, sum-ge}
-use Rattle.theory.specs.Sites.{length-upfrom, look-values, sumAt-same, sites-site}
+use Rattle.theory.specs.Sums.{pick-same, pick-other, cases, same?, is-same}
+use Rattle.theory.specs.Sites.{sumAt-same, sites-site}
 use Rattle.theory.specs.Cutting.{cutAt-le}
 use Rattle.theory.specs.Passes.{length-cutSites, look-cutSite}
 use Rattle.theory.specs.Orders.{elimination-takes-only-sites}
 use Rattle.theory.specs.Greatest.{balanced-has-each-link}
 use Rattle.tree.specs.Offer.{links}
 use Rattle.tree.specs.Accepted.{TreeWithin}
-use Rattle.tree.specs.Links.{length-links, links-one, links-two}
+use Rattle.tree.specs.Links.{length-links}
 use Rattle.tree.specs.Places.{filled, filled-same, same-values, map-table}
-use Rattle.trimming.specs.Steps.{Placed, Limited, UpTo256, cutFirst}
+use Rattle.links.specs.Chains.{Limited}
+use Rattle.trimming.specs.Steps.{UpTo256, bothWays, cutFirst}
 use Rattle.trimming.specs.Outcome.{capacities}
 
 -- ---- one link
 
 module _ (ls : Links) (v : ℕ) (c : ℕ → ℕ) (j : ℕ) where
-  -- a link at v has no more than all links at v together
-  pub at-most-all : j < length ls → at ls v j ≡ 1 → c j ≤ sumAt ls v c
-  unfolding sumAt
-  at-most-all h a = omega (arith, rw a at (sum-ge (length ls) j (λ i. at ls v i * c i) h))
-
   pub cut-inner : leaf ls v ≢ 1 → at ls v j ≡ 1 → {t s : ℕ} → t ≡ c j → s ≡ sumAt ls v c → min t (s - t) ≡ cutAt ls (leaf ls) v c j
   unfolding cutAt
   cut-inner d a f g = rw (f, g) (sym (pick-other d _ _ ∙ pick-same a _ _))
@@ -123,22 +120,29 @@ look-reverse (x ∷ l) i h =
     (λ d. let behind : suc (length l - 1 - i) ≡ suc (length l) - 1 - i = omega arith in
     List·getD-append (reverse l) (x ∷ []) 0 i (omega arith) ∙ look-reverse l i (omega arith) ∙ ap (look (x ∷ l)) behind)
 
-pub up-to-reverse : (l : List ℕ) → UpTo256 l → UpTo256 (reverse l)
-up-to-reverse l h i k =
-    let turned = length-reverse l in
-    omega (arith, look-reverse l i (omega arith), h (length l - 1 - i) (omega arith))
+pub length-both-ways : (n : ℕ) (order : List ℕ) → n ≤ length order → length (bothWays (take n order)) ≡ 2 * n
+unfolding bothWays
+length-both-ways n order h = let o = take n order in omega (arith, length-append o (reverse o), length-reverse o, length-take-le n order h)
 
--- a list filled from the back of another holds it turned round
-pub take-filled-reverse : (n : ℕ) (order l : List ℕ) → n ≤ length order → take n (filled (λ i. look order (n - 1 - i)) n l) ≡ reverse (take n order)
-unfolding filled
-take-filled-reverse n order l h =
-    let f : ℕ → ℕ = λ i. look order (n - 1 - i) in
-    let long : length (map f (upfrom 0 n)) ≡ n = length-map (upfrom 0 n) f ∙ length-upfrom 0 n in
-    let part : length (take n order) ≡ n = length-take-le n order h in
-    take-at (map f (upfrom 0 n)) (drop n l) n long
-    ∙ ext-getD 0 (map f (upfrom 0 n)) (reverse (take n order)) (omega (arith, length-reverse (take n order)))
-    (λ i k. let q : i < n = omega arith in
-    look-values f n i q ∙ sym (look-reverse (take n order) i (omega arith) ∙ ap (λ m. look (take n order) (m - 1 - i)) part ∙ getD-take n order (n - 1 - i) 0 (omega arith)))
+-- its first n places are those of the order, and the others the same places from the last one on
+module _ (n : ℕ) (order : List ℕ) (h : n ≤ length order) (i : ℕ) (l : i < 2 * n) where
+  pub on-the-way : look order (min i (2 * n - 1 - i)) ≡ look (bothWays (take n order)) i
+  unfolding bothWays
+  on-the-way =
+      let o = take n order in
+      let long : length o ≡ n = length-take-le n order h in
+      cases (decLt i n)
+      (λ k. let place : min i (2 * n - 1 - i) ≡ i = omega arith in
+      ap (look order) place ∙ sym (List·getD-append o (reverse o) 0 i (omega arith) ∙ getD-take n order i 0 k))
+      (λ k. let seam : i ≡ length o + (i - n) = omega arith in
+      let place : length o - 1 - (i - n) ≡ min i (2 * n - 1 - i) = omega arith in
+      sym (ap (look (o ++ reverse o)) seam ∙ getD-append-add o (reverse o) (i - n) 0 ∙ look-reverse o (i - n) (omega arith) ∙ ap (look o) place ∙ getD-take n order (min i (2 * n - 1 - i)) 0 (omega arith)))
+
+  -- each of them is a place of the order
+  pub up-to-on-the-way : UpTo256 (take n order) → look order (min i (2 * n - 1 - i)) ≤ 256
+  up-to-on-the-way u =
+      let place : min i (2 * n - 1 - i) < n = omega arith in
+      omega (arith, getD-take n order (min i (2 * n - 1 - i)) 0 place, u (min i (2 * n - 1 - i)) (omega (arith, length-take-le n order h)))
 
 -- ---- a copy
 
@@ -155,16 +159,6 @@ count-look (x ∷ l) zero h = omega (arith, is-same {u = x} refl)
 count-look (x ∷ l) (suc i) h = omega (arith, count-look l i (omega arith))
 
 module _ {n : ℕ} {a b c : List ℕ} (w : TreeWithin edition1 n a b c) where
-  pub offer-placed : Placed a b
-  offer-placed = record {
-    few = omega arith;
-    seconds = omega arith;
-    sites = λ j h.
-        let all = length-links a b (omega arith) in
-        let e = w .tree .ends j (omega arith) in
-        (omega (arith, links-one a b j h (omega arith)), omega (arith, links-two a b j h (omega arith)));
-  }
-
   pub order-up-to : UpTo256 (elimination (links a b) n)
   order-up-to i h = omega (
     arith,
@@ -187,8 +181,8 @@ module _ {n : ℕ} {a b c : List ℕ} (w : TreeWithin edition1 n a b c) (lent : 
 
   -- cut along the elimination order and back, a copy of the given capacities holds the balanced ones
   pub both-ways-balance : let o = elimination (links a b) n in
-      cutFirst a b (o ++ reverse o) (c ++ drop (length c) lent) ≡ capacities n a b c ++ drop (length (capacities n a b c)) lent
-  unfolding cutFirst capacities balanced balancedAlong
+      cutFirst a b (bothWays o) (c ++ drop (length c) lent) ≡ capacities n a b c ++ drop (length (capacities n a b c)) lent
+  unfolding cutFirst bothWays capacities balanced balancedAlong
   both-ways-balance =
       let ls = links a b in
       let o = elimination ls n in

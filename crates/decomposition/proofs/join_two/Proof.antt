@@ -4,9 +4,9 @@ use Prim.Native.Nat.{_*_}
 use native.Mathlib.Omega.{arith}
 use borrow.Author.Needs.{needs}
 use Rattle.network.specs.Pairing.{put, give}
-use Rattle.decomposition.specs.Arrays.{flatPairs}
-use Rattle.decomposition.proofs.Arrays.{added-nothing}
-use Rattle.decomposition.proofs.Splits.{put-some}
+use Rattle.halves.specs.Arrays.{flatPairs}
+use Rattle.halves.specs.Adding.{added-nothing}
+use Rattle.halves.specs.Splits.{put-some}
 use Rattle.decomposition.proofs.join_two.Statement.{statement}
 use Rattle.decomposition.proofs.join_two.Tie as tie
 

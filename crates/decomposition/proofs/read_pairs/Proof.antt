@@ -14,10 +14,10 @@ abbrev μ-loop : tie.MeasureT-loop
 μ-loop numbers end list₀ count₀ at₀ list count at = end - at
 
 -- the next pair lies within the numbers, and there is a place for it
-room : (c : tie.In-loop Inv-loop μ-loop) → (c .before .loop .at + 3 ≤ length (c .before .before .args .numbers .now)) × (c .before .loop .count < 256)
+room : (c : tie.In-loop Inv-loop μ-loop) → (c .before .loop .at + 3 ≤ length (c .before .before .before .args .numbers .now)) × (c .before .loop .count < 256)
 room c =
-    let r = reading-room (c .before .before .pre) (c .before .loop .inv) (c .loop-test .taken) in
-    (omega (arith, r .0, c .before .before .pre .inside), r .1)
+    let r = reading-room (c .before .before .before .pre) (c .before .loop .inv) (c .loop-test .taken) in
+    (omega (arith, r .0, c .before .before .before .pre .inside), r .1)
 
 pub read-pairs-spec : {M : Type 1} → statement M
 read-pairs-spec =
@@ -25,19 +25,12 @@ read-pairs-spec =
     (tie.spec
     Inv-loop
     μ-loop
-    (λ c. reading-starts (c .args .numbers .now) (c .args .end) _ refl (c .pre))
-    (λ c. omega (arith, room c))
+    (λ c. let s = c .before in reading-starts (s .args .numbers .now) (s .args .end) _ refl (s .pre))
+    (λ c κs. room c .0)
+    (λ c. omega (arith, room (c .before)))
+    (λ c. room (c .before) .1)
     (λ c. omega (arith, room (c .before)))
     (λ c. omega (arith, room (c .before)))
     (λ c. omega (arith, room (c .before)))
-    (λ c. omega (arith, room (c .before .before)))
-    (λ c. omega (arith, room (c .before .before)))
-    (λ c. omega (arith, room (c .before .before)))
-    (λ c. omega (arith, room (c .before .before .before)))
-    (λ c. omega (arith, room (c .before .before .before)))
-    (λ c. room (c .before .before .before) .1)
-    (λ c. omega (arith, room (c .before .before .before)))
-    (λ c. omega (arith, room (c .before .before .before)))
-    (λ c. omega (arith, room (c .before .before .before)))
-    (λ c. reading-next (c .before .before .before .before .before .pre) (c .before .before .before .before .loop .inv) (c .before .before .before .loop-test .taken))
-    (λ c. reading-ends (c .before .before .pre) (c .before .loop .inv) (c .loop-test .left)))
+    (λ c. rw (c .pair-at .ensures) (reading-next (c .before .before .before .before .pre) (c .before .before .loop .inv) (c .before .loop-test .taken)))
+    (λ c. reading-ends (c .before .before .before .pre) (c .before .loop .inv) (c .loop-test .left)))

@@ -1,62 +1,60 @@
--- `classify` meets its contract: field by field.
+-- `classify` meets its contract: by the first field and what follows it.
 use mathlib.Core.Path.{sym, _∙_}
-use Rattle.line_kinds.specs.LineKinds.{kind}
-use Rattle.line_kinds.specs.LineKindLaws.{field-length-within, last-field, split-at-tab, one-field-is-a-fault}
-use native.Mathlib.Omega.{arith}
+use Rattle.fields.specs.FieldLaws.{same-are-equal}
+use Rattle.line_kinds.specs.LineKinds.{kindOf}
+use Rattle.line_kinds.specs.LinesByRest.{kind-by-rest, starts-with-L, no-line}
 use borrow.Author.Needs.{needs}
 use Rattle.line_kinds.proofs.classify.Statement.{statement}
 use Rattle.line_kinds.proofs.classify.Tie as tie
 
-field-length-requires : tie.Need-field-length-requires
-field-length-requires c κs = search needs
-
-returns : tie.Need-returns
-unfolding kind
-returns c = sym (one-field-is-a-fault _ _ (sym (c .before .field-length .ensures) ∙ c .if1 .taken))
-
-up-to-requires : tie.Need-up-to-requires
-up-to-requires c κs = omega (arith, field-length-within (c .before .before .before .args .line .now))
+first-field-requires : tie.Need-first-field-requires
+first-field-requires c κs = search needs
 
 after-requires : tie.Need-after-requires
-after-requires c κs = omega (arith, field-length-within (c .before .before .before .before .args .line .now))
+after-requires c κs = search needs
 
-field-length-requires-2 : tie.Need-field-length-requires-2
-field-length-requires-2 c κs = search needs
+is-heading-requires : tie.Need-is-heading-requires
+is-heading-requires c κs = search needs
 
-two-fields-requires : tie.Need-two-fields-requires
-two-fields-requires c κs = search needs
+returns : tie.Need-returns
+unfolding kindOf
+returns c = rw (kind-by-rest _ _ _ _ (c .before .before .before .first-field .ensures) (c .before .before .after .ensures), sym (c .before .is-heading .ensures) ∙ c .if1 .taken)
+
+is-byte-requires : tie.Need-is-byte-requires
+is-byte-requires c κs = search needs
+
+site-requires : tie.Need-site-requires
+site-requires c κs = search needs
 
 returns-2 : tie.Need-returns-2
-unfolding kind
-returns-2 c =
-    rw (split-at-tab (c .before .before .before .before .before .before .before .before .args .line .now) _ _ _ (c .before .before .before .before .before .before .field-length .ensures) (c .before .before .before .before .before .if1 .left) (c .before .before .before .before .up-to .ensures) (c .before .before .before .after .ensures), last-field (c .before .before .before .after .result .now) (sym (c .before .before .field-length2 .ensures) ∙ c .before .if2 .taken)) (c .two-fields .ensures _)
+returns-2 c = rw (kind-by-rest _ _ _ _ (c .before .before .before .before .before .before .first-field .ensures) (c .before .before .before .before .before .after .ensures), same-are-equal _ _ (sym (c .before .before .is-byte .ensures) ∙ c .before .if2 .taken)) (c .site .ensures _)
 
-up-to-requires-2 : tie.Need-up-to-requires-2
-up-to-requires-2 c κs = omega (arith, field-length-within (c .before .before .after .result .now))
+is-byte-requires-2 : tie.Need-is-byte-requires-2
+is-byte-requires-2 c κs = search needs
 
-after-requires-2 : tie.Need-after-requires-2
-after-requires-2 c κs = omega (arith, field-length-within (c .before .before .before .after .result .now))
-
-more-fields-requires : tie.Need-more-fields-requires
-more-fields-requires c κs = search needs
+link-from-requires : tie.Need-link-from-requires
+link-from-requires c κs = search needs
 
 returns-3 : tie.Need-returns-3
-unfolding kind
-returns-3 c =
-    rw (split-at-tab (c .before .before .before .before .before .before .before .before .before .before .args .line .now) _ _ _ (c .before .before .before .before .before .before .before .before .field-length .ensures) (c .before .before .before .before .before .before .before .if1 .left) (c .before .before .before .before .before .before .up-to .ensures) (c .before .before .before .before .before .after .ensures), split-at-tab (c .before .before .before .before .before .after .result .now) _ _ _ (c .before .before .before .before .field-length2 .ensures) (c .before .before .before .if2 .left) (c .before .before .up-to2 .ensures) (c .before .after2 .ensures)) (c .more-fields .ensures)
+returns-3 c = rw (kind-by-rest _ _ _ _ (c .before .before .before .before .before .before .before .before .first-field .ensures) (c .before .before .before .before .before .before .before .after .ensures), starts-with-L _ _ _ (sym (c .before .before .is-byte2 .ensures) ∙ c .before .if3 .taken)) (c .link-from .ensures)
+
+returns-4 : tie.Need-returns-4
+returns-4 c =
+    rw (kind-by-rest _ _ _ _ (c .before .before .before .before .before .before .before .first-field .ensures) (c .before .before .before .before .before .before .after .ensures))
+    (sym (no-line _ _ _ (sym (c .before .before .before .before .before .is-heading .ensures) ∙ c .before .before .before .before .if1 .left) (sym (c .before .before .before .is-byte .ensures) ∙ c .before .before .if2 .left) (sym (c .before .is-byte2 .ensures) ∙ c .if3 .left)))
 
 pub classify-spec : {M : Type 1} → statement M
 classify-spec =
     tie.close
     (tie.spec
-    field-length-requires
-    returns
-    up-to-requires
+    first-field-requires
     after-requires
-    field-length-requires-2
-    two-fields-requires
+    is-heading-requires
+    returns
+    is-byte-requires
+    site-requires
     returns-2
-    up-to-requires-2
-    after-requires-2
-    more-fields-requires
-    returns-3)
+    is-byte-requires-2
+    link-from-requires
+    returns-3
+    returns-4)

@@ -3,7 +3,6 @@ use mathlib.Core.Path.{_≡_, refl, sym, ap, _∙_}
 use native.Mathlib.Omega.{arith}
 use borrow.Author.Needs.{needs}
 use borrow.Author.Tests.{le-leb, lt-leb}
-use Prim.Native.Nat.{suc}
 use lib.ListN.{length}
 use Rattle.network.specs.Numbers.{look}
 use Rattle.network.specs.Network.{leaf}
@@ -15,17 +14,16 @@ use Rattle.walk.specs.PairingTheorem.{pairs-are-sound}
 use Rattle.tree.specs.declared.Offer.the-variants.{NoTree, TooLarge, Accepted}
 use Rattle.tree.specs.Accepted.{TreeWithin, accepted-is-a-tree-within-the-limits}
 use Rattle.pairing.specs.declared.Pairing.the-variants as pairing
-use Rattle.decomposition.specs.Given as Given
 use Rattle.pairing.specs.Outcome.{decide, answer, pairCount}
 use Rattle.pairing.specs.Storing.{toStore}
-use Rattle.pairing.specs.Heavy.{no-heavy-link-is-balanced}
+use Rattle.heavy.specs.Heavy.{no-heavy-link-is-balanced}
 use Rattle.pairing.proofs.Working.{refusal-works, decomposition-works}
 use Rattle.pairing.proofs.work_out.Statement.{statement}
 use Rattle.pairing.proofs.work_out.Tie as tie
 
 -- what the tree test said
 accepted : (c : tie.After-enum-told3) → let a = c .before .before .before .before .before .before .args in offer edition1 (a .n) (a .one .now) (a .two .now) (a .capacity .now) ≡ Accepted
-accepted c = cc
+accepted c = sym (c .before .before .test .ensures) ∙ c .enum-told3 .given .1
 
 within : (c : tie.After-enum-told3) → let a = c .before .before .before .before .before .before .args in TreeWithin edition1 (a .n) (a .one .now) (a .two .now) (a .capacity .now)
 within c = let a = c .before .before .before .before .before .before .args in accepted-is-a-tree-within-the-limits edition1 (a .n) (a .one .now) (a .two .now) (a .capacity .now) (accepted c)
@@ -34,14 +32,14 @@ no-tree : tie.Need-returns-3
 unfolding answer decide pairCount toStore
 no-tree c =
     let a = c .before .before .before .before .before .before .before .args in
-    let said : offer edition1 (a .n) (a .one .now) (a .two .now) (a .capacity .now) ≡ NoTree = cc in
+    let said : offer edition1 (a .n) (a .one .now) (a .two .now) (a .capacity .now) ≡ NoTree = sym (c .before .before .before .test .ensures) ∙ c .before .enum-told .given .1 in
     refusal-works (a .n) (a .one .now) (a .two .now) (a .capacity .now) (a .places) (c .refused .result) pairing.NoTree (c .refused .ensures) (rw said refl) refl (λ ps. refl)
 
 too-large : tie.Need-returns-4
 unfolding answer decide pairCount toStore
 too-large c =
     let a = c .before .before .before .before .before .before .before .args in
-    let said : offer edition1 (a .n) (a .one .now) (a .two .now) (a .capacity .now) ≡ TooLarge = cc in
+    let said : offer edition1 (a .n) (a .one .now) (a .two .now) (a .capacity .now) ≡ TooLarge = sym (c .before .before .before .test .ensures) ∙ c .before .enum-told2 .given .1 in
     refusal-works (a .n) (a .one .now) (a .two .now) (a .capacity .now) (a .places) (c .refused2 .result) pairing.TooLarge (c .refused2 .ensures) (rw said refl) refl (λ ps. refl)
 
 short : tie.Need-returns
@@ -50,10 +48,6 @@ short c =
     let a = c .before .before .before .before .before .before .before .before .args in
     refusal-works (a .n) (a .one .now) (a .two .now) (a .capacity .now) (a .places) (c .refused3 .result) pairing.Short (c .refused3 .ensures)
     (rw (accepted (c .before .before), lt-leb (length (a .one .now)) (a .places) (c .before .if1 .taken)) refl) refl (λ ps. refl)
-
--- the tree with one site more than links
-linked : (c : tie.After-enum-told3) → let a = c .before .before .before .before .before .before .args in (a .n ≡ suc (length (a .one .now))) × Given.Accepted (a .one .now) (a .two .now) (a .capacity .now)
-linked c = let t = within c in (t .firsts, rw (t .firsts) at t)
 
 heavy : tie.Need-returns-2
 unfolding answer decide pairCount toStore
@@ -91,16 +85,16 @@ pub work-out-spec : {M : Type 1} → statement M
 work-out-spec =
     tie.close
     (tie.spec
-    (λ c κs. search needs)
+    (λ c κs. tt)
     (λ c. search needs)
-    (λ c κs. search needs)
+    (λ c κs. tt)
     (λ c. search needs)
-    (λ c κs. search needs)
+    (λ c κs. tt)
     (λ c. search needs)
-    (λ c κs. search needs)
+    (λ c κs. tt)
     short
-    (λ c κs. linked (c .before))
-    (λ c κs. search needs)
+    (λ c κs. within (c .before))
+    (λ c κs. tt)
     heavy
     (λ c κs. record { tree = within (c .before .before .before); balanced = balanced c })
     no-tree

@@ -16,13 +16,13 @@ enum-told c = search needs
 
 plan-network-requires : tie.Need-plan-network-requires
 plan-network-requires c κs =
-    let r = c .before .before .before .before .read .ensures in
-    rw (← r) at (accepted-is-listed (c .before .before .before .before .before .before .before .args .sheet .now) (sym (ap (λ x. x .answer) r) ∙ c .before .enum-told .given .1))
+    let r = c .before .before .before .read .ensures in
+    rw (← r) at (accepted-is-listed (c .before .before .before .before .before .before .args .sheet .now) (sym (ap (λ x. x .answer) r) ∙ c .before .enum-told .given .1))
 
 returns : tie.Need-returns
 returns c =
-    let s = c .before .before .before .before .before .before .before .args in
-    let r = c .before .before .before .before .read .ensures in
+    let s = c .before .before .before .before .before .before .args in
+    let r = c .before .before .before .read .ensures in
     let e = refused-is-told (s .sheet .now) (s .report .now) _ _ (sym (ap (λ x. x .answer) r) ∙ c .before .answer .given .1) in
     (sym (ap (λ p. p .outcome) e), sym (ap (λ p. p .buffer) e))
 

@@ -1,69 +1,33 @@
--- `cut_line` meets its contract: nothing for a site with other than one link.
+-- `cut_line` meets its contract: nothing for a cut without sites, else two fields and the last two.
+use mathlib.Core.Path.{_∙_}
 use native.Mathlib.Omega.{arith}
 use Rattle.theory.specs.Sums.{pick-same, pick-other}
-use Rattle.report.specs.Report.{cutLine}
-use Rattle.report.proofs.Writing.{nothing}
-use borrow.Author.Needs.{needs}
+use Rattle.writers.specs.Writing.{same-size, nothing, line-ended}
+use Rattle.report.specs.Report.{cutRecord}
+use Rattle.report.specs.Shown.{heldRecord}
 use Rattle.report.proofs.cut_line.Statement.{statement}
 use Rattle.report.proofs.cut_line.Tie as tie
 
-sub-if1 : tie.Need-sub-if1
-sub-if1 c = search needs
+returns : tie.Need-returns
+unfolding heldRecord
+returns c = (rw (pick-same (c .if1 .taken)) (nothing _ _), omega arith)
 
-mul-if1 : tie.Need-mul-if1
-mul-if1 c = search needs
+put-site-requires : tie.Need-put-site-requires
+put-site-requires c κs = (omega (arith, c .before .before .before .before .before .before .pre .0), c .before .before .before .before .before .before .pre .1)
 
-shared-slice-read-if1 : tie.Need-shared-slice-read-if1
-shared-slice-read-if1 c = search needs
-
-sub-cut-record : tie.Need-sub-cut-record
-sub-cut-record c = search needs
-
-mul-cut-record : tie.Need-mul-cut-record
-mul-cut-record c = search needs
-
-shared-slice-read-cut-record : tie.Need-shared-slice-read-cut-record
-shared-slice-read-cut-record c = search needs
-
-sub-cut-record-2 : tie.Need-sub-cut-record-2
-sub-cut-record-2 c = search needs
-
-mul-cut-record-2 : tie.Need-mul-cut-record-2
-mul-cut-record-2 c = search needs
-
-shared-slice-read-cut-record-2 : tie.Need-shared-slice-read-cut-record-2
-shared-slice-read-cut-record-2 c = search needs
-
-cut-record-requires : tie.Need-cut-record-requires
-cut-record-requires c κs = search needs
+put-numbers-requires : tie.Need-put-numbers-requires
+put-numbers-requires c κs = omega (arith, c .before .before .before .before .before .before .before .before .before .before .pre .0, c .before .before .before .put-site .ensures .1)
 
 same-length : tie.Need-same-length
-same-length c = search needs
-
-returns : tie.Need-returns
-unfolding cutLine
-returns c =
-    let line = c .before .before .cut-record .ensures in
-    (rw (pick-same (c .before .before .before .before .before .before .if1 .taken)) (line .0), line .1)
+same-length c = same-size (c .before .before .put-numbers .ensures .0) ∙ same-size (c .before .before .before .before .before .before .put-site .ensures .0)
 
 returns-2 : tie.Need-returns-2
-unfolding cutLine
-returns-2 c = (rw (pick-other (c .if1 .left)) (nothing _ _), omega arith)
+unfolding heldRecord cutRecord
+returns-2 c =
+    let numbers = c .before .before .put-numbers .ensures in
+    let site = c .before .before .before .before .before .before .put-site .ensures in
+    (rw (pick-other (c .before .before .before .before .before .before .before .before .if1 .left)) (line-ended _ _ _ (site .0) (numbers .0)), omega (arith, site .1, numbers .1))
 
 pub cut-line-spec : {M : Type 1} → statement M
 cut-line-spec =
-    tie.close
-    (tie.spec
-    sub-if1
-    mul-if1
-    shared-slice-read-if1
-    sub-cut-record
-    mul-cut-record
-    shared-slice-read-cut-record
-    sub-cut-record-2
-    mul-cut-record-2
-    shared-slice-read-cut-record-2
-    cut-record-requires
-    same-length
-    returns
-    returns-2)
+    tie.close (tie.spec returns put-site-requires put-numbers-requires same-length returns-2)

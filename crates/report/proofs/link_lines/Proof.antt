@@ -5,8 +5,10 @@ use native.Mathlib.Omega.{arith}
 use lib.ListN.{length}
 use Rattle.network.specs.Numbers.{upfrom}
 use Rattle.report.specs.Report.{lines, linkLine}
-use Rattle.report.specs.Wrote.{Wrote, nameBy}
-use Rattle.report.proofs.Writing.{same-size, lines-none, lines-next}
+use Rattle.writers.specs.Wrote.{Wrote}
+use Rattle.report.specs.Shown.{nameBy}
+use Rattle.writers.specs.Writing.{same-size}
+use Rattle.report.proofs.Writing.{lines-none, lines-next}
 use Rattle.report.proofs.link_lines.Statement.{statement}
 use Rattle.report.proofs.link_lines.Tie as tie
 

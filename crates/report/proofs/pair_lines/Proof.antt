@@ -4,8 +4,10 @@ use Prim.Native.Nat.{_+_, _-_, _*_, _≤_}
 use native.Mathlib.Omega.{arith}
 use lib.ListN.{take}
 use Rattle.report.specs.Report.{lines, pairLine}
-use Rattle.report.specs.Wrote.{Wrote, nameBy}
-use Rattle.report.proofs.Writing.{nothing, same-size, pairs-next}
+use Rattle.writers.specs.Wrote.{Wrote}
+use Rattle.report.specs.Shown.{nameBy}
+use Rattle.writers.specs.Writing.{nothing, same-size}
+use Rattle.report.proofs.Writing.{pairs-next}
 use Rattle.report.proofs.pair_lines.Statement.{statement}
 use Rattle.report.proofs.pair_lines.Tie as tie
 
@@ -19,11 +21,11 @@ abbrev μ-loop : tie.MeasureT-loop
 loop-holds : tie.Need-loop-holds Inv-loop μ-loop
 loop-holds c = (omega arith, unfold lines in (nothing (c .before .before .before .before .args .buf .now) (c .before .before .before .before .args .at)), omega arith)
 
-mul-pair : tie.Need-mul-pair Inv-loop μ-loop
-mul-pair c = omega arith
+mul-pair-line : tie.Need-mul-pair-line Inv-loop μ-loop
+mul-pair-line c = omega arith
 
-array-copy-out-pair : tie.Need-array-copy-out-pair Inv-loop μ-loop
-array-copy-out-pair c = omega (arith, c .before .before .before .before .before .before .pre .1 .few)
+array-copy-out-pair-line : tie.Need-array-copy-out-pair-line Inv-loop μ-loop
+array-copy-out-pair-line c = omega (arith, c .before .before .before .before .before .before .pre .1 .few)
 
 pair-line-requires : tie.Need-pair-line-requires Inv-loop μ-loop
 pair-line-requires c κs =
@@ -63,8 +65,8 @@ pair-lines-spec =
     Inv-loop
     μ-loop
     loop-holds
-    mul-pair
-    array-copy-out-pair
+    mul-pair-line
+    array-copy-out-pair-line
     pair-line-requires
     add-i
     loop-less

@@ -2,11 +2,12 @@
 use mathlib.Core.Path.{_≡_}
 use Prim.Native.Nat.{_+_, _-_, _*_, _≤_}
 use native.Mathlib.Omega.{arith}
-use lib.ListN.{length}
 use Rattle.network.specs.Network.{sites}
-use Rattle.report.specs.Wrote.{Wrote, nameBy}
-use Rattle.report.proofs.Writing.{same-size, lines-none, lines-next}
+use Rattle.writers.specs.Wrote.{Wrote}
+use Rattle.writers.specs.Writing.{same-size}
 use Rattle.report.specs.Report.{lines, siteLine}
+use Rattle.report.specs.Shown.{nameBy}
+use Rattle.report.proofs.Writing.{lines-none, lines-next, site-written}
 use Rattle.report.proofs.site_lines.Statement.{statement}
 use Rattle.report.proofs.site_lines.Tie as tie
 
@@ -25,12 +26,17 @@ loop-holds c =
 add-site-line : tie.Need-add-site-line Inv-loop μ-loop
 add-site-line c = omega arith
 
+mul-site-line : tie.Need-mul-site-line Inv-loop μ-loop
+mul-site-line c = omega arith
+
+shared-slice-read-site-line : tie.Need-shared-slice-read-site-line Inv-loop μ-loop
+shared-slice-read-site-line c = omega (arith, c .before .before .before .before .before .before .before .before .pre .3 .held)
+
 site-line-requires : tie.Need-site-line-requires Inv-loop μ-loop
 site-line-requires c κs =
-    let top = c .before .before in
+    let top = c .before .before .before in
     let pre = top .before .before .before .before .before .before .pre in
-    let x = top .loop .i + 1 in
-    (omega (arith, pre .1), pre .2 x (omega arith) (omega arith), pre .3 x (omega arith) (omega arith))
+    (omega (arith, pre .1), pre .2 (top .loop .i + 1) (omega arith) (omega arith), pre .3 .named (top .loop .i) (omega arith))
 
 add-i : tie.Need-add-i Inv-loop μ-loop
 add-i c = omega arith
@@ -40,11 +46,12 @@ loop-less c = omega arith
 
 loop-again : tie.Need-loop-again Inv-loop μ-loop
 loop-again c =
-    let top = c .before .before .before .before .before in
+    let top = c .before .before .before .before .before .before in
     let s = top .before .before .before .before .before .before .args in
-    let w = c .before .before .site-line .ensures in (
+    let w = c .before .before .site-line .ensures in
+    let name = nameBy (s .sheet .now) (s .start .now) (s .end .now) in (
       omega arith,
-      lines-next (siteLine (nameBy (s .sheet .now) (s .start .now) (s .end .now)) (s .owner .now)) 1 (top .loop .i) (top .loop .i + 1) (omega arith) (top .loop .inv .1) (w .0),
+      lines-next (siteLine name (s .owner .now)) 1 (top .loop .i) (top .loop .i + 1) (omega arith) (top .loop .inv .1) (site-written name (s .owner .now) (top .loop .i) (w .0)),
       omega (arith, w .1, top .loop .inv .2),
     )
 
@@ -64,6 +71,8 @@ site-lines-spec =
     μ-loop
     loop-holds
     add-site-line
+    mul-site-line
+    shared-slice-read-site-line
     site-line-requires
     add-i
     loop-less

@@ -1,7 +1,8 @@
--- `write_refusal` meets its contract: its three fields, one after the other.
+-- `write_refusal` meets its contract: a field, and the last two.
+use mathlib.Core.Path.{_∙_}
 use native.Mathlib.Omega.{arith}
+use Rattle.writers.specs.Writing.{same-size, line-ended, first-field}
 use Rattle.report.specs.Report.{refusalLine}
-use Rattle.report.proofs.Writing.{field-before, last-field}
 use borrow.Author.Needs.{needs}
 use Rattle.report.proofs.write_refusal.Statement.{statement}
 use Rattle.report.proofs.write_refusal.Tie as tie
@@ -10,24 +11,20 @@ slice-aggregate-put-bytes : tie.Need-slice-aggregate-put-bytes
 slice-aggregate-put-bytes c = search needs
 
 put-bytes-requires : tie.Need-put-bytes-requires
-put-bytes-requires c κs = search needs
+put-bytes-requires c κs = omega arith
 
-put-number-requires : tie.Need-put-number-requires
-put-number-requires c κs = search needs
-
-put-number-requires-2 : tie.Need-put-number-requires-2
-put-number-requires-2 c κs = search needs
+put-numbers-requires : tie.Need-put-numbers-requires
+put-numbers-requires c κs = omega (arith, c .before .before .before .put-bytes .ensures .next)
 
 same-length : tie.Need-same-length
-same-length c = search needs
+same-length c = same-size (c .before .before .put-numbers .ensures .0) ∙ same-size (c .before .before .before .before .before .before .put-bytes .ensures)
 
 returns : tie.Need-returns
 unfolding refusalLine
 returns c =
-    let place = c .before .before .put-number2 .ensures in
-    let number = c .before .before .before .before .before .before .put-number .ensures in
-    let word = c .before .before .before .before .before .before .before .before .before .before .put-bytes .ensures in
-    (field-before _ _ _ word (field-before _ _ _ (number .0) (last-field _ (place .0))), omega (arith, word .next, number .1, place .1))
+    let numbers = c .before .before .put-numbers .ensures in
+    let word = c .before .before .before .before .before .before .put-bytes .ensures in
+    (line-ended _ _ _ (first-field _ word) (numbers .0), omega (arith, word .next, numbers .1))
 
 pub write-refusal-spec : {M : Type 1} → statement M
 write-refusal-spec =
@@ -35,7 +32,6 @@ write-refusal-spec =
     (tie.spec
     slice-aggregate-put-bytes
     put-bytes-requires
-    put-number-requires
-    put-number-requires-2
+    put-numbers-requires
     same-length
     returns)

@@ -1,147 +1,62 @@
 -- `read_lines` meets its contract: every turn takes one line from those left to those read (`Progress`).
 use mathlib.Core.Path.{sym, ap, _∙_}
-use Prim.Native.Nat.{_<_, _+_, _-_}
+use Prim.Native.Nat.{_≤_, _<_, _+_, _-_}
 use lib.ListN.{length}
 use borrow.Author.Tests.{not-true, not-false}
-use Rattle.lines.specs.LineLaws.{line-ends-on-sheet}
+use Rattle.lines.specs.LineLaws.{line-stays-on-sheet}
 use Rattle.sheet.specs.Reading.{reading}
-use Rattle.sheet.proofs.Progress.{Progress, start, lengths, by-heading, site-fits, by-site, link-fits, by-link, by-refusal, by-parts, by-acceptance}
+use Rattle.sheet.proofs.Progress.{Progress, start, lengths, table-is, by-heading, site-fits, by-site, link-fits, by-link, by-refusal, by-parts, by-acceptance}
 use native.Mathlib.Omega.{arith}
 use borrow.Author.Needs.{needs}
 use Rattle.sheet.proofs.read_lines.Statement.{statement}
 use Rattle.sheet.proofs.read_lines.Tie as tie
 
 abbrev Inv-loop : tie.InvT-loop
-Inv-loop sheet net₀ labels₀ at₀ number₀ net labels at number = Progress sheet net labels at number
+Inv-loop sheet net₀ table₀ labels₀ at₀ number₀ net table labels at number = Progress sheet net table labels at number
 
 abbrev μ-loop : tie.MeasureT-loop
-μ-loop sheet net₀ labels₀ at₀ number₀ net labels at number = length sheet - at
+μ-loop sheet net₀ table₀ labels₀ at₀ number₀ net table labels at number = length sheet - at
+
+-- the line stays on the sheet
+on-sheet : (c : tie.After-line Inv-loop μ-loop) → let s = c .before .before .before .before .before .before .args .sheet .now in c .before .before .loop .at + length (c .line .result .now) ≤ length s
+on-sheet c =
+    rw (c .line .ensures .bytes) (line-stays-on-sheet (c .before .before .before .before .before .before .args .sheet .now) (c .before .before .loop .at) (c .before .before .loop .inv .on-sheet))
 
 -- the next line is later
-less : (c : tie.After-line-end Inv-loop μ-loop) → let s = c .before .before .before .before .before .before .before .before .before .before .before .before .before .args .sheet .now in length s - (c .line-end .result + 1) < length s - c .before .before .before .before .before .before .before .before .before .loop .at
-less c = omega (arith, line-ends-on-sheet (c .before .before .before .before .before .before .before .before .before .before .before .before .before .args .sheet .now) (c .before .before .before .before .before .before .before .before .before .loop .at), c .line-end .ensures)
+less : (c : tie.After-line Inv-loop μ-loop) → let s = c .before .before .before .before .before .before .args .sheet .now in
+    length s - (c .before .before .loop .at + length (c .line .result .now) + 1) < length s - c .before .before .loop .at
+less c = omega (arith, on-sheet c, c .before .loop-test .taken)
 
 -- there is room for a site, and for a link and its labels
-site-room : (c : tie.After-known-told2 Inv-loop μ-loop) → c .before .before .before .before .before .before .before .before .before .before .before .before .loop .net .sites < 256
-site-room c = site-fits (c .before .before .before .before .before .before .before .before .before .before .before .before .loop .inv) (c .before .before .before .before .step-at .result) (c .before .before .before .before .before .before .before .before .before .before .before .loop-test .taken) (c .before .before .before .before .step-at .ensures) _ _ (c .before .step2 .given .1)
+site-room : (c : tie.After-known-told2 Inv-loop μ-loop) → c .before .before .before .before .before .before .before .before .before .before .before .loop .net .sites < 256
+site-room c = site-fits (c .before .before .before .before .before .before .before .before .before .before .before .loop .inv) (c .before .before .before .step-at .result) (c .before .before .before .before .before .before .before .before .before .before .loop-test .taken) (c .before .before .before .step-at .ensures) _ _ (c .before .step2 .given .1)
 
-link-room : (c : tie.After-known-told3 Inv-loop μ-loop) → (c .before .before .before .before .before .before .before .before .before .before .before .before .loop .net .links < 256) × (c .before .step3 .given .0 .0 < 257) × (c .before .step3 .given .0 .1 .0 < 257)
-link-room c = link-fits (c .before .before .before .before .before .before .before .before .before .before .before .before .loop .inv) (c .before .before .before .before .step-at .result) (c .before .before .before .before .before .before .before .before .before .before .before .loop-test .taken) (c .before .before .before .before .step-at .ensures) _ _ _ (c .before .step3 .given .1)
-
-nothing-requires : tie.Need-nothing-requires Inv-loop μ-loop
-nothing-requires c κs = search needs
-
-own-labels-requires : tie.Need-own-labels-requires Inv-loop μ-loop
-own-labels-requires c κs = search needs
+link-room : (c : tie.After-known-told3 Inv-loop μ-loop) → (c .before .before .before .before .before .before .before .before .before .before .before .loop .net .links < 256) × (c .before .step3 .given .0 .0 < 257) × (c .before .step3 .given .0 .1 .0 < 257)
+link-room c = link-fits (c .before .before .before .before .before .before .before .before .before .before .before .loop .inv) (c .before .before .before .step-at .result) (c .before .before .before .before .before .before .before .before .before .before .loop-test .taken) (c .before .before .before .step-at .ensures) _ _ _ (c .before .step3 .given .1)
 
 loop-holds : tie.Need-loop-holds Inv-loop μ-loop
 loop-holds c = rw (c .before .nothing .ensures, c .own-labels .ensures) (start (c .before .before .before .args .sheet .now))
 
-slice-aggregate-step-at : tie.Need-slice-aggregate-step-at Inv-loop μ-loop
-slice-aggregate-step-at c = omega (arith, lengths (c .before .before .before .before .before .before .before .loop .inv))
-
 step-at-requires : tie.Need-step-at-requires Inv-loop μ-loop
-step-at-requires c κs = omega (arith, lengths (c .before .before .before .before .before .before .before .loop .inv))
-
-line-end-requires : tie.Need-line-end-requires Inv-loop μ-loop
-line-end-requires c κs = search needs
-
-add-at : tie.Need-add-at Inv-loop μ-loop
-add-at c = omega (arith, line-ends-on-sheet (c .before .before .before .before .before .before .before .before .before .before .before .before .before .args .sheet .now) (c .before .before .before .before .before .before .before .before .before .loop .at), c .line-end .ensures)
-
-add-number : tie.Need-add-number Inv-loop μ-loop
-add-number c = omega arith
-
-enum-known-step : tie.Need-enum-known-step Inv-loop μ-loop
-enum-known-step c = search needs
-
-refusal-requires : tie.Need-refusal-requires Inv-loop μ-loop
-refusal-requires c κs = search needs
+step-at-requires c κs =
+    let P = c .before .before .before .before .before .before .before .loop .inv in
+    (lengths P .1, table-is P, P .on-sheet, c .before .before .before .before .before .line .ensures .bytes)
 
 returns : tie.Need-returns Inv-loop μ-loop
 returns c =
-    c .refusal .ensures ∙ ap reading (sym (by-refusal (c .before .before .before .before .before .before .before .before .before .before .before .before .before .loop .inv) (c .before .before .before .before .before .step-at .result) (c .before .before .before .before .before .before .before .before .before .before .before .before .loop-test .taken) (c .before .before .before .before .before .step-at .ensures) _ (c .before .before .step .given .1)))
-
-enum-told : tie.Need-enum-told Inv-loop μ-loop
-enum-told c = search needs
-
-loop-less : tie.Need-loop-less Inv-loop μ-loop
-loop-less c = less (c .before .before)
+    c .refusal .ensures ∙ ap reading (sym (by-refusal (c .before .before .before .before .before .before .before .before .before .before .before .before .loop .inv) (c .before .before .before .before .step-at .result) (c .before .before .before .before .before .before .before .before .before .before .before .loop-test .taken) (c .before .before .before .before .step-at .ensures) _ (c .before .before .step .given .1)))
 
 loop-again : tie.Need-loop-again Inv-loop μ-loop
 loop-again c =
-    rw (c .before .before .line-end .ensures) (by-heading (c .before .before .before .before .before .before .before .before .before .before .before .loop .inv) (c .before .before .before .step-at .result) (c .before .before .before .before .before .before .before .before .before .before .loop-test .taken) (c .before .before .before .step-at .ensures) (c .enum-told .given .1))
-
-enum-known-step-2 : tie.Need-enum-known-step-2 Inv-loop μ-loop
-enum-known-step-2 c = search needs
-
-mul-net : tie.Need-mul-net Inv-loop μ-loop
-mul-net c = omega (arith, site-room c)
-
-element-write-net : tie.Need-element-write-net Inv-loop μ-loop
-element-write-net c = site-room c
-
-mul-net-2 : tie.Need-mul-net-2 Inv-loop μ-loop
-mul-net-2 c = omega (arith, site-room c)
-
-element-write-net-2 : tie.Need-element-write-net-2 Inv-loop μ-loop
-element-write-net-2 c = site-room c
-
-add-net : tie.Need-add-net Inv-loop μ-loop
-add-net c = omega (arith, site-room c)
-
-loop-less-2 : tie.Need-loop-less-2 Inv-loop μ-loop
-loop-less-2 c = less (c .before .before .before)
+    rw (c .before .before .before .before .before .before .before .before .line .ensures .bytes) (by-heading (c .before .before .before .before .before .before .before .before .before .before .loop .inv) (c .before .before .step-at .result) (c .before .before .before .before .before .before .before .before .before .loop-test .taken) (c .before .before .step-at .ensures) (c .enum-told .given .1))
 
 loop-again-2 : tie.Need-loop-again-2 Inv-loop μ-loop
 loop-again-2 c =
-    rw (c .before .before .before .line-end .ensures) (by-site (c .before .before .before .before .before .before .before .before .before .before .before .before .loop .inv) (c .before .before .before .before .step-at .result) (c .before .before .before .before .before .before .before .before .before .before .before .loop-test .taken) (c .before .before .before .before .step-at .ensures) _ _ (c .before .step2 .given .1))
-
-enum-known-step-3 : tie.Need-enum-known-step-3 Inv-loop μ-loop
-enum-known-step-3 c = search needs
-
-mul-net-3 : tie.Need-mul-net-3 Inv-loop μ-loop
-mul-net-3 c = omega (arith, link-room c)
-
-element-write-net-3 : tie.Need-element-write-net-3 Inv-loop μ-loop
-element-write-net-3 c = link-room c .0
-
-mul-net-4 : tie.Need-mul-net-4 Inv-loop μ-loop
-mul-net-4 c = omega (arith, link-room c)
-
-element-write-net-4 : tie.Need-element-write-net-4 Inv-loop μ-loop
-element-write-net-4 c = link-room c .0
-
-mul-net-5 : tie.Need-mul-net-5 Inv-loop μ-loop
-mul-net-5 c = omega (arith, link-room c)
-
-element-write-net-5 : tie.Need-element-write-net-5 Inv-loop μ-loop
-element-write-net-5 c = link-room c .0
-
-add-net-2 : tie.Need-add-net-2 Inv-loop μ-loop
-add-net-2 c = omega (arith, link-room c)
-
-slice-aggregate-join : tie.Need-slice-aggregate-join Inv-loop μ-loop
-slice-aggregate-join c = omega (arith, lengths (c .before .before .before .before .before .before .before .before .before .before .before .before .before .loop .inv))
-
-join-requires : tie.Need-join-requires Inv-loop μ-loop
-join-requires c κs = omega (arith, link-room (c .before), lengths (c .before .before .before .before .before .before .before .before .before .before .before .before .before .loop .inv))
-
-loop-less-3 : tie.Need-loop-less-3 Inv-loop μ-loop
-loop-less-3 c = less (c .before .before .before .before .before .before)
+    rw (c .before .before .before .before .before .before .before .before .before .before .before .line .ensures .bytes) (by-site (c .before .before .before .before .before .before .before .before .before .before .before .before .before .loop .inv) (c .before .before .before .before .before .step-at .result) (c .before .before .before .before .before .before .before .before .before .before .before .before .loop-test .taken) (c .before .before .before .before .before .step-at .ensures) _ _ (c .before .before .before .step2 .given .1) _ (c .enter .ensures))
 
 loop-again-3 : tie.Need-loop-again-3 Inv-loop μ-loop
 loop-again-3 c =
-    rw (c .before .before .before .before .before .before .line-end .ensures) (by-link (c .before .before .before .before .before .before .before .before .before .before .before .before .before .before .before .loop .inv) (c .before .before .before .before .before .before .before .step-at .result) (c .before .before .before .before .before .before .before .before .before .before .before .before .before .before .loop-test .taken) (c .before .before .before .before .before .before .before .step-at .ensures) _ _ _ (c .before .before .before .before .step3 .given .1) _ (c .before .join .ensures))
-
-slice-aggregate-is-whole : tie.Need-slice-aggregate-is-whole Inv-loop μ-loop
-slice-aggregate-is-whole c = omega (arith, lengths (c .before .before .loop .inv))
-
-is-whole-requires : tie.Need-is-whole-requires Inv-loop μ-loop
-is-whole-requires c κs = omega (arith, lengths (c .before .before .loop .inv))
-
-refusal-requires-2 : tie.Need-refusal-requires-2 Inv-loop μ-loop
-refusal-requires-2 c κs = search needs
+    rw (c .before .before .before .before .before .before .before .before .before .before .before .before .line .ensures .bytes) (by-link (c .before .before .before .before .before .before .before .before .before .before .before .before .before .before .loop .inv) (c .before .before .before .before .before .before .step-at .result) (c .before .before .before .before .before .before .before .before .before .before .before .before .before .loop-test .taken) (c .before .before .before .before .before .before .step-at .ensures) _ _ _ (c .before .before .before .before .step3 .given .1) _ (c .before .join .ensures))
 
 returns-2 : tie.Need-returns-2 Inv-loop μ-loop
 returns-2 c =
@@ -157,42 +72,44 @@ read-lines-spec =
     (tie.spec
     Inv-loop
     μ-loop
-    nothing-requires
-    own-labels-requires
+    (λ c κs. search needs)
+    (λ c κs. search needs)
     loop-holds
-    slice-aggregate-step-at
+    (λ c κs. search needs)
     step-at-requires
-    line-end-requires
-    add-at
-    add-number
-    enum-known-step
-    refusal-requires
+    (λ c. omega (arith, on-sheet (c .before .before .before .before .before .before)))
+    (λ c. omega (arith, on-sheet (c .before .before .before .before .before .before)))
+    (λ c. omega (arith, c .before .before .before .before .before .before .before .before .loop .inv .numbered, c .before .before .before .before .before .before .before .before .loop .inv .on-sheet))
+    (λ c. search needs)
+    (λ c κs. search needs)
     returns
-    enum-told
-    loop-less
+    (λ c. search needs)
+    (λ c. less (c .before .before .before .before .before .before .before .before))
     loop-again
-    enum-known-step-2
-    mul-net
-    element-write-net
-    mul-net-2
-    element-write-net-2
-    add-net
-    loop-less-2
+    (λ c. search needs)
+    (λ c. omega (arith, site-room c))
+    (λ c. site-room c)
+    (λ c. omega (arith, site-room c))
+    (λ c. site-room c)
+    (λ c. omega (arith, site-room c))
+    (λ c. omega (arith, site-room (c .before)))
+    (λ c κs. omega (arith, site-room (c .before)))
+    (λ c. less (c .before .before .before .before .before .before .before .before .before .before .before))
     loop-again-2
-    enum-known-step-3
-    mul-net-3
-    element-write-net-3
-    mul-net-4
-    element-write-net-4
-    mul-net-5
-    element-write-net-5
-    add-net-2
-    slice-aggregate-join
-    join-requires
-    loop-less-3
+    (λ c. search needs)
+    (λ c. omega (arith, link-room c))
+    (λ c. link-room c .0)
+    (λ c. omega (arith, link-room c))
+    (λ c. link-room c .0)
+    (λ c. omega (arith, link-room c))
+    (λ c. link-room c .0)
+    (λ c. omega (arith, link-room c))
+    (λ c. omega (arith, lengths (c .before .before .before .before .before .before .before .before .before .before .before .before .loop .inv)))
+    (λ c κs. search needs)
+    (λ c. less (c .before .before .before .before .before .before .before .before .before .before .before .before))
     loop-again-3
-    slice-aggregate-is-whole
-    is-whole-requires
-    refusal-requires-2
+    (λ c. omega (arith, lengths (c .before .before .loop .inv)))
+    (λ c κs. search needs)
+    (λ c κs. search needs)
     returns-2
     returns-3)

@@ -8,21 +8,22 @@ use Rattle.network.specs.Numbers.{look}
 use Rattle.network.specs.Network.{at, sumAt, leaf}
 use Rattle.network.specs.Trimming.{cutAt}
 use Rattle.theory.specs.Sums.{is-same, is-one}
+use Rattle.theory.specs.Trees.{others-add}
 use Rattle.theory.specs.Cutting.{cutAt-away}
 use Rattle.tree.specs.Offer.{links}
 use Rattle.tree.specs.Links.{length-links}
-use Rattle.trimming.specs.Steps.{lastAt}
-use Rattle.trimming.proofs.Laws.{at-most-all, cut-inner, cut-filled, cut-none}
-use Rattle.trimming.proofs.Chaining.{On, on-last, last-le, last-none, walk-goes-on, CutFrom, cut-start, cut-next, cut-end}
+use Rattle.links.specs.Chains.{lastAt, On, on-last, last-le, last-none, walk-goes-on}
+use Rattle.trimming.proofs.Laws.{cut-inner, cut-filled, cut-none}
+use Rattle.trimming.proofs.Chaining.{CutFrom, cut-start, cut-next, cut-end}
 use Rattle.trimming.proofs.cut.Statement.{statement}
 use Rattle.trimming.proofs.cut.Tie as tie
 
 abbrev Inv-loop : tie.InvT-loop
-Inv-loop v last before one two capacity₀ sum p₀ capacity p =
+Inv-loop v last before one two capacity₀ site p₀ capacity p =
     On (links one two) v (length one) p × CutFrom (cutAt (links one two) (leaf (links one two)) v (look capacity₀)) (length one) p capacity₀ capacity
 
 abbrev μ-loop : tie.MeasureT-loop
-μ-loop v last before one two capacity₀ sum p₀ capacity p = p
+μ-loop v last before one two capacity₀ site p₀ capacity p = p
 
 terminal : tie.Need-returns Inv-loop μ-loop
 unfolding leaf
@@ -51,8 +52,8 @@ unfolding leaf
 known t = (λ e. t .before .before .if1 .left (t .before .before .before .before .at-site .ensures .0 ∙ is-one e), t .before .before .before .before .at-site .ensures .1)
 
 -- a link at v has no more than the sum
-fits : tie.Need-sub-lesser Inv-loop μ-loop
-fits c =
+fits : tie.Need-keep-requires Inv-loop μ-loop
+fits c κs =
     let t = c .before .before in
     let s = t .before .before .before .before .before .before .before .before .before in
     let a = s .args in
@@ -62,7 +63,7 @@ fits c =
       arith,
       t .loop .inv .1 .ahead j (omega arith),
       known t .1,
-      at-most-all ls (a .v) (look (a .capacity .now)) j (omega (arith, length-links (a .one .now) (a .two .now) (sym (s .pre .1 .placed .seconds)))) (t .loop .inv .0 .1 (c .before .loop-test .taken)),
+      others-add ls (a .v) j (look (a .capacity .now)) (omega (arith, length-links (a .one .now) (a .two .now) (sym (s .pre .1 .placed .seconds)))) (t .loop .inv .0 .1 (c .before .loop-test .taken)),
     )
 
 -- the link before
@@ -93,7 +94,7 @@ next c =
     rw (back c) (
       on-last ls (a .v) (length (a .one .now)) j (omega arith),
       cut-next (t .loop .inv .1) (omega arith) (omega arith) (s .pre .2 .places)
-          (c .before .lesser .ensures ∙ cut-inner ls (a .v) (look (a .capacity .now)) j (k .0) here (t .loop .inv .1 .ahead j (omega arith)) (k .1))
+          (c .before .keep .ensures ∙ cut-inner ls (a .v) (look (a .capacity .now)) j (k .0) here (t .loop .inv .1 .ahead j (omega arith)) (k .1))
           (omega arith)
           (λ i h l. cutAt-away ls (leaf ls) (a .v) (look (a .capacity .now)) i (last-none ls (a .v) j i h l)),
     )
@@ -124,7 +125,6 @@ cut-spec =
     (λ c. omega arith)
     (λ c. omega (arith, c .before .before .loop .inv .1 .long))
     fits
-    (λ c κs. tt)
     (λ c. omega arith)
     (λ c. omega arith)
     (λ c. omega (arith, c .before .before .before .loop .inv .1 .long))

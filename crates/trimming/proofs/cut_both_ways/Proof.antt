@@ -1,53 +1,81 @@
--- `trimming::cut_both_ways` meets its contract: one pass along the order, and one along the order turned round.
-use mathlib.Core.Path.{sym, ap, ap₂, _∙_}
-use mathlib.Core.List.{reverse}
+-- `trimming::cut_both_ways` meets its contract: after i steps the list is cut at the first i sites of the way along the order and back.
+use mathlib.Core.Path.{_≡_, refl, sym, ap, ap₂, _∙_}
+use mathlib.Core.List.{List, [], _∷_}
+use Prim.Native.Nat.{ℕ, _-_, _*_, _≤_}
 use native.Mathlib.Omega.{arith}
-use borrow.Author.Needs.{needs}
-use lib.Seq.{length-take-le}
-use lib.ListN.{length, take, length-reverse}
-use Rattle.trimming.specs.Steps.{cutFirst}
-use Rattle.trimming.proofs.Laws.{first-more, first-limited, up-to-reverse}
+use native.Mathlib.Numerals.{add-one}
+use lib.Seq.{take-suc, take-all}
+use lib.ListN.{length, take}
+use Rattle.network.specs.Numbers.{look}
+use Rattle.trimming.specs.Steps.{bothWays, cutFirst}
+use Rattle.trimming.proofs.Laws.{first-none, first-more, first-limited, length-both-ways, on-the-way, up-to-on-the-way}
 use Rattle.trimming.proofs.cut_both_ways.Statement.{statement}
 use Rattle.trimming.proofs.cut_both_ways.Tie as tie
 
-long : tie.Need-slice-aggregate-cut-along
-long c = let a = c .before .before .before .before .before .before .before .before .args in sym (length-take-le (a .n) (a .t2) (omega arith))
+abbrev Inv-loop : tie.InvT-loop
+Inv-loop n one two capacity₀ order last before i₀ i-end capacity i =
+    (i ≤ 2 * n) × (length capacity ≡ length capacity₀) × (capacity ≡ cutFirst one two (take i (bothWays (take n order))) capacity₀)
 
-long-back : tie.Need-slice-aggregate-cut-along-2
-long-back c =
-    let a = c .before .before .before .before .before .before .before .before .before .before .before .before .before .before .before .args in
-    sym (ap length (c .before .before .before .before .before .before .before .before .before .before .before .reversed .ensures) ∙ length-reverse (take (a .n) (a .t2)) ∙ length-take-le (a .n) (a .t2) (omega arith))
+abbrev μ-loop : tie.MeasureT-loop
+μ-loop n one two capacity₀ order last before i₀ i-end capacity i = 2 * n - i
 
-limited : tie.Need-cut-along-requires-2
+-- the way along the order and back
+abbrev way : tie.Start Inv-loop μ-loop → List ℕ
+way s = bothWays (take (s .args .n) (s .args .t2))
+
+long : (s : tie.Start Inv-loop μ-loop) → length (way s) ≡ 2 * (s .args .n)
+long s = length-both-ways (s .args .n) (s .args .t2) (omega arith)
+
+start : tie.Need-loop-holds Inv-loop μ-loop
+start c = let s = c .before .before .before .before .before .before in
+    (omega arith, refl, first-none (s .args .one .now) (s .args .two .now) (s .pre .2 .seconds) (s .args .capacity .now))
+
+limited : tie.Need-cut-requires Inv-loop μ-loop
 limited c κs =
-    let s = c .before .before .before .before .before .before .before .before .before .before .before .before .before .before .before .before .before .before in
-    let a = s .args in
-    let o = take (a .n) (a .t2) in (
-      rw (c .before .before .before .before .before .before .before .before .before .before .before .before .before .before .reversed .ensures) (up-to-reverse o (s .pre .1)),
-      c .before .before .before .before .before .before .before .before .before .before .before .before .before .chain .ensures,
-      rw (c .before .before .before .before .before .before .cut-along .ensures) (first-limited (a .one .now) (a .two .now) (s .pre .2 .seconds) o (a .capacity .now) (s .pre .3)),
+    let t = c .before .before .before .before .before in
+    let s = t .before .before .before .before .before .before .before in
+    let a = s .args in (
+      rw (c .before .before .before .there-and-back .ensures) (up-to-on-the-way (a .n) (a .t2) (omega arith) (t .loop .i) (omega arith) (s .pre .1)),
+      t .before .before .before .chain .ensures,
+      rw (t .loop .inv .2) (first-limited (a .one .now) (a .two .now) (s .pre .2 .seconds) (take (t .loop .i) (way s)) (a .capacity .now) (s .pre .3)),
     )
 
-both : tie.Need-returns
-both c =
-    let s = c .before .before .before .before .before .before .before .before .before .before .before .before .before .before .before .before .before .before .before .before .before in
+next : tie.Need-loop-again Inv-loop μ-loop
+next c =
+    let t = c .before .before .before .before .before .before .before .before in
+    let s = t .before .before .before .before .before .before .before in
     let a = s .args in
-    let o = take (a .n) (a .t2) in
-    c .before .before .cut-along2 .ensures
-    ∙ ap₂ (cutFirst (a .one .now) (a .two .now)) (c .before .before .before .before .before .before .before .before .before .before .before .before .before .before .before .before .before .reversed .ensures) (c .before .before .before .before .before .before .before .before .before .cut-along .ensures)
-    ∙ first-more (a .one .now) (a .two .now) (s .pre .2 .seconds) o (reverse o) (a .capacity .now) (s .pre .3 .places)
+    let i = t .loop .i in
+    let site = ap (look (a .t2)) (c .before .before .before .before .before .before .there-and-back .ensures) ∙ on-the-way (a .n) (a .t2) (omega arith) i (omega arith) in (
+      omega arith,
+      c .before .before .cut .kept .1 .1 .1 .1 .1 .0 ∙ t .loop .inv .1,
+      c .before .before .cut .ensures
+          ∙ ap₂ (λ v l. cutFirst (a .one .now) (a .two .now) (v ∷ []) l) site (t .loop .inv .2)
+          ∙ first-more (a .one .now) (a .two .now) (s .pre .2 .seconds) (take i (way s)) (look (way s) i ∷ []) (a .capacity .now) (s .pre .3 .places)
+          ∙ ap (λ vs. cutFirst (a .one .now) (a .two .now) vs (a .capacity .now)) (rw (add-one i) (sym (take-suc (way s) i 0 (omega (arith, long s))))),
+    )
+
+at-end : tie.Need-returns Inv-loop μ-loop
+at-end c =
+    let s = c .before .before .before .before .before .before .before .before in
+    let a = s .args in
+    c .before .loop .inv .2 ∙ ap (λ vs. cutFirst (a .one .now) (a .two .now) vs (a .capacity .now)) (take-all (c .before .loop .i) (way s) (omega (arith, long s)))
 
 pub cut-both-ways-spec : {M : Type 1} → statement M
 cut-both-ways-spec =
     tie.close
     (tie.spec
-    (λ c κs. omega arith)
-    (λ c κs. search needs)
-    (λ c. search needs)
-    long
-    (λ c κs. search needs)
-    (λ c. search needs)
-    long-back
+    Inv-loop
+    μ-loop
+    (λ c κs. c .before .before .before .pre .2)
+    (λ c. omega arith)
+    start
+    (λ c κs. (omega arith, omega arith))
+    (λ c. omega arith)
+    (λ c. omega arith)
     limited
-    (λ c. search needs)
-    both)
+    (λ c. omega arith)
+    (λ c. omega arith)
+    next
+    (λ c. omega arith)
+    at-end)

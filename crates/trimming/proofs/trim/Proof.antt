@@ -1,6 +1,5 @@
 -- `trimming::trim` meets its contract, answer by answer.
 use mathlib.Core.Path.{_≡_, refl, sym, ap, ap₂, _∙_}
-use mathlib.Core.List.{_++_, reverse}
 use native.Mathlib.Omega.{arith}
 use borrow.Author.Needs.{needs}
 use borrow.Author.Tests.{le-leb, lt-leb}
@@ -10,9 +9,10 @@ use Rattle.network.specs.Trimming.{elimination}
 use Rattle.tree.specs.Offer.{links, offer}
 use Rattle.tree.specs.declared.Offer.the-variants.{Accepted}
 use Rattle.tree.specs.Accepted.{TreeWithin, accepted-is-a-tree-within-the-limits, eliminated-says, eliminated-in-order}
-use Rattle.trimming.specs.Steps.{cutFirst}
+use Rattle.links.specs.Chains.{offer-placed}
+use Rattle.trimming.specs.Steps.{bothWays, cutFirst}
 use Rattle.trimming.specs.Outcome.{decide, answer, after, trimmed}
-use Rattle.trimming.proofs.Laws.{offer-placed, order-up-to, copied-limited, both-ways-balance}
+use Rattle.trimming.proofs.Laws.{order-up-to, copied-limited, both-ways-balance}
 use Rattle.trimming.proofs.trim.Statement.{statement}
 use Rattle.trimming.proofs.trim.Tie as tie
 
@@ -69,7 +69,7 @@ balanced c =
     let enough = le-leb (length (a .one .now)) (length (a .lent .now)) room in (
       rw (accepted e, enough) refl,
       rw (accepted e, enough) (c .before .before .cut-both-ways .ensures
-          ∙ ap₂ (λ o l. cutFirst (a .one .now) (a .two .now) (o ++ reverse o) l) (order e) (c .before .before .before .before .before .before .copy .ensures)
+          ∙ ap₂ (λ o l. cutFirst (a .one .now) (a .two .now) (bothWays o) l) (order e) (c .before .before .before .before .before .before .copy .ensures)
           ∙ both-ways-balance (tree e) (a .lent .now) room),
     )
 

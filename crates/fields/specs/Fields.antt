@@ -1,0 +1,63 @@
+-- The fields of a line, and which of them are names and numbers.
+-- Document 01, "The network sheet". Bytes are numbers: 9 tab, 48 .. 57 digits.
+use mathlib.Core.Bool.{Bool, true, false, cond, _&&_, _||_}
+use mathlib.Core.List.{List, [], _∷_}
+use Prim.Native.Nat.{ℕ, suc, _+_, _-_, _*_}
+use lib.Dec.{eqb, leb, ltb}
+use lib.ListN.{length, getD}
+
+-- two byte strings are the same
+unfoldable pub same : List ℕ → List ℕ → Bool
+same [] [] = true
+same [] (y ∷ ys) = false
+same (x ∷ xs) [] = false
+same (x ∷ xs) (y ∷ ys) = eqb x y && same xs ys
+
+-- a byte in front of the first field
+unfoldable pub push : ℕ → List (List ℕ) → List (List ℕ)
+push b [] = (b ∷ []) ∷ []
+push b (f ∷ fs) = (b ∷ f) ∷ fs
+
+-- the fields of a line, parted by one tab
+unfoldable pub fields : List ℕ → List (List ℕ)
+fields [] = [] ∷ []
+fields (b ∷ bs) = cond (eqb b 9) ([] ∷ fields bs) (push b (fields bs))
+
+-- field k of a line
+abbrev pub field : List (List ℕ) → ℕ → List ℕ
+field fs k = getD fs k []
+
+-- the number of bytes before the first tab, or of all bytes where there is none
+unfoldable pub fieldLength : List ℕ → ℕ
+fieldLength [] = 0
+fieldLength (b ∷ bs) = cond (eqb b 9) 0 (suc (fieldLength bs))
+
+-- every byte of a string passes a test
+unfoldable pub all : (ℕ → Bool) → List ℕ → Bool
+all p [] = true
+all p (b ∷ bs) = p b && all p bs
+
+-- 0-9
+abbrev pub isDigit : ℕ → Bool
+isDigit b = leb 48 b && leb b 57
+
+-- A-Z, a-z, 0-9
+abbrev pub isLetterOrDigit : ℕ → Bool
+isLetterOrDigit b = (leb 65 b && leb b 90) || (leb 97 b && leb b 122) || isDigit b
+
+-- a name: 1 to 12 bytes from A-Z, a-z, 0-9
+unfoldable pub isName : List ℕ → Bool
+isName f = leb 1 (length f) && leb (length f) 12 && all isLetterOrDigit f
+
+-- a number in decimal without a leading zero; 0 itself is allowed
+unfoldable pub isNumber : List ℕ → Bool
+isNumber [] = false
+isNumber (b ∷ bs) = isDigit b && all isDigit bs && (ltb 48 b || eqb (length bs) 0)
+
+-- the value of a string of digits, after those that make v
+unfoldable pub valueFrom : ℕ → List ℕ → ℕ
+valueFrom v [] = v
+valueFrom v (b ∷ bs) = valueFrom (v * 10 + (b - 48)) bs
+
+abbrev pub value : List ℕ → ℕ
+value f = valueFrom 0 f

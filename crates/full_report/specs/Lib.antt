@@ -1,0 +1,4 @@
+pub mod Parts
+pub mod Shows
+pub mod Ready
+pub mod Writes

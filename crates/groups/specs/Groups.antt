@@ -1,0 +1,54 @@
+-- Sites grouped by labels: what is asked of the lists of links and capacities, what leaves the sites of a label, and what a tally holds.
+use mathlib.Core.Path.{_≡_}
+use mathlib.Core.Logic.{_≢_}
+use mathlib.Core.List.{List, map}
+use Prim.Native.Nat.{ℕ, _+_, _*_, _/_, _%_, _≤_, _<_}
+use lib.ListN.{length}
+use Rattle.network.specs.Numbers.{is, differ, less, sum, upfrom, look}
+use Rattle.network.specs.Network.{Links, Site, sumAt}
+use Rattle.network.specs.Cuts.{group, cutSize}
+use Rattle.bitset.specs.Members.{bit}
+
+-- at most 255 links, each between two different sites from 1 to 256
+pub record Linked (one two : List ℕ) : Type 0 where
+  pub few : length one ≤ 255
+  pub seconds : length two ≡ length one
+  pub ends : (j : ℕ) → j < length one → Site 256 (look one j) × Site 256 (look two j)
+  pub apart : (j : ℕ) → j < length one → look one j ≢ look two j
+
+-- such links, and a capacity up to 1,000,000 for each
+pub record Offered (one two c : List ℕ) : Type 0 where
+  pub linked : Linked one two
+  pub capacities : length one ≤ length c
+  pub small : (j : ℕ) → j < length one → look c j ≤ 1000000
+
+-- d can be added at the labels of two sites
+pub record Addable (sums labels : List ℕ) (one two d : ℕ) : Type 0 where
+  pub places : length sums ≡ 257
+  pub ends : (one ≤ 256) × (two ≤ 256)
+  pub labelled : (x : ℕ) → look labels x ≤ 256
+  pub small : d ≤ 1000000
+  pub room : (l : ℕ) → look sums l ≤ 254000000
+
+-- 1 if just one of two sites has the label l, else 0
+unfoldable pub leaves : List ℕ → ℕ → ℕ → ℕ → ℕ
+leaves labels a b l = differ (is (look labels a) l) (is (look labels b) l)
+
+-- the capacities of the links with just one site of label l, summed
+unfoldable pub leaving : List ℕ → List ℕ → List ℕ → List ℕ → ℕ → ℕ
+leaving labels one two c l = sum (length one) (λ j. leaves labels (look one j) (look two j) l * look c j)
+
+-- what is counted of a network: the labels of its sites, the numbers of their links, and for each label the size of the cut of a site with it
+pub record Tallied (ls : Links) (c t : ℕ → ℕ) (labels degree sums : List ℕ) : Type 0 where
+  pub grouped : labels ≡ map (group ls c t) (upfrom 0 257)
+  pub small : (x : ℕ) → look labels x ≤ 256
+  pub numbers : (v : ℕ) → look degree v ≡ sumAt ls v (λ i. 1)
+  pub sizes : (a : ℕ) → a ≤ 256 → look sums (look labels a) ≡ cutSize ls c t a
+
+-- 1 if place i is that of one of n sites with the label l, else 0
+unfoldable pub labelled : ℕ → List ℕ → ℕ → ℕ → ℕ
+labelled n labels l i = less i n * is (look labels (i + 1)) l
+
+-- 1 if i is in the set of the four words from word 4 l on, else 0
+unfoldable pub inWords : List ℕ → ℕ → ℕ → ℕ
+inWords words l i = less i 256 * bit (look words (l * 4 + i / 64)) (i % 64)

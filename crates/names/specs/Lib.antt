@@ -1,0 +1,4 @@
+pub mod Names
+pub mod Lists
+pub mod LookupLaws
+pub mod TableLaws

@@ -1,0 +1,68 @@
+-- `record_step` meets its contract, by the kind of the line: what the look-ups found is what their definition gives.
+use mathlib.Core.Path.{_≡_, sym, subst}
+use Prim.Native.Nat.{_<_}
+use native.Mathlib.Omega.{arith}
+use borrow.Author.Needs.{needs}
+use lib.ListN.{length}
+use Rattle.lines.specs.Lines.{lineAt}
+use Rattle.line_kinds.specs.FormedLines.{Formed}
+use Rattle.line_kinds.specs.declared.Line.{Line}
+use Rattle.names.specs.Names.{ranges}
+use Rattle.names.specs.LookupLaws.{length-ranges}
+use Rattle.steps.specs.Steps.{Labelled, recordStep}
+use Rattle.steps.specs.StepCases.{labelled}
+use Rattle.steps.proofs.record_step.Statement.{statement}
+use Rattle.steps.proofs.record_step.Tie as tie
+
+-- the names of a line stand on it
+formed : (c : tie.After-shared-slice-known) (w : Line) → c .before .args .line ≡ w → Formed 1000000 (lineAt (c .before .args .sheet .now) (c .before .args .at)) w
+formed c w e = subst (Formed 1000000 (lineAt (c .before .args .sheet .now) (c .before .args .at))) e (c .before .pre .3)
+
+link-step-requires : tie.Need-link-step-requires
+link-step-requires c κs =
+    let a = c .before .before .before .before .before .before .args in
+    let names = ranges (a .starts .now) (a .ends .now) 0 (a .sites) in
+    let few : length names < 257 = omega (arith, length-ranges (a .starts .now) (a .ends .now) 0 (a .sites)) in
+    (subst (Labelled 257) (sym (c .before .find2 .ensures)) (labelled (a .sheet .now) _ names 257 few), subst (Labelled 257) (sym (c .find3 .ensures)) (labelled (a .sheet .now) _ names 257 few))
+
+returns : tie.Need-returns
+unfolding recordStep
+returns c = rw (c .enum-told .given .1)
+
+returns-2 : tie.Need-returns-2
+unfolding recordStep
+returns-2 c =
+    let a = c .before .before .before .before .before .before .args in
+    rw (c .before .before .before .line .given .1, length-ranges (a .starts .now) (a .ends .now) 0 (a .sites), ← (c .before .find .ensures)) (c .site-step .ensures)
+
+returns-3 : tie.Need-returns-3
+unfolding recordStep
+returns-3 c = rw (c .before .before .before .before .line2 .given .1, ← (c .before .before .find2 .ensures), ← (c .before .find3 .ensures)) (c .link-step .ensures)
+
+returns-4 : tie.Need-returns-4
+unfolding recordStep
+returns-4 c = rw (c .before .line3 .given .1)
+
+pub record-step-spec : {M : Type 1} → statement M
+record-step-spec =
+    tie.close
+    (tie.spec
+    (λ c. search needs)
+    (λ c. search needs)
+    (λ c. omega (arith, formed (c .before .before .before) _ (c .before .line .given .1)))
+    (λ c. omega (arith, formed (c .before .before .before) _ (c .before .line .given .1)))
+    (λ c κs. search needs)
+    (λ c κs. search needs)
+    (λ c. search needs)
+    (λ c. omega (arith, formed (c .before .before .before) _ (c .before .line2 .given .1)))
+    (λ c. omega (arith, formed (c .before .before .before) _ (c .before .line2 .given .1)))
+    (λ c κs. search needs)
+    (λ c. omega (arith, formed (c .before .before .before .before) _ (c .before .before .line2 .given .1)))
+    (λ c. omega (arith, formed (c .before .before .before .before) _ (c .before .before .line2 .given .1)))
+    (λ c κs. search needs)
+    link-step-requires
+    (λ c. search needs)
+    returns
+    returns-2
+    returns-3
+    returns-4)

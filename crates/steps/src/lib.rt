@@ -1,0 +1,130 @@
+// What a line of a network sheet adds to the network read so far (document 01, "The network sheet"), or the number of its refusal.
+ghost use mathlib.Core.Path.{_≡_};
+ghost use Prim.Native.Nat.{_+_, _≤_, _<_};
+ghost use lib.ListN.{length};
+ghost use Rattle.network.specs.Edition.{edition1};
+ghost use Rattle.lines.specs.Lines.{lineAt};
+ghost use Rattle.line_kinds.specs.FormedLines.{Formed};
+ghost use Rattle.names.specs.Names.{ranges, Indexes};
+ghost use Rattle.steps.specs.Steps.{siteStep, Labelled, linkStep, headingStep, recordStep, stepAt};
+use line_kinds::Line;
+use names::Found;
+use network::Edition;
+
+// What a line adds to the network, or the number of its refusal.
+pub enum Step {
+    Nothing,
+    Site { start: usize, end: usize },
+    Link { one: usize, two: usize, size: u64 },
+    Refused(u64),
+}
+
+// What a site line adds, its name being the part from a start to an end, by what the look-up of the name found.
+fn site_step(sites: usize, found: Found, start: usize, end: usize) -> Step
+    ensures { λ r. ⌜ r ≡ siteStep edition1 sites (start, end) found ⌝ }
+{
+    if sites >= Edition::SITES {
+        return Step::Refused(4);
+    }
+    match found {
+        Found::At(_) => Step::Refused(5),
+        Found::Absent => Step::Site { start, end },
+    }
+}
+
+// What a link line adds, by what the look-ups of its two names found, and the labels of the sites.
+fn link_step(labels: &[u16; 257], first: Found, second: Found, size: u64) -> Step
+    requires { ⌜ Labelled 257 first × Labelled 257 second ⌝ }
+    ensures { λ r. ⌜ r ≡ linkStep (now (labels .entry)) size first second ⌝ }
+{
+    let Found::At(one) = first else {
+        return Step::Refused(6);
+    };
+    let Found::At(two) = second else {
+        return Step::Refused(6);
+    };
+    if labels[one] == labels[two] {
+        return Step::Refused(7);
+    }
+    Step::Link { one, two, size }
+}
+
+// What line 1 adds.
+fn heading_step(line: Line) -> Step
+    ensures { λ r. ⌜ r ≡ headingStep line ⌝ }
+{
+    match line {
+        Line::Heading => Step::Nothing,
+        Line::Site { start: _, end: _ } => Step::Refused(2),
+        Line::Link {
+            start: _,
+            end: _,
+            start2: _,
+            end2: _,
+            size: _,
+        } => Step::Refused(2),
+        Line::Fault(_) => Step::Refused(2),
+    }
+}
+
+// What a later line adds, at an offset.
+fn record_step(
+    sheet: &[u8],
+    starts: &[usize; 256],
+    ends: &[usize; 256],
+    sites: usize,
+    table: &[u16; 16384],
+    labels: &[u16; 257],
+    at: usize,
+    line: Line,
+) -> Step
+    requires { ⌜ (sites ≤ 256) × Indexes (now sheet) (ranges (now starts) (now ends) 0 sites) (now table) × (at + length (lineAt (now sheet) at) < length (now sheet)) × Formed (edition1 .size) (lineAt (now sheet) at) line ⌝ }
+    ensures { λ r. ⌜ r ≡ recordStep edition1 (now (sheet .entry)) (ranges (now (starts .entry)) (now (ends .entry)) 0 sites) (now (labels .entry)) at line ⌝ }
+{
+    match line {
+        Line::Heading => Step::Refused(2),
+        Line::Site { start, end } => {
+            let from = at + start;
+            let to = at + end;
+            let found = names::find(sheet, starts, ends, sites, table, from, to);
+            site_step(sites, found, from, to)
+        }
+        Line::Link {
+            start,
+            end,
+            start2,
+            end2,
+            size,
+        } => {
+            let first = names::find(sheet, starts, ends, sites, table, at + start, at + end);
+            let second = names::find(sheet, starts, ends, sites, table, at + start2, at + end2);
+            link_step(labels, first, second, size)
+        }
+        Line::Fault(n) => Step::Refused(n),
+    }
+}
+
+// What the line at an offset adds, `number` being its number. Only the planner's own crates call it.
+pub fn step_at<'a>(
+    sheet: &[u8],
+    line: &[u8],
+    starts: &'a [usize; 256],
+    ends: &'a [usize; 256],
+    sites: usize,
+    table: &[u16; 16384],
+    labels: &[u16; 257],
+    number: usize,
+    at: usize,
+) -> Step
+    requires { ⌜ (sites ≤ 256) × Indexes (now sheet) (ranges (now starts) (now ends) 0 sites) (now table) × (at ≤ length (now sheet)) × (now line ≡ lineAt (now sheet) at) ⌝ }
+    ensures { λ r. ⌜ r ≡ stepAt edition1 (now (sheet .entry)) (ranges (now (starts .entry)) (now (ends .entry)) 0 sites) (now (labels .entry)) number at ⌝ }
+{
+    if at + line.len() >= sheet.len() {
+        return Step::Refused(2);
+    }
+    let kind = line_kinds::classify(line, Edition::SIZE);
+    if number == 1 {
+        return heading_step(kind);
+    }
+    record_step(sheet, starts, ends, sites, table, labels, at, kind)
+}

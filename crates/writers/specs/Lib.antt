@@ -1,0 +1,4 @@
+pub mod Fields
+pub mod Wrote
+pub mod Decimal
+pub mod Writing
