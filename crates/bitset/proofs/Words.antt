@@ -1,14 +1,15 @@
 -- Four words as a set: one member more, the members of a word counted, and the next member of a word.
 use mathlib.Core.Path.{_≡_, refl, ap, _∙_}
 use mathlib.Core.Logic.{_≢_}
-use Prim.Native.Nat.{ℕ, zero, suc, _+_, _-_, _*_, _/_, _%_, _^_, _≤_, _<_}
+use Prim.Native.Nat.{ℕ, suc, _+_, _-_, _*_, _/_, _%_, _^_, _≤_, _<_}
 use native.Mathlib.Nat.{zero-div, add-assoc}
 use native.Mathlib.Omega.{arith}
 use lib.Bits.{bitOr}
 use lib.Count.{ones, trailingZeros}
 use lib.ListN.{length, getD, set, replicate, List·getD-eq-default}
 use lib.Seq.{getD-set-same, getD-set-other}
-use Rattle.network.specs.Numbers.{sum, look}
+use Rattle.network.specs.Numbers.{sum}
+use Rattle.theory.specs.Sites.{look-zeros}
 use Rattle.theory.specs.Sums.{pick-same, pick-other, same?, less-one, less-none, sum-eq}
 use Rattle.bitset.specs.Members.{bit, member, adding, firstFrom}
 use Rattle.bitset.specs.declared.Set.{Set}
@@ -27,12 +28,7 @@ member-out s m l h =
 
 pub member-empty : (j : ℕ) → member (record { words = replicate 4 0 }) j ≡ 0
 unfolding member
-member-empty j = rw (zeros 4 (j / 64), zero-div)
-  where
-    zeros : (n q : ℕ) → look (replicate n 0) q ≡ 0
-    zeros zero q = refl
-    zeros (suc n) zero = refl
-    zeros (suc n) (suc q) = zeros n q
+member-empty j = rw (look-zeros 4 (j / 64), zero-div)
 
 pub insert-out : (s : Set) (m j : ℕ) → length (s .words) ≡ 4 → 256 ≤ m → member s j ≡ adding (member s) m j
 unfolding adding

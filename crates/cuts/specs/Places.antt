@@ -13,7 +13,7 @@ use Rattle.network.specs.Numbers.{is, sum, over, count, look, upfrom}
 use Rattle.network.specs.Network.{sites}
 use Rattle.theory.specs.Sums.{pick-same, pick-other, is-other, cases, same?, sum-eq}
 use Rattle.theory.specs.Sites.{length-upfrom}
-use Rattle.groups.specs.Zeros.{zeros}
+use Rattle.theory.specs.Sites.{look-zeros}
 use Rattle.bitset.specs.Parts.{sum-past, over-upfrom}
 use Rattle.cuts.specs.Outcome.{places, ofTerminal}
 
@@ -58,7 +58,7 @@ module _ (f : ℕ → ℕ) where
   unfolding places
   past-places n i h =
       let e : i ≡ length (map f (sites n)) + (i - n) = omega (arith, length-sites n) in
-      ap (look (map f (sites n) ++ replicate (256 - n) 0)) e ∙ getD-append-add (map f (sites n)) (replicate (256 - n) 0) (i - n) 0 ∙ zeros (256 - n) (i - n)
+      ap (look (map f (sites n) ++ replicate (256 - n) 0)) e ∙ getD-append-add (map f (sites n)) (replicate (256 - n) 0) (i - n) 0 ∙ look-zeros (256 - n) (i - n)
 
   -- a list of 256 places is told by what it holds at the sites
   pub places-is : (n : ℕ) (l : List ℕ) → n ≤ 256 → length l ≡ 256 → ((i : ℕ) → i < n → look l i ≡ f (suc i)) → ((i : ℕ) → n ≤ i → i < 256 → look l i ≡ 0) → l ≡ places n f
@@ -99,7 +99,7 @@ places-same f g n h e = places-upto f g n h (λ i lt. e (suc i))
 
 -- where f is 0 there are zeros only
 pub places-zero : (f : ℕ → ℕ) (n : ℕ) → n ≤ 256 → ((x : ℕ) → f x ≡ 0) → replicate 256 0 ≡ places n f
-places-zero f n h z = places-is f n (replicate 256 0) h (length-replicate {A = ℕ} 256 0) (λ i lt. zeros 256 i ∙ sym (z (suc i))) (λ i le lt. zeros 256 i)
+places-zero f n h z = places-is f n (replicate 256 0) h (length-replicate {A = ℕ} 256 0) (λ i lt. look-zeros 256 i ∙ sym (z (suc i))) (λ i le lt. look-zeros 256 i)
 
 pub places-sum : (f : ℕ → ℕ) (n : ℕ) → n ≤ 256 → sum 256 (look (places n f)) ≡ over (sites n) f
 places-sum f n h =

@@ -5,7 +5,7 @@ use mathlib.Core.List.{List, [], _∷_, _++_, map, append-assoc}
 use Prim.Native.Nat.{ℕ, zero, suc, _+_, _-_, _≤_, _<_}
 use native.Mathlib.Nat.{add-zero}
 use native.Mathlib.Omega.{arith}
-use lib.ListN.{length, getD, take, replicate}
+use lib.ListN.{length, getD, take}
 use lib.Seq.{length-take-le}
 use Rattle.network.specs.Numbers.{look, upfrom}
 use Rattle.network.specs.Network.{sites, sumAt, leaf, total}
@@ -17,20 +17,11 @@ use mathlib.Core.Logic.{_≢_}
 use Rattle.theory.specs.Sums.{pick-same, pick-other, same?, is-same, is-one}
 use Rattle.sheet.specs.Sheet.{Network, part}
 use Rattle.sheet.specs.Reading.{padded}
+use Rattle.sheet.specs.ListLaws.{look-padded}
 use Rattle.report.specs.Report.{lines, planRecord, linkLine, siteLine, cutLine, pairLine, planOf, reportOf, report}
 use Rattle.report.specs.Shown.{nameBy, heldRecord, heldLine}
 
 -- ---- lists with zeros behind them
-
-zeros : (m i : ℕ) → look (replicate m 0) i ≡ 0
-zeros zero i = refl
-zeros (suc m) zero = refl
-zeros (suc m) (suc i) = zeros m i
-
-look-zeros : (l : List ℕ) (m i : ℕ) → look (l ++ replicate m 0) i ≡ look l i
-look-zeros [] m i = zeros m i
-look-zeros (x ∷ l) m zero = refl
-look-zeros (x ∷ l) m (suc i) = look-zeros l m i
 
 look-map : {A : Type 0} (f : A → ℕ) (l : List A) (d : A) → f d ≡ 0 → (i : ℕ) → look (map f l) i ≡ f (getD l i d)
 look-map f [] d e i = sym e
@@ -40,10 +31,9 @@ look-map f (x ∷ l) d e (suc i) = look-map f l d e i
 -- the name ranges of the sites, as two lists
 pub ranges : (n : ℕ) (names : List (ℕ × ℕ)) (i : ℕ)
     → (look (padded n (map (λ r. r .0) names)) i, look (padded n (map (λ r. r .1) names)) i) ≡ getD names i (0, 0)
-unfolding padded
 ranges n names i = ap₂ (λ (a b : ℕ). (a, b))
-    (look-zeros (map (λ r. r .0) names) (n - length (map (λ r. r .0) names)) i ∙ look-map (λ r. r .0) names (0, 0) refl i)
-    (look-zeros (map (λ r. r .1) names) (n - length (map (λ r. r .1) names)) i ∙ look-map (λ r. r .1) names (0, 0) refl i)
+    (look-padded n (map (λ r. r .0) names) i ∙ look-map (λ r. r .0) names (0, 0) refl i)
+    (look-padded n (map (λ r. r .1) names) i ∙ look-map (λ r. r .1) names (0, 0) refl i)
 
 -- ---- lines that read the same
 

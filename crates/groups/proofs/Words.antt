@@ -14,11 +14,11 @@ use Rattle.theory.specs.Sums.{pick-same, pick-other, is-same, is-other, cases, 
 use Rattle.bitset.specs.Members.{bit}
 use Rattle.bitset.proofs.Bits.{or-bit}
 use Rattle.groups.specs.Groups.{labelled, inWords}
-use Rattle.groups.specs.Zeros.{zeros}
+use Rattle.theory.specs.Sites.{look-zeros}
 
 pub words-none : (labels : List ℕ) (l i : ℕ) → inWords (replicate 1028 0) l i ≡ labelled 0 labels l i
 unfolding inWords labelled
-words-none labels l i = rw (zeros 1028 (l * 4 + i / 64), zero-div, less-none {a = i} {b = 0} (λ h. omega arith)) (omega arith)
+words-none labels l i = rw (look-zeros 1028 (l * 4 + i / 64), zero-div, less-none {a = i} {b = 0} (λ h. omega arith)) (omega arith)
 
 module _ (words labels : List ℕ) (k : ℕ) (h : k < 256) (small : look labels (k + 1) ≤ 256) (long : length words ≡ 1028) where
   abbrev here : ℕ

@@ -12,7 +12,7 @@ use lib.ListN.{length}
 use Rattle.network.specs.Numbers.{upfrom}
 use Rattle.network.specs.Network.{Links, sites, at, sumAt, others, leaf, Tree}
 use Rattle.network.specs.Trimming.{Light, Balanced}
-use Rattle.theory.specs.Sums.{same?, is-same, is-one}
+use Rattle.theory.specs.Sums.{same?}
 use Rattle.theory.specs.Sites.{at-site}
 use Rattle.theory.specs.Trees.{others-add}
 

@@ -1,11 +1,10 @@
--- Lists with one element more, lists of zeros, and a part that ends with the sheet.
+-- Lists with one element more, and a part that ends with the sheet.
 use mathlib.Core.List.{List, [], _∷_, _++_}
-use mathlib.Core.Path.{_≡_, refl, sym, ap}
+use mathlib.Core.Path.{_≡_, sym, ap}
 use Prim.Native.Nat.{ℕ, zero, suc, _-_, _<_, min}
 use native.Mathlib.Omega.{arith}
-use lib.ListN.{length, getD, take, drop, replicate, length-append, length-drop, List·getD-append}
+use lib.ListN.{length, getD, take, drop, length-append, length-drop, List·getD-append}
 use lib.Seq.{getD-append-seam}
-use Rattle.network.specs.Numbers.{look}
 use Rattle.theory.specs.Sums.{same?}
 use Rattle.names.specs.Names.{part}
 
@@ -15,12 +14,6 @@ pub one-more : {A : Type 0} (P : ℕ → A → Type 0) (l : List A) (a d : A) �
 one-more P l a d h k i b = same? i (length l)
     (λ e. rw (e, getD-append-seam l a [] d) k)
     (λ e. rw (List·getD-append l (a ∷ []) d i (omega (arith, length-append l (a ∷ [])))) (h i (omega (arith, length-append l (a ∷ [])))))
-
--- zeros everywhere
-pub look-zeros : (m i : ℕ) → look (replicate m 0) i ≡ 0
-look-zeros zero i = refl
-look-zeros (suc m) zero = refl
-look-zeros (suc m) (suc i) = look-zeros m i
 
 -- the first n elements are those of the whole list, where it is shorter
 take-min : (n : ℕ) (l : List ℕ) → take (min n (length l)) l ≡ take n l

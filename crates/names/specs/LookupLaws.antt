@@ -11,7 +11,7 @@ use lib.ListN.{length, getD}
 use Rattle.network.specs.Numbers.{look}
 use Rattle.fields.specs.Fields.{same}
 use Rattle.fields.specs.FieldLaws.{same-are-equal, equal-are-same, not-same}
-use Rattle.names.specs.Names.{part, lookupFrom, lookup, ranges, nameAt}
+use Rattle.names.specs.Names.{part, lookupFrom, ranges, nameAt}
 use Rattle.names.specs.declared.Found.{Found}
 use Rattle.names.specs.declared.Found.the-variants.{At, Absent}
 

@@ -15,7 +15,8 @@ use borrow.Author.Tests.{eqb-true, eqb-false}
 use Rattle.network.specs.Numbers.{look}
 use Rattle.theory.specs.Sums.{same?}
 use Rattle.names.specs.Names.{part, lookup, nameAt, hashFrom, hash, entered, Indexes}
-use Rattle.names.specs.Lists.{one-more, look-zeros}
+use Rattle.theory.specs.Sites.{look-zeros}
+use Rattle.names.specs.Lists.{one-more}
 use Rattle.names.specs.LookupLaws.{Says, lookup-says, first-is-found}
 use Rattle.names.specs.declared.Found.{Found}
 use Rattle.names.specs.declared.Found.the-variants.{At, Absent}

@@ -1,7 +1,7 @@
 -- Terminal cuts: the sites that a terminal reaches over links whose balanced capacity is below the given one.
 -- Document 01, "Plans, trimmed sizes, end sets" (end set; its owner, size and count). c: given capacities, t: balanced ones.
 use mathlib.Core.List.{List, [], _∷_}
-use Prim.Native.Nat.{ℕ, zero, suc, _+_, _*_}
+use Prim.Native.Nat.{ℕ, suc, _*_}
 use lib.ListN.{length}
 use Rattle.network.specs.Numbers.{pick, is, differ, less, sum, over}
 use Rattle.network.specs.Network.{Links, sites, one, two, label}

@@ -1,7 +1,6 @@
 -- The definitions give each of the nine sheets exactly its report: one proof, by computation, over the list.
 use mathlib.Core.Path.{_≡_, refl}
-use mathlib.Core.List.{List, [], _∷_, map}
-use Prim.Native.Nat.{ℕ}
+use mathlib.Core.List.{map}
 use lib.ListN.{length, replicate}
 use native.Mathlib.Decide.{ℕ-discrete, decLe, decLt}
 use Rattle.network.specs.Edition.{edition1}

@@ -1,4 +1,3 @@
 pub mod Outcome
 pub mod Storing
-pub mod Heavy
 pub mod Promise

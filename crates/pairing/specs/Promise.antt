@@ -1,11 +1,11 @@
 -- The promise of pairing, all that a user of its answer relies on: the first places hold the pair list of a tree whose capacities are balanced,
 -- loads of exactly twice the capacities. By the theorems of the walk, over the definitions that `pair_up` and `pair_list` are equated with.
-use mathlib.Core.Path.{_≡_, refl, sym, ap, _∙_}
+use mathlib.Core.Path.{_≡_, refl, ap, _∙_}
 use mathlib.Core.Bool.{Bool, true, false}
 use mathlib.Core.List.{List, _++_}
 use Prim.Native.Nat.{ℕ, _≤_, _<_}
 use native.Mathlib.Omega.{arith}
-use borrow.Author.Tests.{le-leb, leb-true}
+use borrow.Author.Tests.{le-leb}
 use lib.Dec.{leb}
 use lib.Seq.{take-at, drop-at}
 use lib.ListN.{length, take, drop}

@@ -3,7 +3,7 @@ use mathlib.Core.List.{List, [], _∷_, _++_, map}
 use Prim.Native.Nat.{ℕ, _-_}
 use lib.ListN.{length, getD}
 use Rattle.network.specs.Numbers.{pick, look, upfrom}
-use Rattle.network.specs.Network.{sites, one, two, sumAt, leaf, total}
+use Rattle.network.specs.Network.{sites, sumAt, leaf, total}
 use Rattle.network.specs.Trimming.{balanced}
 use Rattle.network.specs.Cuts.{cutSize, cutCount, owner}
 use Rattle.network.specs.Pairing.{pairList}

@@ -6,7 +6,7 @@ use native.Mathlib.Omega.{arith}
 use lib.ListN.{length, set, length-append, replicate}
 use lib.Seq.{set-at}
 use Rattle.network.specs.Numbers.{look}
-use Rattle.names.specs.Lists.{look-zeros}
+use Rattle.theory.specs.Sites.{look-zeros}
 use Rattle.sheet.specs.Reading.{padded}
 
 module _ (n : ℕ) (l : List ℕ) where

@@ -7,13 +7,13 @@ use Prim.Native.Nat.{ℕ, zero, suc, _+_, _*_, _≤_, _<_}
 use native.Mathlib.Omega.{arith}
 use native.Mathlib.Decide.{decLe}
 use native.Mathlib.Nat.{mul-le-mul-left}
-use lib.ListN.{length}
+use lib.ListN.{length, replicate}
 use Rattle.network.specs.Numbers.{is, sum, over, count, upfrom, look}
 use Rattle.network.specs.Network.{Links, Site, Ends, sites, one, two, at, sumAt, Tree}
 use Rattle.theory.specs.Sums.{is-same, is-other, same?, cases, sum-none, sum-add, sum-mul, sum-eq, sum-le}
 use Rattle.theory.specs.Trees.{at-le, at-end, at-first, at-second, at-none, loopless}
 
--- ---- b, b + 1, ..
+-- ---- b, b + 1, .., and zeros
 
 pub length-upfrom : (b n : ℕ) → length (upfrom b n) ≡ n
 unfolding upfrom
@@ -34,6 +34,12 @@ look-map f (x ∷ xs) (suc i) l = look-map f xs i (omega arith)
 -- the list of the values f 0 .. f (n - 1) has f i at place i
 pub look-values : (f : ℕ → ℕ) (n i : ℕ) → i < n → look (map f (upfrom 0 n)) i ≡ f i
 look-values f n i l = look-map f (upfrom 0 n) i (omega (arith, length-upfrom 0 n)) ∙ ap f (omega (arith, look-upfrom 0 n i l))
+
+-- a list of zeros has 0 at every place, and past its end
+pub look-zeros : (m i : ℕ) → look (replicate m 0) i ≡ 0
+look-zeros zero i = refl
+look-zeros (suc m) zero = refl
+look-zeros (suc m) (suc i) = look-zeros m i
 
 pub count-low : (b n x : ℕ) → x < b → count (upfrom b n) x ≡ 0
 unfolding count upfrom

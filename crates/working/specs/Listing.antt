@@ -14,7 +14,7 @@ use Rattle.tree.specs.Offer.{links}
 use Rattle.tree.specs.Accepted.{TreeWithin, accepted-is-a-tree-within-the-limits}
 use Rattle.pairlist.specs.PairList.{noPair}
 use Rattle.pairing.specs.Outcome.{answer, decide, after, paired}
-use Rattle.pairing.specs.Heavy.{balanced-has-no-heavy-link}
+use Rattle.heavy.specs.Heavy.{balanced-has-no-heavy-link}
 use Rattle.pairing.specs.declared.Pairing.the-variants.{Pairs}
 use Rattle.working.specs.Working.{PairsOf}
 

@@ -1,7 +1,7 @@
 -- `elimination::keys_of` meets its contract: the sums over the links passed.
 use mathlib.Core.Path.{_≡_, refl, sym, ap, _∙_}
 use mathlib.Core.List.{List}
-use Prim.Native.Nat.{ℕ, zero, suc, _+_, _*_, _-_, _≤_, _<_}
+use Prim.Native.Nat.{ℕ, _+_, _*_, _-_, _≤_, _<_}
 use native.Mathlib.Omega.{arith}
 use native.Mathlib.Nat.{mul-le-mul-right}
 use lib.Seq.{getD-set-same, getD-set-other}
@@ -9,6 +9,7 @@ use lib.ListN.{length, set, replicate, length-set, length-replicate}
 use Rattle.network.specs.Numbers.{pick, is, look, sum}
 use Rattle.network.specs.Network.{at, sumAt}
 use Rattle.theory.specs.Sums.{is-same, is-other, same?}
+use Rattle.theory.specs.Sites.{look-zeros}
 use Rattle.theory.specs.Trees.{at-le}
 use Rattle.elimination.specs.Links.{links, links-at-site, length-links, sum-next}
 use Rattle.elimination.specs.Steps.{share}
@@ -23,16 +24,11 @@ Inv-loop one two root keys₀ j₀ j-end keys j =
 abbrev μ-loop : tie.MeasureT-loop
 μ-loop one two root keys₀ j₀ j-end keys j = length one - j
 
-zeros : (k x : ℕ) → look (replicate k 0) x ≡ 0
-zeros zero x = refl
-zeros (suc k) zero = refl
-zeros (suc k) (suc x) = zeros k x
-
 -- at first there is only what the root has more
 only-root : (m root x : ℕ) → root < m → let l : List ℕ = set (replicate m 0) root 131072 in (look l x ≤ 0 * 65791 + 131072) × (look l x ≡ 0 + is root x * 131072)
 only-root m root x h = same? root x
     (λ e. let k = getD-set-same {A = ℕ} (replicate m 0) root 131072 0 (omega (arith, length-replicate {A = ℕ} m 0)) in rw (is-same e, ← e) (omega (arith, k), omega (arith, k)))
-    (λ d. let k = getD-set-other {A = ℕ} (replicate m 0) root x 131072 0 (λ z. d (sym z)) ∙ zeros m x in rw (is-other d) (omega (arith, k), omega (arith, k)))
+    (λ d. let k = getD-set-other {A = ℕ} (replicate m 0) root x 131072 0 (λ z. d (sym z)) ∙ look-zeros m x in rw (is-other d) (omega (arith, k), omega (arith, k)))
 
 start : tie.Need-loop-holds Inv-loop μ-loop
 unfolding sum

@@ -6,7 +6,7 @@ use lib.ListN.{length}
 use Rattle.network.specs.Numbers.{sum, look}
 use Rattle.tree.specs.Places.{sum-next}
 use Rattle.groups.specs.Groups.{leaves, leaving}
-use Rattle.groups.specs.Zeros.{zeros}
+use Rattle.theory.specs.Sites.{look-zeros}
 use Rattle.groups.proofs.Sums.{leaves-le}
 use Rattle.groups.proofs.sums_leaving.Statement.{statement}
 use Rattle.groups.proofs.sums_leaving.Tie as tie
@@ -21,7 +21,7 @@ abbrev μ-loop : tie.MeasureT-loop
 
 loop-holds : tie.Need-loop-holds Inv-loop μ-loop
 unfolding sum
-loop-holds c = (omega arith, refl, λ l. (omega (arith, zeros 257 l), zeros 257 l))
+loop-holds c = (omega arith, refl, λ l. (omega (arith, look-zeros 257 l), look-zeros 257 l))
 
 addable : tie.Need-add-at-labels-requires Inv-loop μ-loop
 addable c κs =

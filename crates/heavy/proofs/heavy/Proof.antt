@@ -1,6 +1,6 @@
 -- `heavy::heavy` meets its contract: no site behind has a heavy link.
 use mathlib.Core.Path.{_≡_, sym, _∙_}
-use mathlib.Core.Bool.{Bool, false}
+use mathlib.Core.Bool.{false}
 use Prim.Native.Nat.{ℕ, _+_, _-_, _≤_, _<_}
 use native.Mathlib.Omega.{arith}
 use Rattle.network.specs.Numbers.{look}

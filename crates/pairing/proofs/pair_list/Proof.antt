@@ -29,7 +29,7 @@ use denote.Laws.{Is, shows}
 use denote.Plain.{uint-vals, uint-tells}
 use denote.Builtin.{usize, u64}
 use denote.Array.{Array, arrayVal, array-makes}
-use denote.Memory.{pointee, mem as lying, partAt, partOf}
+use denote.Memory.{mem as lying, partAt, partOf}
 use denote.Ref.{RefT, now}
 use denote.Slice.{sliceTy, sliceVal, MutSlice, ShrSlice, Room, slice-vals, shr-slice-tells}
 use denote.Lend.{Held, lends-slice, slice-back}
@@ -60,7 +60,7 @@ use Rattle.pairing.proofs.Pairing as P
 use Rattle.pairing.proofs.Pairing.Laws as P′
 use Rattle.pairing.proofs.PairList as L
 use Rattle.pairing.proofs.PairList.Laws as L′
-use Rattle.pairing.proofs.Values.{answerVal, listVal, pairListVal, IsAnswer, IsList, answer-tells, list-tells, repeated-is, answer-typed, list-typed, pair-list-is}
+use Rattle.pairing.proofs.Values.{listVal, pairListVal, IsAnswer, IsList, answer-tells, list-tells, repeated-is, list-typed, pair-list-is}
 use Rattle.pairing.proofs.Lending.{comes-apart, comes-together}
 use Rattle.pairing.proofs.pair_up as pair-up
 use Rattle.pairing.proofs.pair_up.Symbol as pair-up-def
