@@ -1,4 +1,4 @@
--- Four words as a set: one member more, the members of a word counted, and the next member of a word.
+-- Words as a set: one member more, the members of a word counted, and the next member of a word.
 use mathlib.Core.Path.{_≡_, refl, ap, _∙_}
 use mathlib.Core.Logic.{_≢_}
 use Prim.Native.Nat.{ℕ, suc, _+_, _-_, _*_, _/_, _%_, _^_, _≤_, _<_}
@@ -8,6 +8,7 @@ use lib.Bits.{bitOr}
 use lib.Count.{ones, trailingZeros}
 use lib.ListN.{length, getD, set, replicate, List·getD-eq-default}
 use lib.Seq.{getD-set-same, getD-set-other}
+use Rattle.network.specs.Limits.{SITES, WORDS}
 use Rattle.network.specs.Numbers.{sum}
 use Rattle.theory.specs.Sites.{look-zeros}
 use Rattle.theory.specs.Sums.{pick-same, pick-other, same?, less-one, less-none, sum-eq}
@@ -19,24 +20,24 @@ use Rattle.bitset.specs.Parts.{sum-split}
 use Rattle.bitset.specs.Laws.{member-bit, first-skip, first-hit}
 use Rattle.bitset.proofs.Bits.{ones-sum, next-bit, no-bit, or-bit}
 
--- a number from 256 up is in no set
-pub member-out : (s : Set) (m : ℕ) → length (s .words) ≡ 4 → 256 ≤ m → member s m ≡ 0
+-- a number from SITES up is in no set
+pub member-out : (s : Set) (m : ℕ) → length (s .words) ≡ WORDS → SITES ≤ m → member s m ≡ 0
 unfolding member
 member-out s m l h =
     let past : length (s .words) ≤ m / 64 = omega arith in
     rw (List·getD-eq-default (s .words) 0 past, zero-div)
 
-pub member-empty : (j : ℕ) → member (record { words = replicate 4 0 }) j ≡ 0
+pub member-empty : (j : ℕ) → member (record { words = replicate WORDS 0 }) j ≡ 0
 unfolding member
-member-empty j = rw (look-zeros 4 (j / 64), zero-div)
+member-empty j = rw (look-zeros WORDS (j / 64), zero-div)
 
-pub insert-out : (s : Set) (m j : ℕ) → length (s .words) ≡ 4 → 256 ≤ m → member s j ≡ adding (member s) m j
+pub insert-out : (s : Set) (m j : ℕ) → length (s .words) ≡ WORDS → SITES ≤ m → member s j ≡ adding (member s) m j
 unfolding adding
 insert-out s m j l h = same? j m
-    (λ e. rw (pick-same e, less-none {a = m} {b = 256} (λ k. omega arith), e) (member-out s m l h))
+    (λ e. rw (pick-same e, less-none {a = m} {b = SITES} (λ k. omega arith), e) (member-out s m l h))
     (λ d. rw (pick-other d) refl)
 
-pub insert-in : (s : Set) (m j : ℕ) → length (s .words) ≡ 4 → m < 256
+pub insert-in : (s : Set) (m j : ℕ) → length (s .words) ≡ WORDS → m < SITES
     → member (record { words = set (s .words) (m / 64) (bitOr (getD (s .words) (m / 64) 0) (1 * 2 ^ (m % 64) % 2 ^ 64)) }) j ≡ adding (member s) m j
 unfolding member adding
 insert-in s m j l h =
@@ -63,13 +64,13 @@ count-word s q h = omega (
 
 -- the first member from p up
 abbrev pub rest : Set → ℕ → Found
-rest s p = firstFrom (member s) p (256 - p)
+rest s p = firstFrom (member s) p (SITES - p)
 
-pub rest-none : (s : Set) (p : ℕ) → 256 ≤ p → rest s p ≡ Absent
+pub rest-none : (s : Set) (p : ℕ) → SITES ≤ p → rest s p ≡ Absent
 unfolding firstFrom
-rest-none s p h = let z : 256 - p ≡ 0 = omega arith in rw z
+rest-none s p h = let z : SITES - p ≡ 0 = omega arith in rw z
 
-module _ (s : Set) (q k : ℕ) (in-words : q < 4) (in-word : k < 64) where
+module _ (s : Set) (q k : ℕ) (in-words : q < WORDS) (in-word : k < 64) where
   from-k : (j : ℕ) → k + j < 64 → member s (q * 64 + k + j) ≡ bit (getD (s .words) q 0) (k + j)
   from-k j l = rw (add-assoc) (member-bit s q (k + j) l)
 
@@ -81,8 +82,8 @@ module _ (s : Set) (q k : ℕ) (in-words : q < 4) (in-word : k < 64) where
       let p = q * 64 + k in
       let t = trailingZeros 64 (getD (s .words) q 0 / 2 ^ k) in
       let b = next-bit (getD (s .words) q 0) k h n in
-      let left = 256 - p - t - 1 in
-      let e : 256 - p ≡ t + suc left = omega (arith, b .below) in (
+      let left = SITES - p - t - 1 in
+      let e : SITES - p ≡ t + suc left = omega (arith, b .below) in (
         b .below,
         ap (firstFrom (member s) p) e
             ∙ first-skip (member s) p t (suc left) (λ j l o. omega (arith, from-k j (omega (arith, b .below)), b .miss j l))
@@ -94,8 +95,8 @@ module _ (s : Set) (q k : ℕ) (in-words : q < 4) (in-word : k < 64) where
   next-later z =
       let p = q * 64 + k in
       let p′ = (q + 1) * 64 + 0 in
-      let e : 256 - p ≡ (64 - k) + (256 - p′) = omega arith in
+      let e : SITES - p ≡ (64 - k) + (SITES - p′) = omega arith in
       let there : p + (64 - k) ≡ p′ = omega arith in
       ap (firstFrom (member s) p) e
-      ∙ first-skip (member s) p (64 - k) (256 - p′) (λ j l o. omega (arith, from-k j (omega arith), no-bit (getD (s .words) q 0) k j z))
-      ∙ ap (λ n. firstFrom (member s) n (256 - p′)) there
+      ∙ first-skip (member s) p (64 - k) (SITES - p′) (λ j l o. omega (arith, from-k j (omega arith), no-bit (getD (s .words) q 0) k j z))
+      ∙ ap (λ n. firstFrom (member s) n (SITES - p′)) there

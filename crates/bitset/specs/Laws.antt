@@ -8,6 +8,7 @@ use native.Mathlib.Omega.{arith}
 use lib.ListN.{length, getD}
 use lib.Pow.{shr-shr, shr-lt}
 use lib.Seq.{ext-getD}
+use Rattle.network.specs.Limits.{WORDS}
 use Rattle.theory.specs.Sums.{pick-same, pick-other, same?}
 use Rattle.bitset.specs.Members.{bit, member, firstFrom}
 use Rattle.bitset.specs.declared.Set.{Set}
@@ -40,13 +41,13 @@ told-by-bits (suc k) x y hx hy h =
     (λ j l. sym (bit-up x j) ∙ h (suc j) (omega arith) ∙ bit-up y j) in
     omega (arith, half, bit-low x, bit-low y, h 0 (omega arith))
 
--- four words of 64 bits, as the type has them
+-- words of 64 bits, as the type has them
 pub record Fits (s : Set) : Type 0 where
-  pub four : length (s .words) ≡ 4
+  pub full : length (s .words) ≡ WORDS
   pub each : (q : ℕ) → getD (s .words) q 0 < 2 ^ 64
 
 pub a-set-is-told-by-its-members : (s s′ : Set) → Fits s → Fits s′ → ((m : ℕ) → member s m ≡ member s′ m) → s ≡ s′
-a-set-is-told-by-its-members s s′ f f′ h = ap (λ ws. record { words = ws }) (ext-getD 0 (s .words) (s′ .words) (f .four ∙ sym (f′ .four))
+a-set-is-told-by-its-members s s′ f f′ h = ap (λ ws. record { words = ws }) (ext-getD 0 (s .words) (s′ .words) (f .full ∙ sym (f′ .full))
     (λ q l. told-by-bits 64 (getD (s .words) q 0) (getD (s′ .words) q 0) (f .each q) (f′ .each q)
     (λ r k. sym (member-bit s q r k) ∙ h (q * 64 + r) ∙ member-bit s′ q r k)))
 

@@ -1,7 +1,8 @@
--- A set of numbers below 256, as four words of 64 bits: its members, the set with one more, and the next member from a number up.
+-- A set of numbers below SITES, as words of 64 bits: its members, the set with one more, and the next member from a number up.
 -- Document 01, "Form by location": an end set is u64 words; members counted by ones, walked by trailing zeros.
 use Prim.Native.Nat.{ℕ, zero, suc, _/_, _%_, _^_}
 use lib.ListN.{getD}
+use Rattle.network.specs.Limits.{SITES}
 use Rattle.network.specs.Numbers.{pick, less}
 use Rattle.bitset.specs.declared.Set.{Set}
 use Rattle.bitset.specs.declared.Found.{Found}
@@ -15,9 +16,9 @@ bit x k = x / 2 ^ k % 2
 unfoldable pub member : Set → ℕ → ℕ
 member s m = bit (getD (s .words) (m / 64) 0) (m % 64)
 
--- the members f with m added; no set holds a number from 256 up
+-- the members f with m added; no set holds a number from SITES up
 unfoldable pub adding : (ℕ → ℕ) → ℕ → ℕ → ℕ
-adding f m j = pick j m (less m 256) (f j)
+adding f m j = pick j m (less m SITES) (f j)
 
 -- the first of the k numbers from p up at which f is 1
 unfoldable pub firstFrom : (ℕ → ℕ) → ℕ → ℕ → Found

@@ -1,13 +1,16 @@
-// A set of numbers below 256 as four words of 64 bits: members are counted by ones and walked by trailing zeros.
+// A set of numbers below SITES as words of 64 bits: members are counted by ones and walked by trailing zeros.
 ghost use mathlib.Core.Path.{_≡_};
 ghost use Prim.Native.Nat.{ℕ, _-_};
 ghost use lib.Dec.{eqb};
+ghost use Rattle.network.specs.Limits.{SITES};
 ghost use Rattle.network.specs.Numbers.{sum};
 ghost use Rattle.bitset.specs.Members.{member, adding, firstFrom};
+use network::SITES;
+use network::WORDS;
 
-// A set of numbers below 256: m is the bit m % 64 of the word m / 64.
+// A set of numbers below SITES: m is the bit m % 64 of the word m / 64.
 pub struct Set {
-    pub words: [u64; 4],
+    pub words: [u64; WORDS],
 }
 
 // A member that was looked for.
@@ -21,14 +24,16 @@ impl Set {
     pub fn empty() -> Self
         ensures { λ r. ⌜ ((j : ℕ) → member r j ≡ 0) ⌝ }
     {
-        Set { words: [0u64; 4] }
+        Set {
+            words: [0u64; WORDS],
+        }
     }
 
-    // The set with m put in; a number from 256 up is not put in.
+    // The set with m put in; a number from SITES up is not put in.
     pub fn insert(mut self, m: usize) -> Self
         ensures { λ r. ⌜ ((j : ℕ) → member r j ≡ adding (member self) m j) ⌝ }
     {
-        if m >= 256 {
+        if m >= SITES {
             return self;
         }
         let i = m / 64;
@@ -42,7 +47,7 @@ impl Set {
     pub fn has(self, m: usize) -> bool
         ensures { λ r. ⌜ r ≡ eqb (member self m) 1 ⌝ }
     {
-        if m >= 256 {
+        if m >= SITES {
             return false;
         }
         let i = m / 64;
@@ -52,11 +57,11 @@ impl Set {
 
     // The first member from p up.
     pub fn next(self, p: usize) -> Found
-        ensures { λ r. ⌜ r ≡ firstFrom (member self) p (256 - p) ⌝ }
+        ensures { λ r. ⌜ r ≡ firstFrom (member self) p (SITES - p) ⌝ }
     {
         let mut i = p / 64;
         let mut k = p % 64;
-        while i < 4 {
+        while i < WORDS {
             let left = self.words[i] >> k;
             if left != 0 {
                 let zeros = u64::trailing_zeros(left);
@@ -70,10 +75,10 @@ impl Set {
 
     // The number of members.
     pub fn count(self) -> usize
-        ensures { λ r. ⌜ r ≡ sum 256 (member self) ⌝ }
+        ensures { λ r. ⌜ r ≡ sum SITES (member self) ⌝ }
     {
         let mut total: usize = 0;
-        for i in 0..4 {
+        for i in 0..WORDS {
             let ones = u64::count_ones(self.words[i]);
             total += ones as usize;
         }

@@ -4,13 +4,13 @@ use mathlib.Core.List.{List}
 use Prim.Native.Nat.{ℕ}
 use native.Mathlib.Omega.{arith}
 use lib.ListN.{length}
-use Rattle.network.specs.Edition.{edition1}
+use Rattle.network.specs.Edition.{largest}
 use Rattle.theory.specs.Trees.{loopless}
 use Rattle.tree.specs.Accepted.{TreeWithin}
 use Rattle.tree.specs.Links.{length-links, links-one, links-two}
 use Rattle.groups.specs.Groups.{Offered}
 
-pub offered : {n : ℕ} {a b c : List ℕ} → TreeWithin edition1 n a b c → Offered a b c
+pub offered : {n : ℕ} {a b c : List ℕ} → TreeWithin largest n a b c → Offered a b c
 offered {n} {a} {b} {c} w =
     let same : length a ≡ length b = omega arith in
     let all = length-links a b same in

@@ -9,6 +9,7 @@ use native.Mathlib.Omega.{arith}
 use native.Mathlib.Decide.{decLt}
 use lib.ListN.{length, set, length-set, length-map}
 use lib.Seq.{ext-getD, getD-set-same, getD-set-other}
+use Rattle.network.specs.Limits.{SITES}
 use Rattle.network.specs.Numbers.{pick, is, look, upfrom}
 use Rattle.network.specs.Network.{Links, sites}
 use Rattle.network.specs.Cuts.{inCut, ownerAmong}
@@ -19,13 +20,13 @@ use Rattle.tree.specs.Places.{same-values}
 use Rattle.cuts.specs.Steps.{claim}
 
 -- a cut is told by its places
-pub claims-same : (old : List ℕ) (cut cut′ : ℕ → ℕ) (a : ℕ) → ((i : ℕ) → cut i ≡ cut′ i) → map (claim old cut a) (upfrom 0 256) ≡ map (claim old cut′ a) (upfrom 0 256)
+pub claims-same : (old : List ℕ) (cut cut′ : ℕ → ℕ) (a : ℕ) → ((i : ℕ) → cut i ≡ cut′ i) → map (claim old cut a) (upfrom 0 SITES) ≡ map (claim old cut′ a) (upfrom 0 SITES)
 unfolding claim
-claims-same old cut cut′ a e = same-values (claim old cut a) (claim old cut′ a) 256 (λ i h. rw (e i) refl)
+claims-same old cut cut′ a e = same-values (claim old cut a) (claim old cut′ a) SITES (λ i h. rw (e i) refl)
 
 -- the owners are as they will be below p, and as they were from p up
 pub record Claiming (old : List ℕ) (cut : ℕ → ℕ) (a p : ℕ) (owners : List ℕ) : Type 0 where
-  pub long : length owners ≡ 256
+  pub long : length owners ≡ SITES
   pub done : (i : ℕ) → i < p → look owners i ≡ claim old cut a i
   pub left : (i : ℕ) → p ≤ i → look owners i ≡ look old i
 
@@ -43,10 +44,10 @@ module _ (old : List ℕ) (cut : ℕ → ℕ) (a : ℕ) where
   unfolding claim
   claim-new i z e = sym (pick-same z _ _ ∙ pick-same e _ _)
 
-  pub claiming-start : length old ≡ 256 → Claiming old cut a 0 old
+  pub claiming-start : length old ≡ SITES → Claiming old cut a 0 old
   claiming-start l = record { long = l; done = λ i h. absurd (omega arith); left = λ i h. refl }
 
-  module _ (p m : ℕ) (owners : List ℕ) (s : Claiming old cut a p owners) (f : First cut p (256 - p) m) where
+  module _ (p m : ℕ) (owners : List ℕ) (s : Claiming old cut a p owners) (f : First cut p (SITES - p) m) where
     -- the places before m stay
     passed : (i : ℕ) → i < m → look owners i ≡ claim old cut a i
     passed i h = cases (decLt i p) (λ l. s .done i l) (λ l. s .left i (omega arith) ∙ claim-out i (f .miss i (omega arith) h))
@@ -69,12 +70,12 @@ module _ (old : List ℕ) (cut : ℕ → ℕ) (a : ℕ) where
       left = λ i h. getD-set-other owners m i a 0 (λ e. omega arith) ∙ s .left i (omega (arith, f .from));
     }
 
-  pub claiming-end : (p : ℕ) (owners : List ℕ) → Claiming old cut a p owners → ((i : ℕ) → p ≤ i → i < p + (256 - p) → cut i ≢ 1)
-      → owners ≡ map (claim old cut a) (upfrom 0 256)
-  claiming-end p owners s none = ext-getD 0 owners (map (claim old cut a) (upfrom 0 256))
-      (s .long ∙ sym (length-map (upfrom 0 256) (claim old cut a) ∙ length-upfrom 0 256))
+  pub claiming-end : (p : ℕ) (owners : List ℕ) → Claiming old cut a p owners → ((i : ℕ) → p ≤ i → i < p + (SITES - p) → cut i ≢ 1)
+      → owners ≡ map (claim old cut a) (upfrom 0 SITES)
+  claiming-end p owners s none = ext-getD 0 owners (map (claim old cut a) (upfrom 0 SITES))
+      (s .long ∙ sym (length-map (upfrom 0 SITES) (claim old cut a) ∙ length-upfrom 0 SITES))
       (λ i h. cases (decLt i p) (λ l. s .done i l) (λ l. s .left i (omega arith) ∙ claim-out i (none i (omega arith) (omega (arith, s .long))))
-      ∙ sym (look-values (claim old cut a) 256 i (omega (arith, s .long))))
+      ∙ sym (look-values (claim old cut a) SITES i (omega (arith, s .long))))
 
 -- ---- the search through the sites, one site more
 

@@ -7,6 +7,7 @@ use native.Mathlib.Nat.{one-mul}
 use native.Mathlib.Numerals.{add-one, one-add}
 use native.Mathlib.Omega.{arith}
 use lib.ListN.{replicate, length-map}
+use Rattle.network.specs.Limits.{PLACES, SITES}
 use Rattle.network.specs.Numbers.{sum, look, upfrom}
 use Rattle.network.specs.Network.{Links, sites, leaf}
 use Rattle.network.specs.Cuts.{group, inCut, cutSize, cutCount, ownerAmong, owner}
@@ -28,7 +29,7 @@ module _ (cut : ℕ → ℕ → ℕ) (labels start degree : List ℕ) where
 
   -- a terminal claims the places of its cut, any other site none
   owners-more : (k : ℕ) → look degree (suc k) ≡ 1
-      → ownersTo cut labels start degree (suc k) ≡ map (claim (ownersTo cut labels start degree k) (cut (look labels (suc k))) (suc k)) (upfrom 0 256)
+      → ownersTo cut labels start degree (suc k) ≡ map (claim (ownersTo cut labels start degree k) (cut (look labels (suc k))) (suc k)) (upfrom 0 SITES)
   unfolding ownersTo
   owners-more k e = pick-same e _ _
 
@@ -38,7 +39,7 @@ module _ (cut : ℕ → ℕ → ℕ) (labels start degree : List ℕ) where
 
   -- the same as the steps of a loop
   module _ {now : List ℕ} (k : ℕ) (e : now ≡ ownersTo cut labels start degree k) where
-    pub owners-next : look degree (k + 1) ≡ 1 → map (claim now (cut (look labels (k + 1))) (k + 1)) (upfrom 0 256) ≡ ownersTo cut labels start degree (k + 1)
+    pub owners-next : look degree (k + 1) ≡ 1 → map (claim now (cut (look labels (k + 1))) (k + 1)) (upfrom 0 SITES) ≡ ownersTo cut labels start degree (k + 1)
     owners-next = rw (add-one k, e) (λ o. sym (owners-more k o))
 
     pub owners-pass : look degree (k + 1) ≢ 1 → now ≡ ownersTo cut labels start degree (k + 1)
@@ -48,7 +49,7 @@ module _ (cut : ℕ → ℕ → ℕ) (labels start degree : List ℕ) where
 module _ (cut cut′ : ℕ → ℕ → ℕ) (labels : List ℕ) (e : (l i : ℕ) → cut l i ≡ cut′ l i) where
   pub members-alike : (a : ℕ) → members cut labels a ≡ members cut′ labels a
   unfolding members
-  members-alike a = sum-eq 256 (cut (look labels a)) (cut′ (look labels a)) (λ i h. e (look labels a) i)
+  members-alike a = sum-eq SITES (cut (look labels a)) (cut′ (look labels a)) (λ i h. e (look labels a) i)
 
   pub owners-alike : (start degree : List ℕ) (k : ℕ) → ownersTo cut labels start degree k ≡ ownersTo cut′ labels start degree k
   owners-alike start degree zero = owners-none cut labels start degree ∙ sym (owners-none cut′ labels start degree)
@@ -60,7 +61,7 @@ module _ (cut cut′ : ℕ → ℕ → ℕ) (labels : List ℕ) (e : (l i : ℕ)
 
 -- ---- the tally of a network
 
-module _ (ls : Links) (n : ℕ) (c t : ℕ → ℕ) (few : n ≤ 256) {labels degree leaving : List ℕ} (made : Tallied ls c t labels degree leaving) where
+module _ (ls : Links) (n : ℕ) (c t : ℕ → ℕ) (few : n ≤ SITES) {labels degree leaving : List ℕ} (made : Tallied ls c t labels degree leaving) where
   abbrev owners : ℕ → ℕ → ℕ
   owners k = ownerAmong ls c t (leaf ls) (sites k)
 
@@ -88,7 +89,7 @@ module _ (ls : Links) (n : ℕ) (c t : ℕ → ℕ) (few : n ≤ 256) {labels de
     cut-in k h = rw (less-one h, one-mul, add-one, at k h, at i lt) refl
       where
         at : (x : ℕ) → x < n → look labels (suc x) ≡ group ls c t (suc x)
-        at x l = ap (λ r. look r (suc x)) (made .grouped) ∙ look-values (group ls c t) 257 (suc x) (omega arith)
+        at x l = ap (λ r. look r (suc x)) (made .grouped) ∙ look-values (group ls c t) PLACES (suc x) (omega arith)
 
     cut-past : (k : ℕ) → n ≤ k → cut k ≡ 0
     unfolding labelled
@@ -97,28 +98,28 @@ module _ (ls : Links) (n : ℕ) (c t : ℕ → ℕ) (few : n ≤ 256) {labels de
     members-count : members (labelled n labels) labels (suc i) ≡ cutCount ls c t n (suc i)
     unfolding members cutCount
     members-count =
-        let all : 256 ≡ n + (256 - n) = omega arith in
-        ap (λ m. sum m cut) all ∙ sum-past cut n (256 - n) cut-past
+        let all : SITES ≡ n + (SITES - n) = omega arith in
+        ap (λ m. sum m cut) all ∙ sum-past cut n (SITES - n) cut-past
         ∙ sum-eq n cut (λ k. inCut ls c t (suc i) (1 + k)) (λ k h. cut-in k h ∙ ap (inCut ls c t (suc i)) (sym (one-add k)))
         ∙ sym (over-upfrom (inCut ls c t (suc i)) 1 n)
 
-    claimed : leaf ls (suc i) ≡ 1 → map (claim (places n (owners i)) cut (suc i)) (upfrom 0 256) ≡ places n (owners (suc i))
+    claimed : leaf ls (suc i) ≡ 1 → map (claim (places n (owners i)) cut (suc i)) (upfrom 0 SITES) ≡ places n (owners (suc i))
     unfolding claim
     claimed m =
         let claims = claim (places n (owners i)) cut (suc i) in
-        places-is (owners (suc i)) n (map claims (upfrom 0 256)) few (length-map (upfrom 0 256) claims ∙ length-upfrom 0 256)
-        (λ k h. look-values claims 256 k (omega arith) ∙ rw (look-places (owners i) n k h, cut-in k h) (sym (owner-terminal ls c t (leaf ls) (suc k) i m)))
-        (λ k le h. look-values claims 256 k h ∙ rw (past-places (owners i) n k le, cut-past k le) (pick-same {u = 0} refl _ _ ∙ pick-other {u = 0} {v = 1} (λ z. omega arith) _ _))
+        places-is (owners (suc i)) n (map claims (upfrom 0 SITES)) few (length-map (upfrom 0 SITES) claims ∙ length-upfrom 0 SITES)
+        (λ k h. look-values claims SITES k (omega arith) ∙ rw (look-places (owners i) n k h, cut-in k h) (sym (owner-terminal ls c t (leaf ls) (suc k) i m)))
+        (λ k le h. look-values claims SITES k h ∙ rw (past-places (owners i) n k le, cut-past k le) (pick-same {u = 0} refl _ _ ∙ pick-other {u = 0} {v = 1} (λ z. omega arith) _ _))
 
   no-owner : (x : ℕ) → owners 0 x ≡ 0
   unfolding ownerAmong upfrom
   no-owner x = refl
 
-  owners-are : (k : ℕ) → k ≤ n → ownersTo (labelled n labels) labels (replicate 256 0) degree k ≡ places n (owners k)
-  owners-are zero h = owners-none (labelled n labels) labels (replicate 256 0) degree ∙ places-zero (owners 0) n few no-owner
+  owners-are : (k : ℕ) → k ≤ n → ownersTo (labelled n labels) labels (replicate SITES 0) degree k ≡ places n (owners k)
+  owners-are zero h = owners-none (labelled n labels) labels (replicate SITES 0) degree ∙ places-zero (owners 0) n few no-owner
   owners-are (suc k) h = same? (look degree (suc k)) 1
-      (λ o. owners-more (labelled n labels) labels (replicate 256 0) degree k o ∙ rw (owners-are k (omega arith)) (claimed k h (one-link (suc k) o)))
-      (λ d. owners-same (labelled n labels) labels (replicate 256 0) degree k d ∙ owners-are k (omega arith)
+      (λ o. owners-more (labelled n labels) labels (replicate SITES 0) degree k o ∙ rw (owners-are k (omega arith)) (claimed k h (one-link (suc k) o)))
+      (λ d. owners-same (labelled n labels) labels (replicate SITES 0) degree k d ∙ owners-are k (omega arith)
       ∙ places-same (owners k) (owners (suc k)) n few (λ x. owner-inner ls c t (leaf ls) x k (other-links (suc k) d)))
 
   pub cuts-by-tally : cutsBy n labels degree leaving ≡ cuts ls n (leaf ls) c t

@@ -5,8 +5,9 @@ use mathlib.Core.List.{List, _++_, map}
 use Prim.Native.Nat.{ℕ, _-_}
 use lib.Dec.{eqb}
 use lib.ListN.{length, replicate}
+use Rattle.network.specs.Limits.{SITES}
 use Rattle.network.specs.Numbers.{pick, look}
-use Rattle.network.specs.Edition.{edition1}
+use Rattle.network.specs.Edition.{largest}
 use Rattle.network.specs.Network.{Links, sites, leaf}
 use Rattle.network.specs.Cuts.{cutSize, cutCount, owner}
 use Rattle.tree.specs.Offer.{links, offer}
@@ -16,17 +17,17 @@ use Rattle.cuts.specs.declared.Answer.{Answer}
 use Rattle.cuts.specs.declared.Answer.the-variants.{NoTree, TooLarge, Unequal, Done}
 use Rattle.cuts.specs.declared.Cuts.{Cuts}
 
--- f at the sites 1 .. n, then 0 up to 256 places: place x - 1 is that of site x
+-- f at the sites 1 .. n, then 0 up to SITES places: place x - 1 is that of site x
 unfoldable pub places : ℕ → (ℕ → ℕ) → List ℕ
-places n f = map f (sites n) ++ replicate (256 - n) 0
+places n f = map f (sites n) ++ replicate (SITES - n) 0
 
 -- f at a terminal, 0 at an inner site
 unfoldable pub ofTerminal : (ℕ → ℕ) → (ℕ → ℕ) → ℕ → ℕ
 ofTerminal terminal f x = pick (terminal x) 1 (f x) 0
 
--- an answer without cuts: all 256 places without an owner (01), every size and count 0
+-- an answer without cuts: all SITES places without an owner (01), every size and count 0
 unfoldable pub noCuts : Answer → Cuts
-noCuts a = record { owner = replicate 256 0; size = replicate 256 0; count = replicate 256 0; answer = a }
+noCuts a = record { owner = replicate SITES 0; size = replicate SITES 0; count = replicate SITES 0; answer = a }
 
 -- the cuts of the terminals of a network with n sites
 unfoldable pub cuts : Links → ℕ → (ℕ → ℕ) → (ℕ → ℕ) → (ℕ → ℕ) → Cuts
@@ -50,4 +51,4 @@ decide offered.Accepted true r = r
 
 -- the outcome of n sites, the first and second sites of the links, the given and the balanced capacities
 unfoldable pub outcome : ℕ → List ℕ → List ℕ → List ℕ → List ℕ → Cuts
-outcome n one two c t = decide (offer edition1 n one two c) (eqb (length t) (length one)) (offeredCuts n one two c t)
+outcome n one two c t = decide (offer largest n one two c) (eqb (length t) (length one)) (offeredCuts n one two c t)

@@ -9,6 +9,7 @@ use native.Mathlib.Decide.{decLt}
 use native.Mathlib.Omega.{arith}
 use lib.ListN.{length, set, replicate, length-append, length-map, length-set, length-replicate, List·getD-append}
 use lib.Seq.{ext-getD, getD-append-add, getD-set-same, getD-set-other}
+use Rattle.network.specs.Limits.{SITES}
 use Rattle.network.specs.Numbers.{is, sum, over, count, look, upfrom}
 use Rattle.network.specs.Network.{sites}
 use Rattle.theory.specs.Sums.{pick-same, pick-other, is-other, cases, same?, sum-eq}
@@ -37,9 +38,9 @@ module _ (f : ℕ → ℕ) where
   length-sites : (n : ℕ) → length (map f (sites n)) ≡ n
   length-sites n = length-map (sites n) f ∙ length-upfrom 1 n
 
-  pub length-places : (n : ℕ) → n ≤ 256 → length (places n f) ≡ 256
+  pub length-places : (n : ℕ) → n ≤ SITES → length (places n f) ≡ SITES
   unfolding places
-  length-places n h = omega (arith, length-append (map f (sites n)) (replicate (256 - n) 0), length-sites n, length-replicate {A = ℕ} (256 - n) 0)
+  length-places n h = omega (arith, length-append (map f (sites n)) (replicate (SITES - n) 0), length-sites n, length-replicate {A = ℕ} (SITES - n) 0)
 
   look-from : (b n i : ℕ) → i < n → look (map f (upfrom b n)) i ≡ f (b + i)
   unfolding upfrom
@@ -50,7 +51,7 @@ module _ (f : ℕ → ℕ) where
   pub look-places : (n i : ℕ) → i < n → look (places n f) i ≡ f (suc i)
   unfolding places
   look-places n i h =
-      List·getD-append (map f (sites n)) (replicate (256 - n) 0) 0 i (omega (arith, length-sites n))
+      List·getD-append (map f (sites n)) (replicate (SITES - n) 0) 0 i (omega (arith, length-sites n))
       ∙ look-from 1 n i h
       ∙ ap f (one-add i)
 
@@ -58,54 +59,54 @@ module _ (f : ℕ → ℕ) where
   unfolding places
   past-places n i h =
       let e : i ≡ length (map f (sites n)) + (i - n) = omega (arith, length-sites n) in
-      ap (look (map f (sites n) ++ replicate (256 - n) 0)) e ∙ getD-append-add (map f (sites n)) (replicate (256 - n) 0) (i - n) 0 ∙ look-zeros (256 - n) (i - n)
+      ap (look (map f (sites n) ++ replicate (SITES - n) 0)) e ∙ getD-append-add (map f (sites n)) (replicate (SITES - n) 0) (i - n) 0 ∙ look-zeros (SITES - n) (i - n)
 
-  -- a list of 256 places is told by what it holds at the sites
-  pub places-is : (n : ℕ) (l : List ℕ) → n ≤ 256 → length l ≡ 256 → ((i : ℕ) → i < n → look l i ≡ f (suc i)) → ((i : ℕ) → n ≤ i → i < 256 → look l i ≡ 0) → l ≡ places n f
+  -- a list of SITES places is told by what it holds at the sites
+  pub places-is : (n : ℕ) (l : List ℕ) → n ≤ SITES → length l ≡ SITES → ((i : ℕ) → i < n → look l i ≡ f (suc i)) → ((i : ℕ) → n ≤ i → i < SITES → look l i ≡ 0) → l ≡ places n f
   places-is n l h e at past = ext-getD 0 l (places n f) (e ∙ sym (length-places n h)) (λ i lt. cases (decLt i n)
       (λ k. at i k ∙ sym (look-places n i k))
       (λ k. past i (omega arith) (omega arith) ∙ sym (past-places n i (omega arith))))
 
   -- the next site's place is set, or keeps its 0
-  places-next : (n : ℕ) → n < 256 → set (places n f) n (f (suc n)) ≡ places (suc n) f
+  places-next : (n : ℕ) → n < SITES → set (places n f) n (f (suc n)) ≡ places (suc n) f
   places-next n h = places-is (suc n) (set (places n f) n (f (suc n))) h (length-set (places n f) n (f (suc n)) ∙ length-places n (omega arith))
       (λ i lt. same? i n
       (λ e. rw e (getD-set-same (places n f) n (f (suc n)) 0 (omega (arith, length-places n (omega arith)))))
       (λ d. getD-set-other (places n f) n i (f (suc n)) 0 d ∙ look-places n i (omega arith)))
       (λ i le lt. getD-set-other (places n f) n i (f (suc n)) 0 (λ e. omega arith) ∙ past-places n i (omega arith))
 
-  places-skip : (n : ℕ) → n < 256 → f (suc n) ≡ 0 → places n f ≡ places (suc n) f
+  places-skip : (n : ℕ) → n < SITES → f (suc n) ≡ 0 → places n f ≡ places (suc n) f
   places-skip n h z = places-is (suc n) (places n f) h (length-places n (omega arith))
       (λ i lt. same? i n (λ e. rw e (past-places n n (omega arith) ∙ sym z)) (λ d. look-places n i (omega arith)))
       (λ i le lt. past-places n i (omega arith))
 
-  pub places-none : replicate 256 0 ≡ places 0 f
+  pub places-none : replicate SITES 0 ≡ places 0 f
   unfolding places upfrom
   places-none = refl
 
 -- the places of terminals, one site more
-module _ (terminal f : ℕ → ℕ) {now : List ℕ} (i : ℕ) (h : i < 256) (e : now ≡ places i (ofTerminal terminal f)) where
+module _ (terminal f : ℕ → ℕ) {now : List ℕ} (i : ℕ) (h : i < SITES) (e : now ≡ places i (ofTerminal terminal f)) where
   pub places-terminal : {v : ℕ} → terminal (i + 1) ≡ 1 → v ≡ f (i + 1) → set now i v ≡ places (i + 1) (ofTerminal terminal f)
   places-terminal = rw (add-one i, e) (λ o g. ap (set (places i (ofTerminal terminal f)) i) (g ∙ sym (of-terminal terminal f (suc i) o)) ∙ places-next (ofTerminal terminal f) i h)
 
   pub places-inner : terminal (i + 1) ≢ 1 → now ≡ places (i + 1) (ofTerminal terminal f)
   places-inner = rw (add-one i) (λ d. e ∙ places-skip (ofTerminal terminal f) i h (of-inner terminal f (suc i) d))
 
-pub places-upto : (f g : ℕ → ℕ) (n : ℕ) → n ≤ 256 → ((i : ℕ) → i < n → f (suc i) ≡ g (suc i)) → places n f ≡ places n g
+pub places-upto : (f g : ℕ → ℕ) (n : ℕ) → n ≤ SITES → ((i : ℕ) → i < n → f (suc i) ≡ g (suc i)) → places n f ≡ places n g
 places-upto f g n h e = places-is g n (places n f) h (length-places f n h) (λ i lt. look-places f n i lt ∙ e i lt) (λ i le lt. past-places f n i le)
 
-pub places-same : (f g : ℕ → ℕ) (n : ℕ) → n ≤ 256 → ((x : ℕ) → f x ≡ g x) → places n f ≡ places n g
+pub places-same : (f g : ℕ → ℕ) (n : ℕ) → n ≤ SITES → ((x : ℕ) → f x ≡ g x) → places n f ≡ places n g
 places-same f g n h e = places-upto f g n h (λ i lt. e (suc i))
 
 -- where f is 0 there are zeros only
-pub places-zero : (f : ℕ → ℕ) (n : ℕ) → n ≤ 256 → ((x : ℕ) → f x ≡ 0) → replicate 256 0 ≡ places n f
-places-zero f n h z = places-is f n (replicate 256 0) h (length-replicate {A = ℕ} 256 0) (λ i lt. look-zeros 256 i ∙ sym (z (suc i))) (λ i le lt. look-zeros 256 i)
+pub places-zero : (f : ℕ → ℕ) (n : ℕ) → n ≤ SITES → ((x : ℕ) → f x ≡ 0) → replicate SITES 0 ≡ places n f
+places-zero f n h z = places-is f n (replicate SITES 0) h (length-replicate {A = ℕ} SITES 0) (λ i lt. look-zeros SITES i ∙ sym (z (suc i))) (λ i le lt. look-zeros SITES i)
 
-pub places-sum : (f : ℕ → ℕ) (n : ℕ) → n ≤ 256 → sum 256 (look (places n f)) ≡ over (sites n) f
+pub places-sum : (f : ℕ → ℕ) (n : ℕ) → n ≤ SITES → sum SITES (look (places n f)) ≡ over (sites n) f
 places-sum f n h =
-    let all : 256 ≡ n + (256 - n) = omega arith in
+    let all : SITES ≡ n + (SITES - n) = omega arith in
     ap (λ m. sum m (look (places n f))) all
-    ∙ sum-past (look (places n f)) n (256 - n) (past-places f n)
+    ∙ sum-past (look (places n f)) n (SITES - n) (past-places f n)
     ∙ sum-eq n (look (places n f)) (λ i. f (1 + i)) (λ i lt. look-places f n i lt ∙ ap f (sym (one-add i)))
     ∙ sym (over-upfrom f 1 n)
 
@@ -118,6 +119,6 @@ places-count f n w h = values (sites n)
     none zero = refl
     none (suc m) = omega (arith, none m, is-other {u = 0} {v = w} (λ e. omega arith))
 
-    values : (us : List ℕ) → count (map f us ++ replicate (256 - n) 0) w ≡ over us (λ x. is (f x) w)
-    values [] = none (256 - n)
+    values : (us : List ℕ) → count (map f us ++ replicate (SITES - n) 0) w ≡ over us (λ x. is (f x) w)
+    values [] = none (SITES - n)
     values (u ∷ us) = ap (λ k. is (f u) w + k) (values us)

@@ -9,8 +9,9 @@ use native.Mathlib.Omega.{arith}
 use borrow.Author.Tests.{eqb-true, eq-eqb}
 use lib.Dec.{eqb}
 use lib.ListN.{length}
+use Rattle.network.specs.Limits.{SITES}
 use Rattle.network.specs.Numbers.{is, sum, count, look}
-use Rattle.network.specs.Edition.{edition1}
+use Rattle.network.specs.Edition.{largest}
 use Rattle.network.specs.Network.{Links, Site, sites, leaf, atTerminals}
 use Rattle.network.specs.Trimming.{Greatest}
 use Rattle.network.specs.Cuts.{group, inCut, cutSize, cutCount, owner}
@@ -37,15 +38,15 @@ decided offered.Accepted false r e = absurd (let z : _≡_ {A = ℕ} 0 1 = cc in
 decided offered.Accepted true r e = (refl, refl)
 
 module _ (n : ℕ) (a b c t : List ℕ) where
-  pub accepted-offers-get-their-cuts : TreeWithin edition1 n a b c → length t ≡ length a → outcome n a b c t ≡ offeredCuts n a b c t
+  pub accepted-offers-get-their-cuts : TreeWithin largest n a b c → length t ≡ length a → outcome n a b c t ≡ offeredCuts n a b c t
   unfolding outcome decide
-  accepted-offers-get-their-cuts w e = rw (a-tree-within-the-limits-is-accepted edition1 n a b c w, eq-eqb (length t) (length a) e) refl
+  accepted-offers-get-their-cuts w e = rw (a-tree-within-the-limits-is-accepted largest n a b c w, eq-eqb (length t) (length a) e) refl
 
-  pub cuts-are-for-accepted-offers : outcome n a b c t .answer ≡ Done → TreeWithin edition1 n a b c × (length t ≡ length a)
+  pub cuts-are-for-accepted-offers : outcome n a b c t .answer ≡ Done → TreeWithin largest n a b c × (length t ≡ length a)
   unfolding outcome
   cuts-are-for-accepted-offers e =
-      let d = decided (offer edition1 n a b c) (eqb (length t) (length a)) (offeredCuts n a b c t) e in
-      (accepted-is-a-tree-within-the-limits edition1 n a b c (d .0), eqb-true (length t) (length a) (d .1))
+      let d = decided (offer largest n a b c) (eqb (length t) (length a)) (offeredCuts n a b c t) e in
+      (accepted-is-a-tree-within-the-limits largest n a b c (d .0), eqb-true (length t) (length a) (d .1))
 
   -- ---- what the places hold
 
@@ -53,7 +54,7 @@ module _ (n : ℕ) (a b c t : List ℕ) where
     abbrev ls : Links
     ls = links a b
 
-    within : TreeWithin edition1 n a b c
+    within : TreeWithin largest n a b c
     within = cuts-are-for-accepted-offers done .0
 
     whole : outcome n a b c t ≡ offeredCuts n a b c t
@@ -100,7 +101,7 @@ module _ (n : ℕ) (a b c t : List ℕ) where
           (λ x q. is-iff (labels x) (labels w) (own x) w (λ e. iff x .1 (is-same e)) (λ e. is-one (iff x .0 e)))
           ∙ sym (rw whole (places-count own n w (p .0)))
 
-      pub sizes-sum-to-the-terminals : sum 256 (look (outcome n a b c t .size)) ≡ atTerminals ls n (leaf ls) (look t)
+      pub sizes-sum-to-the-terminals : sum SITES (look (outcome n a b c t .size)) ≡ atTerminals ls n (leaf ls) (look t)
       unfolding cuts
       sizes-sum-to-the-terminals = rw whole (
           places-sum (ofTerminal (leaf ls) (cutSize ls (look c) (look t))) n (within .few)

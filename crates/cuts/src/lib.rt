@@ -1,10 +1,15 @@
 // Terminal cuts: for each site the terminal whose cut holds it, and each cut's size and number of sites.
 use bitset::Found;
 use bitset::Set;
+use network::PLACES;
+use network::SETS;
+use network::SITES;
+use network::WORDS;
 use tree::Offer;
 ghost use mathlib.Core.Path.{_≡_};
 ghost use mathlib.Core.List.{map};
 ghost use Prim.Native.Nat.{ℕ, _≤_};
+ghost use Rattle.network.specs.Limits.{SITES};
 ghost use lib.ListN.{length};
 ghost use Rattle.network.specs.Numbers.{upfrom, look};
 ghost use Rattle.bitset.specs.Members.{member};
@@ -27,9 +32,9 @@ pub enum Answer {
 // The terminal cuts, at place x - 1 for site x: the terminal whose cut holds the site, and for a terminal the size and the number of
 // sites of its cut. Places of other sites and places past the last site hold 0.
 pub struct Cuts {
-    pub owner: [usize; 256],
-    pub size: [u64; 256],
-    pub count: [usize; 256],
+    pub owner: [usize; SITES],
+    pub size: [u64; SITES],
+    pub count: [usize; SITES],
     pub answer: Answer,
 }
 
@@ -41,28 +46,30 @@ fn no_cuts(answer: Answer) -> Cuts
     ensures { λ r. ⌜ r ≡ noCuts answer ⌝ }
 {
     Cuts {
-        owner: [NONE; 256],
-        size: [0u64; 256],
-        count: [0usize; 256],
+        owner: [NONE; SITES],
+        size: [0u64; SITES],
+        count: [0usize; SITES],
         answer,
     }
 }
 
-// The set of a label: the four words from word 4 l on for label l.
-fn cut_of(words: &[u64; 1028], label: u16) -> Set
-    requires { ⌜ label ≤ 256 ⌝ }
+// The set of a label: the WORDS words from word WORDS l on for label l.
+fn cut_of(words: &[u64; SETS], label: u16) -> Set
+    requires { ⌜ label ≤ SITES ⌝ }
     ensures { λ r. ⌜ ((i : ℕ) → member r i ≡ inWords (now (words .entry)) label i) ⌝ }
 {
-    let w = label as usize * 4;
-    Set {
-        words: [words[w], words[w + 1], words[w + 2], words[w + 3]],
+    let from = label as usize * WORDS;
+    let mut own = [0u64; WORDS];
+    for q in 0..WORDS {
+        own[q] = words[from + q];
     }
+    Set { words: own }
 }
 
 // Puts a where the cut has a place without an owner.
-fn put_owner(owner: &mut [usize; 256], cut: Set, a: usize)
-    requires { ⌜ length (now owner) ≡ 256 ⌝ }
-    ensures { λ _. ⌜ now (owner .exit) ≡ map (claim (now (owner .entry)) (member cut) a) (upfrom 0 256) ⌝ }
+fn put_owner(owner: &mut [usize; SITES], cut: Set, a: usize)
+    requires { ⌜ length (now owner) ≡ SITES ⌝ }
+    ensures { λ _. ⌜ now (owner .exit) ≡ map (claim (now (owner .entry)) (member cut) a) (upfrom 0 SITES) ⌝ }
 {
     let mut p: usize = 0;
     loop {
@@ -77,9 +84,14 @@ fn put_owner(owner: &mut [usize; 256], cut: Set, a: usize)
 }
 
 // Puts terminal a where its cut has a place without an owner, and tells how many sites the cut has.
-fn take_cut(owner: &mut [usize; 256], words: &[u64; 1028], labels: &[u16; 257], a: usize) -> usize
-    requires { ⌜ (length (now owner) ≡ 256) × (a ≤ 256) × (look (now labels) a ≤ 256) ⌝ }
-    ensures { λ r. ⌜ (now (owner .exit) ≡ map (claim (now (owner .entry)) (inWords (now (words .entry)) (look (now (labels .entry)) a)) a) (upfrom 0 256)) × (r ≡ members (inWords (now (words .entry))) (now (labels .entry)) a) ⌝ }
+fn take_cut(
+    owner: &mut [usize; SITES],
+    words: &[u64; SETS],
+    labels: &[u16; PLACES],
+    a: usize,
+) -> usize
+    requires { ⌜ (length (now owner) ≡ SITES) × (a ≤ SITES) × (look (now labels) a ≤ SITES) ⌝ }
+    ensures { λ r. ⌜ (now (owner .exit) ≡ map (claim (now (owner .entry)) (inWords (now (words .entry)) (look (now (labels .entry)) a)) a) (upfrom 0 SITES)) × (r ≡ members (inWords (now (words .entry))) (now (labels .entry)) a) ⌝ }
 {
     let cut = cut_of(words, labels[a]);
     put_owner(owner, cut, a);
@@ -88,16 +100,16 @@ fn take_cut(owner: &mut [usize; 256], words: &[u64; 1028], labels: &[u16; 257], 
 
 // Puts the terminals among n sites at the places of their cuts without an owner, and tells how many sites each cut has.
 fn put_owners(
-    owner: &mut [usize; 256],
+    owner: &mut [usize; SITES],
     n: usize,
-    words: &[u64; 1028],
-    labels: &[u16; 257],
-    degree: &[u64; 257],
-) -> [usize; 256]
-    requires { ⌜ (length (now owner) ≡ 256) × (n ≤ 256) × ((x : ℕ) → look (now labels) x ≤ 256) ⌝ }
+    words: &[u64; SETS],
+    labels: &[u16; PLACES],
+    degree: &[u64; PLACES],
+) -> [usize; SITES]
+    requires { ⌜ (length (now owner) ≡ SITES) × (n ≤ SITES) × ((x : ℕ) → look (now labels) x ≤ SITES) ⌝ }
     ensures { λ r. ⌜ (now (owner .exit) ≡ ownersTo (inWords (now (words .entry))) (now (labels .entry)) (now (owner .entry)) (now (degree .entry)) n) × (r ≡ places n (ofTerminal (look (now (degree .entry))) (members (inWords (now (words .entry))) (now (labels .entry))))) ⌝ }
 {
-    let mut count = [0usize; 256];
+    let mut count = [0usize; SITES];
     for i in 0..n {
         if degree[i + 1] == 1 {
             count[i] = take_cut(owner, words, labels, i + 1);
@@ -109,14 +121,14 @@ fn put_owners(
 // The sums at the labels of the terminals among n sites.
 fn terminal_sizes(
     n: usize,
-    labels: &[u16; 257],
-    degree: &[u64; 257],
-    leaving: &[u64; 257],
-) -> [u64; 256]
-    requires { ⌜ (n ≤ 256) × ((x : ℕ) → look (now labels) x ≤ 256) ⌝ }
+    labels: &[u16; PLACES],
+    degree: &[u64; PLACES],
+    leaving: &[u64; PLACES],
+) -> [u64; SITES]
+    requires { ⌜ (n ≤ SITES) × ((x : ℕ) → look (now labels) x ≤ SITES) ⌝ }
     ensures { λ r. ⌜ r ≡ places n (ofTerminal (look (now (degree .entry))) (λ a. look (now (leaving .entry)) (look (now (labels .entry)) a))) ⌝ }
 {
-    let mut size = [0u64; 256];
+    let mut size = [0u64; SITES];
     for i in 0..n {
         let x = i + 1;
         if degree[x] == 1 {
@@ -127,12 +139,17 @@ fn terminal_sizes(
 }
 
 // The cuts of the terminals among n sites, by the labels and the numbers of links of the sites and the sums at the labels.
-fn cuts_by(n: usize, labels: &[u16; 257], degree: &[u64; 257], leaving: &[u64; 257]) -> Cuts
-    requires { ⌜ (n ≤ 256) × ((x : ℕ) → look (now labels) x ≤ 256) ⌝ }
+fn cuts_by(
+    n: usize,
+    labels: &[u16; PLACES],
+    degree: &[u64; PLACES],
+    leaving: &[u64; PLACES],
+) -> Cuts
+    requires { ⌜ (n ≤ SITES) × ((x : ℕ) → look (now labels) x ≤ SITES) ⌝ }
     ensures { λ r. ⌜ r ≡ cutsBy n (now (labels .entry)) (now (degree .entry)) (now (leaving .entry)) ⌝ }
 {
     let words = groups::sets(n, labels);
-    let mut owner = [NONE; 256];
+    let mut owner = [NONE; SITES];
     let count = put_owners(&mut owner, n, &words, labels, degree);
     let size = terminal_sizes(n, labels, degree, leaving);
     Cuts {
@@ -145,7 +162,7 @@ fn cuts_by(n: usize, labels: &[u16; 257], degree: &[u64; 257], leaving: &[u64; 2
 
 // The cuts of the terminals of a tree of n sites.
 fn cuts_of(n: usize, one: &[usize], two: &[usize], capacity: &[u64], balanced: &[u64]) -> Cuts
-    requires { ⌜ (n ≤ 256) × Offered (now one) (now two) (now capacity) × (length (now balanced) ≡ length (now one)) ⌝ }
+    requires { ⌜ (n ≤ SITES) × Offered (now one) (now two) (now capacity) × (length (now balanced) ≡ length (now one)) ⌝ }
     ensures { λ r. ⌜ r ≡ offeredCuts n (now (one .entry)) (now (two .entry)) (now (capacity .entry)) (now (balanced .entry)) ⌝ }
 {
     let tally = groups::of_links(one, two, capacity, balanced);

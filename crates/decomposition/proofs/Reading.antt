@@ -6,6 +6,7 @@ use native.Mathlib.Omega.{arith}
 use native.Mathlib.Numerals.{add-one}
 use lib.Seq.{slice, slice-empty, slice-cons, length-slice, take-suc-set}
 use lib.ListN.{length, take, set, length-set, length-take}
+use Rattle.network.specs.Limits.{SITES}
 use Rattle.network.specs.Numbers.{look}
 use Rattle.network.specs.declared.Pair.{Pair}
 use Rattle.halves.specs.Arrays.{flatPairs}
@@ -21,15 +22,15 @@ spelled-flat (e ∷ es) = ap (λ r. e ∷ r) (spelled-flat es)
 pub record Reading (l : List ℕ) (e at count : ℕ) (list : List Pair) : Type 0 where
   pub ends : at ≤ e
   pub counted : 3 * count ≡ at
-  pub places : length list ≡ 256
+  pub places : length list ≡ SITES
   pub ahead : slice at e l ≡ flatPairs (spelled (slice at e l))
   pub read : take count list ++ spelled (slice at e l) ≡ spelled (take e l)
 
-pub reading-starts : (l : List ℕ) (e : ℕ) (list : List Pair) → length list ≡ 256 → Spells l e → Reading l e 0 0 list
+pub reading-starts : (l : List ℕ) (e : ℕ) (list : List Pair) → length list ≡ SITES → Spells l e → Reading l e 0 0 list
 reading-starts l e list h s = record { ends = omega arith; counted = refl; places = h; ahead = s .whole; read = refl }
 
 module _ {l : List ℕ} {e at count : ℕ} {list : List Pair} (s : Spells l e) (r : Reading l e at count list) where
-  pub reading-room : at < e → (at + 3 ≤ e) × (count < 256)
+  pub reading-room : at < e → (at + 3 ≤ e) × (count < SITES)
   reading-room h =
       let q : at + 3 ≤ e = omega (arith, ap length (r .ahead), length-slice at e l (s .inside), length-pairs (spelled (slice at e l)), r .ends) in
       (q, omega (arith, r .counted, s .few))

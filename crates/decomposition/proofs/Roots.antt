@@ -5,6 +5,7 @@ use mathlib.Core.List.{List, []}
 use Prim.Native.Nat.{ℕ, suc, _-_, _*_, _≤_}
 use native.Mathlib.Omega.{arith}
 use lib.ListN.{length, take, List·getD-eq-default}
+use Rattle.network.specs.Limits.{HALVES, NUMBERS}
 use Rattle.network.specs.Numbers.{look}
 use Rattle.network.specs.Network.{leaf}
 use Rattle.network.specs.Pairing.{put, give, walk, pairsFrom, lowestInner, pairs}
@@ -28,7 +29,7 @@ module _ {root : ℕ} {last before a b c : List ℕ} (r : Root root last before 
   none-down = let w = r .walkable .tree in rw (List·getD-eq-default c 0 {n = length a} (omega (arith, w .firsts, w .capacities))) (omega arith)
 
   -- the walk starts at a root with all sites below it, and with room for them
-  pub root-visit : (u d p : List ℕ) → 512 ≤ length u → 512 ≤ length d → 768 ≤ length p → Visit (suc (length a)) last before a b c (suc (length a)) root (length a) 0 0 u d p bottom
+  pub root-visit : (u d p : List ℕ) → HALVES ≤ length u → HALVES ≤ length d → NUMBERS ≤ length p → Visit (suc (length a)) last before a b c (suc (length a)) root (length a) 0 0 u d p bottom
   root-visit u d p hu hd hp =
       let w = r .walkable .tree in
       let few = size-le (links a b) (suc (length a)) (length a) root in
@@ -64,7 +65,7 @@ module _ {n : ℕ} {a b c : List ℕ} (w : Walkable n a b c) where
   two-pairs e = pick-same e (give 1 (put 2 (2 * look c 0) [])) (pairsFrom (links a b) n (look c) (leaf (links a b)) root)
 
   -- the numbers of the pairs spell them, and they are few
-  module _ {p z : List ℕ} {e : ℕ} (h : 768 ≤ length p) (q : Added p 0 z e (flatPairs (pairsOf n a b c))) where
+  module _ {p z : List ℕ} {e : ℕ} (h : NUMBERS ≤ length p) (q : Added p 0 z e (flatPairs (pairsOf n a b c))) where
     pub pairs-spelled : spelled (take e z) ≡ pairsOf n a b c
     pairs-spelled = ap spelled (q .held) ∙ spelled-flat (pairsOf n a b c)
 

@@ -5,6 +5,7 @@ use mathlib.Core.List.{List, [], _∷_, _++_, append-nil}
 use Prim.Native.Nat.{ℕ, suc, _+_, _-_, _*_, _≤_, _<_, min}
 use native.Mathlib.Omega.{arith}
 use lib.ListN.{length, length-append}
+use Rattle.network.specs.Limits.{SIZE}
 use Rattle.network.specs.Numbers.{look, is}
 use Rattle.network.specs.Network.{Links, sumAt, leaf}
 use Rattle.network.specs.Pairing.{Part, nothing, join, put, dropHalves, halves, match, between, children, gather, alone, settle}
@@ -255,7 +256,7 @@ down-within {a = a} {b = b} {c = c} {v = v} {j = j} {up = up} {down = down} W in
 
 -- what is sent up over a link is at most twice its capacity
 pub down-over : {n : ℕ} {last before a b c : List ℕ} {fuel v j up down : ℕ} {u d p : List ℕ} {base : Tops} → Visit n last before a b c fuel v j up down u d p base
-    → j < length c → (look c j ≤ 1000000) × (up ≤ 2 * look c j)
+    → j < length c → (look c j ≤ SIZE) × (up ≤ 2 * look c j)
 down-over {a = a} {b = b} {c = c} {v = v} {j = j} {up = up} {down = down} W l = (W .tree .limited j l, within (W .start))
   where
     within : Start (links a b) (look c) (leaf (links a b)) j v up down → up ≤ 2 * look c j

@@ -5,12 +5,13 @@ use mathlib.Core.Logic.{_≢_}
 use mathlib.Core.List.{List, [], _∷_}
 use Prim.Native.Nat.{ℕ, suc, _+_, _*_, _≤_}
 use lib.ListN.{length, take}
+use Rattle.network.specs.Limits.{NUMBERS, SITES}
 use Rattle.network.specs.Numbers.{look}
 use Rattle.network.specs.Network.{Site, leaf}
 use Rattle.network.specs.Trimming.{Balanced}
 use Rattle.network.specs.Pairing.{Part, walk, pairs}
 use Rattle.network.specs.declared.Pair.{Pair}
-use Rattle.network.specs.Edition.{edition1}
+use Rattle.network.specs.Edition.{largest}
 use Rattle.tree.specs.Offer.{links}
 use Rattle.tree.specs.Accepted.{TreeWithin}
 use Rattle.links.specs.Chains.{Chained}
@@ -32,7 +33,7 @@ pub record Visited (w : Part) (u d p : List ℕ) (b : Tops) (x y z : List ℕ) (
 
 -- site v of a tree with balanced capacities and chained links, as the walk comes to it, with fuel and room in the arrays for all the sites below it
 pub record Visit (n : ℕ) (last before one two c : List ℕ) (fuel v j up down : ℕ) (u d p : List ℕ) (b : Tops) : Type 0 where
-  pub tree : TreeWithin edition1 n one two c
+  pub tree : TreeWithin largest n one two c
   pub balanced : Balanced (links one two) (leaf (links one two)) (look c)
   pub chained : Chained one two last before
   pub site : Site n v
@@ -46,7 +47,7 @@ pub record Visit (n : ℕ) (last before one two c : List ℕ) (fuel v j up down 
 
 -- a tree within the limits, with balanced capacities
 pub record Walkable (n : ℕ) (one two c : List ℕ) : Type 0 where
-  pub tree : TreeWithin edition1 n one two c
+  pub tree : TreeWithin largest n one two c
   pub balanced : Balanced (links one two) (leaf (links one two)) (look c)
 
 -- an inner site of such a tree, whose links are chained
@@ -75,14 +76,14 @@ spelled (x ∷ []) = []
 spelled (x ∷ y ∷ []) = []
 spelled (x ∷ y ∷ a ∷ l) = record { first = x; second = y; amount = a } ∷ spelled l
 
--- the numbers of a list below place e spell pairs, 256 at most
+-- the numbers of a list below place e spell pairs, SITES at most
 pub record Spells (l : List ℕ) (e : ℕ) : Type 0 where
-  pub few : e ≤ 768
+  pub few : e ≤ NUMBERS
   pub inside : e ≤ length l
   pub whole : take e l ≡ flatPairs (spelled (take e l))
 
--- the pairs es stand in the first places of a list of 256
+-- the pairs es stand in the first places of a list of SITES
 pub record Listing (es : List Pair) (r : Decomposed) : Type 0 where
   pub counted : r .count ≡ length es
-  pub places : length (r .list) ≡ 256
+  pub places : length (r .list) ≡ SITES
   pub held : take (r .count) (r .list) ≡ es

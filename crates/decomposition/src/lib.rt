@@ -1,10 +1,16 @@
 // The decomposition of balanced capacities into pairs (01: pairing), by the walk from the root.
 use halves::Tops;
+use network::CHAINS;
+use network::HALVES;
+use network::NUMBERS;
+use network::PLACES;
 use network::Pair;
+use network::SITES;
 ghost use mathlib.Core.Path.{_≡_};
 ghost use mathlib.Core.List.{[]};
 ghost use mathlib.Core.Logic.{_≢_};
 ghost use Prim.Native.Nat.{suc, _+_, _-_, _*_, _≤_, _<_, min};
+ghost use Rattle.network.specs.Limits.{NUMBERS, SIZE};
 ghost use lib.ListN.{length, take};
 ghost use Rattle.network.specs.Numbers.{look};
 ghost use Rattle.network.specs.Network.{Site, leaf};
@@ -16,8 +22,8 @@ ghost use Rattle.decomposition.specs.Visits.{walkOf, Visit, Visited, Wal
 
 // The site of lowest number that is no terminal, 0 where there is none.
 fn lowest_inner(
-    last: &[usize; 257],
-    before: &[usize; 512],
+    last: &[usize; PLACES],
+    before: &[usize; CHAINS],
     one: &[usize],
     two: &[usize],
     capacity: &[u64],
@@ -37,7 +43,7 @@ fn lowest_inner(
 
 // What comes down over a link, of twice its capacity, with `up` halves sent up; nothing past the last link.
 fn halves_down(capacity: &[u64], link: usize, up: u64) -> u64
-    requires { ⌜ (link < length (now capacity) → (look (now capacity) link ≤ 1000000) × (up ≤ 2 * look (now capacity) link)) ⌝ }
+    requires { ⌜ (link < length (now capacity) → (look (now capacity) link ≤ SIZE) × (up ≤ 2 * look (now capacity) link)) ⌝ }
     ensures { λ r. ⌜ r ≡ 2 * look (now (capacity .entry)) link - up ⌝ }
 {
     if capacity.len() <= link {
@@ -48,7 +54,7 @@ fn halves_down(capacity: &[u64], link: usize, up: u64) -> u64
 
 // What a child sends up over link k: the lesser of twice its capacity and of what remains.
 fn halves_up(capacity: &[u64], k: usize, rest: u64) -> u64
-    requires { ⌜ (k < length (now capacity)) × (look (now capacity) k ≤ 1000000) ⌝ }
+    requires { ⌜ (k < length (now capacity)) × (look (now capacity) k ≤ SIZE) ⌝ }
     ensures { λ r. ⌜ r ≡ min (2 * look (now (capacity .entry)) k) rest ⌝ }
 {
     halves::lesser(2 * capacity[k], rest)
@@ -57,8 +63,8 @@ fn halves_up(capacity: &[u64], k: usize, rest: u64) -> u64
 // The walk below site v, entered over a link with `up` halves to send up, the others coming down:
 // what it hands to the parent, and the pairs made below v, are added to the three lists. There is fuel for each site below.
 fn visit(
-    last: &[usize; 257],
-    before: &[usize; 512],
+    last: &[usize; PLACES],
+    before: &[usize; CHAINS],
     one: &[usize],
     two: &[usize],
     capacity: &[u64],
@@ -83,7 +89,7 @@ fn visit(
     let mut rest = site.capacity - down;
     let mut top = base;
     let mut c = neighbours::next_site(below, 0);
-    while c < 257 {
+    while c < PLACES {
         let k = neighbours::link_to(v, c, last, before, one, two);
         let sent = halves_up(capacity, k, rest);
         rest -= sent;
@@ -109,7 +115,7 @@ fn visit(
 
 // With two sites only: one pair of twice the capacity, none for capacity 0; the end of the pair list.
 fn join_two(capacity: u64, pairs: &mut [u64]) -> usize
-    requires { ⌜ (capacity ≤ 1000000) × (3 ≤ length (now pairs)) ⌝ }
+    requires { ⌜ (capacity ≤ SIZE) × (3 ≤ length (now pairs)) ⌝ }
     ensures { λ r. ⌜ Added (now (pairs .entry)) 0 (now (pairs .exit)) r (flatPairs (give 1 (put 2 (2 * capacity) []))) ⌝ }
 {
     if capacity == 0 {
@@ -121,18 +127,18 @@ fn join_two(capacity: u64, pairs: &mut [u64]) -> usize
 // The pairs of the walk from an inner site, written one after the other; the end of them.
 fn walk_from(
     root: usize,
-    last: &[usize; 257],
-    before: &[usize; 512],
+    last: &[usize; PLACES],
+    before: &[usize; CHAINS],
     one: &[usize],
     two: &[usize],
     capacity: &[u64],
     pairs: &mut [u64],
 ) -> usize
-    requires { ⌜ Root root (now last) (now before) (now one) (now two) (now capacity) × (768 ≤ length (now pairs)) ⌝ }
+    requires { ⌜ Root root (now last) (now before) (now one) (now two) (now capacity) × (NUMBERS ≤ length (now pairs)) ⌝ }
     ensures { λ r. ⌜ Added (now (pairs .entry)) 0 (now (pairs .exit)) r (flatPairs (pairsBelow root (now (one .entry)) (now (two .entry)) (now (capacity .entry)))) ⌝ }
 {
-    let mut ups = [0u64; 512];
-    let mut downs = [0u64; 512];
+    let mut ups = [0u64; HALVES];
+    let mut downs = [0u64; HALVES];
     let base = Tops {
         ups: 0,
         downs: 0,
@@ -158,7 +164,7 @@ fn walk_from(
 
 // The pairs of the walk from the inner site of lowest number, written one after the other; the end of them.
 fn walk_tree(one: &[usize], two: &[usize], capacity: &[u64], pairs: &mut [u64]) -> usize
-    requires { ⌜ Walkable (suc (length (now one))) (now one) (now two) (now capacity) × (768 ≤ length (now pairs)) ⌝ }
+    requires { ⌜ Walkable (suc (length (now one))) (now one) (now two) (now capacity) × (NUMBERS ≤ length (now pairs)) ⌝ }
     ensures { λ r. ⌜ Added (now (pairs .entry)) 0 (now (pairs .exit)) r (flatPairs (pairsOf (suc (length (now (one .entry)))) (now (one .entry)) (now (two .entry)) (now (capacity .entry)))) ⌝ }
 {
     let chains = links::chain(one, two);
@@ -173,7 +179,7 @@ fn walk_tree(one: &[usize], two: &[usize], capacity: &[u64], pairs: &mut [u64]) 
 
 // Pairs in the first places of a list.
 pub struct Decomposed {
-    pub list: [Pair; 256],
+    pub list: [Pair; SITES],
     pub count: usize,
 }
 
@@ -198,7 +204,7 @@ fn read_pairs(numbers: &[u64], end: usize) -> Decomposed
         first: 0,
         second: 0,
         amount: 0,
-    }; 256];
+    }; SITES];
     let mut count = 0;
     let mut at = 0;
     while at < end {
@@ -214,7 +220,7 @@ pub fn decompose(n: usize, one: &[usize], two: &[usize], capacity: &[u64]) -> De
     requires { ⌜ Walkable n (now one) (now two) (now capacity) ⌝ }
     ensures { λ r. ⌜ Listing (pairsOf n (now (one .entry)) (now (two .entry)) (now (capacity .entry))) r ⌝ }
 {
-    let mut numbers = [0u64; 768];
+    let mut numbers = [0u64; NUMBERS];
     let end = walk_tree(one, two, capacity, &mut numbers);
     read_pairs(&numbers, end)
 }

@@ -1,11 +1,12 @@
 -- Every report of an accepted sheet of edition 1 fits 65,536 bytes: a name has at most 12 bytes and a number at most 20 digits, so a line has
--- at most 70, and there are at most 255 links and pairs and 256 sites.
+-- at most 70, and there are at most LINKS links and pairs and SITES sites.
 use mathlib.Core.Path.{_≡_, refl}
 use mathlib.Core.List.{List, [], _∷_}
 use Prim.Native.Nat.{ℕ, _+_, _-_, _*_, _≤_, _<_}
 use native.Mathlib.Omega.{arith}
 use native.Mathlib.Nat.{mul-le-mul-right}
 use lib.ListN.{length, length-append, length-map}
+use Rattle.network.specs.Limits.{LINKS, SITES}
 use Rattle.network.specs.Edition.{edition1}
 use Rattle.network.specs.Numbers.{is, differ, sum, look, upfrom, Each}
 use Rattle.network.specs.Network.{Links, Site, sites, one, two, sumAt, leaf, total, atTerminals}
@@ -59,9 +60,9 @@ few-digits x l = decimal-length x (omega arith)
 
 record Small (p : Plan) : Type 0 where
   name : (v : ℕ) → length (p .names v) ≤ 12
-  sites-few : p .size ≤ 256
-  links-few : length (p .ones) ≤ 255
-  pairs-few : length (p .pairs) ≤ 255
+  sites-few : p .size ≤ SITES
+  links-few : length (p .ones) ≤ LINKS
+  pairs-few : length (p .pairs) ≤ LINKS
   capacity : (j : ℕ) → j < length (p .ones) → look (p .capacities) j ≤ most
   trimmed : (j : ℕ) → j < length (p .ones) → look (p .trimmed) j ≤ most
   cut-size : (a : ℕ) → Site (p .size) a → look (p .cutSizes) (a - 1) ≤ most
@@ -156,7 +157,7 @@ module _ {s : List ℕ} {net : Network} (N : IsNetwork edition1 s net) where
   sound : Sound ls n t (pairList ls n t)
   sound = full-plan-is-sound (N .tree) (net .capacities)
 
-  few-links : length ls ≤ 255
+  few-links : length ls ≤ LINKS
   few-links = omega (arith, N .few, N .tree .links)
 
   given : (j : ℕ) → j < length ls → c j ≤ 1000000

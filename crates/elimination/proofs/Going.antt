@@ -10,6 +10,7 @@ use native.Mathlib.Numerals.{add-one}
 use native.Mathlib.Nat.{sub-zero}
 use lib.Seq.{set-at, drop-cons}
 use lib.ListN.{length, set, drop, replicate, length-append, length-set, length-replicate}
+use Rattle.network.specs.Limits.{SITES}
 use Rattle.network.specs.Numbers.{is, count, look}
 use Rattle.network.specs.Network.{Links, Site, Ends, sites, one, two, sumAt}
 use Rattle.network.specs.Trimming.{unvisited, first, remove, InwardOrder}
@@ -128,7 +129,7 @@ module _ {n : ℕ} {a b : List ℕ} (p : Proper n a b) where
       rw (links-one a b j h (omega arith), links-two a b j h (omega arith)) (p .links j h .2)
 
   -- no site is taken
-  pub going-start : {root : ℕ} {keys : List ℕ} → Counted a b root keys → Going (links a b) n root 256 0 (ending 256 n root) keys
+  pub going-start : {root : ℕ} {keys : List ℕ} → Counted a b root keys → Going (links a b) n root SITES 0 (ending SITES n root) keys
   unfolding eliminationToward
   going-start {root} {keys} k = record {
     us = sites n;
@@ -149,7 +150,7 @@ module _ {n : ℕ} {a b : List ℕ} (p : Proper n a b) where
     inward = λ t. rw sub-zero at t;
   }
 
-  module _ {root i : ℕ} {order keys : List ℕ} (g : Going (links a b) n root 256 i order keys) where
+  module _ {root i : ℕ} {order keys : List ℕ} (g : Going (links a b) n root SITES i order keys) where
     module _ (v : ℕ) (s : Site n v) (low : look keys v < 131072) where
       taking : (count (g .us) v ≡ 1) × (v ≢ root) × (sumAt (links a b) v (unvisited (links a b) (g .us)) ≤ 1)
       taking = low-is-untaken (g .untaken) v s low
@@ -182,10 +183,10 @@ module _ {n : ℕ} {a b : List ℕ} (p : Proper n a b) where
 
       -- a turn of the loop
       pub next : {w : ℕ} {after : List ℕ} → i < n - count (sites n) root → ((x : ℕ) → Site n x → x < v → 131072 ≤ look keys x)
-          → Took a b keys v w after → Going (links a b) n root 256 (i + 1) (set order i v) after
+          → Took a b keys v w after → Going (links a b) n root SITES (i + 1) (set order i v) after
       next {w} {after} h below t =
           let u = g .untaken in
-          let more : (after : List ℕ) → Untaken (links a b) n root (remove v (g .us)) after → Going (links a b) n root 256 (i + 1) (set order i v) after
+          let more : (after : List ℕ) → Untaken (links a b) n root (remove v (g .us)) after → Going (links a b) n root SITES (i + 1) (set order i v) after
           = λ after. going-next g v h (omega (arith, p .few)) (lowest-is-first u v s low below) taking in
           same? (look keys v) 0
           (λ e. rw (t .alone e .1) (more _ (taken-alone u v (taking .0) e)))

@@ -9,6 +9,7 @@ use native.Mathlib.Decide.{decLe}
 use native.Mathlib.Nat.{mul-le-mul-right}
 use lib.Seq.{getD-set-same, getD-set-other}
 use lib.ListN.{length, set, length-set}
+use Rattle.network.specs.Limits.{LINKS, PLACES, SITES}
 use Rattle.network.specs.Numbers.{pick, is, sum, count, look}
 use Rattle.network.specs.Network.{Links, Site, Tree, one, two, at, sumAt}
 use Rattle.network.specs.Trimming.{unvisited, first, remove}
@@ -30,14 +31,14 @@ module _ (ls : Links) (us : List ℕ) (x : ℕ) where
       sumAt-same ls x (λ i. unvisited ls us i * (65536 + i)) (λ i. 65536 * unvisited ls us i + unvisited ls us i * i) (λ i l a. omega arith)
       ∙ sumAt-linear ls x 65536 (unvisited ls us) (λ i. unvisited ls us i * i)
 
-  -- of at most 255 links
-  positions-few : length ls ≤ 255 → weigh ls us (λ i. i) x ≤ 255 * sumAt ls x (unvisited ls us)
+  -- of at most LINKS links
+  positions-few : length ls ≤ LINKS → weigh ls us (λ i. i) x ≤ LINKS * sumAt ls x (unvisited ls us)
   unfolding weigh sumAt
   positions-few few = omega (
     arith,
-    sum-mul (length ls) 255 (λ i. at ls x i * unvisited ls us i),
-    sum-le (length ls) (λ i. at ls x i * (unvisited ls us i * i)) (λ i. 255 * (at ls x i * unvisited ls us i))
-        (λ i l. let m : i ≤ 255 = omega arith in omega (arith, mul-le-mul-right (at ls x i * unvisited ls us i) m)),
+    sum-mul (length ls) LINKS (λ i. at ls x i * unvisited ls us i),
+    sum-le (length ls) (λ i. at ls x i * (unvisited ls us i * i)) (λ i. LINKS * (at ls x i * unvisited ls us i))
+        (λ i l. let m : i ≤ LINKS = omega arith in omega (arith, mul-le-mul-right (at ls x i * unvisited ls us i) m)),
   )
 
 -- ---- lists
@@ -68,8 +69,8 @@ pub record Untaken (ls : Links) (n root : ℕ) (us keys : List ℕ) : Type 0 whe
   pub within : (x : ℕ) → 1 ≤ count us x → Site n x
   pub single : (x : ℕ) → count us x ≤ 1
   pub ascending : Ascending us
-  pub few : (n ≤ 256) × (length ls ≤ 255)
-  pub places : length keys ≡ 257
+  pub few : (n ≤ SITES) × (length ls ≤ LINKS)
+  pub places : length keys ≡ PLACES
   pub key : (x : ℕ) → Site n x → look keys x ≡ pick (count us x) 1 (weigh ls us share x + is root x * 131072) 131072
 
 -- the lowest that can be taken is the first that is found
@@ -128,7 +129,7 @@ module _ {ls : Links} {n root : ℕ} {us keys : List ℕ} (u : Untaken ls n root
     was x = remove-count us v x (omega arith)
 
     -- the keys after it: that of v is 131072, and those of the other untaken sites are right
-    taken-off : (after : List ℕ) → length after ≡ 257 → look after v ≡ 131072
+    taken-off : (after : List ℕ) → length after ≡ PLACES → look after v ≡ 131072
         → ((x : ℕ) → x ≢ v → count us x ≢ 1 → look after x ≡ look keys x)
         → ((x : ℕ) → x ≢ v → count us x ≡ 1 → look after x ≡ weigh ls (remove v us) share x + is root x * 131072)
         → Untaken ls n root (remove v us) after

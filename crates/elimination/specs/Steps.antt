@@ -5,6 +5,7 @@ use mathlib.Core.Bool.{Bool, true, false}
 use mathlib.Core.List.{List}
 use Prim.Native.Nat.{ℕ, suc, _+_, _-_, _*_, _≤_, _<_, max}
 use lib.ListN.{length, set}
+use Rattle.network.specs.Limits.{PLACES, SITES}
 use Rattle.network.specs.Numbers.{is, look}
 use Rattle.network.specs.Network.{Site, Tree, sumAt}
 use Rattle.elimination.specs.Links.{links}
@@ -15,10 +16,10 @@ use Rattle.elimination.specs.declared.Search.{Search}
 abbrev pub Link : ℕ → ℕ → ℕ → Type 0
 Link n a b = Site n a × Site n b × (a ≢ b)
 
--- 2 to 256 sites, and one link less, each between two different sites
+-- 2 to SITES sites, and one link less, each between two different sites
 pub record Proper (n : ℕ) (one two : List ℕ) : Type 0 where
   pub big : 2 ≤ n
-  pub few : n ≤ 256
+  pub few : n ≤ SITES
   pub firsts : n ≡ suc (length one)
   pub seconds : n ≡ suc (length two)
   pub links : (j : ℕ) → j < length one → Link n (look one j) (look two j)
@@ -29,7 +30,7 @@ share i = 65536 + i
 
 -- the sum of the shares of the links at each site, 131072 more at the root
 pub record Counted (one two : List ℕ) (root : ℕ) (keys : List ℕ) : Type 0 where
-  pub places : length keys ≡ 257
+  pub places : length keys ≡ PLACES
   pub key : (x : ℕ) → look keys x ≡ sumAt (links one two) x share + is root x * 131072
 
 -- r is the lowest site from `from` on with a key below 131072, or 0 if there is none
@@ -71,9 +72,9 @@ pub record Over (n : ℕ) (a b keys : List ℕ) (v : ℕ) : Type 0 where
 -- site v, of n, can be taken: alone, or over a link
 pub record Ready (a b keys : List ℕ) (v : ℕ) : Type 0 where
   pub n : ℕ
-  pub few : n ≤ 256
+  pub few : n ≤ SITES
   pub site : Site n v
-  pub places : length keys ≡ 257
+  pub places : length keys ≡ PLACES
   pub over : look keys v ≢ 0 → Over n a b keys v
 
 -- v is taken: w is the site at the other end of its link, or 0, and these are the keys after it

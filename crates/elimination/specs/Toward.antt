@@ -3,6 +3,7 @@
 use mathlib.Core.List.{List, [], _∷_, _++_}
 use Prim.Native.Nat.{ℕ, zero, suc, _-_}
 use lib.ListN.{replicate}
+use Rattle.network.specs.Limits.{SITES}
 use Rattle.network.specs.Numbers.{count}
 use Rattle.network.specs.Network.{Links, sites}
 use Rattle.network.specs.Trimming.{first, remove}
@@ -16,6 +17,6 @@ takenToward ls root (suc k) us = let v = first ls us (remove root us) in v ∷ t
 unfoldable pub eliminationToward : Links → ℕ → ℕ → List ℕ
 eliminationToward ls n root = let last = count (sites n) root in takenToward ls root (n - last) (sites n) ++ replicate last root
 
--- an order of n sites in 256 places, 0 past the last
+-- an order of n sites in SITES places, 0 past the last
 unfoldable pub orderIn : ℕ → List ℕ → List ℕ
-orderIn n order = order ++ replicate (256 - n) 0
+orderIn n order = order ++ replicate (SITES - n) 0

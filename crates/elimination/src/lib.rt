@@ -5,25 +5,28 @@ ghost use mathlib.Core.Path.{_≡_};
 ghost use mathlib.Core.Logic.{_≢_};
 ghost use Prim.Native.Nat.{ℕ, suc, _+_, _-_, _*_, _≤_, _<_, max};
 ghost use lib.ListN.{length, set, replicate};
+ghost use Rattle.network.specs.Limits.{PLACES, SITES};
 ghost use Rattle.network.specs.Numbers.{pick, is, count, look};
 ghost use Rattle.network.specs.Network.{sites};
 ghost use Rattle.elimination.specs.Steps.{Proper, Counted, Lowest, Behind, Back, Onward, Ready, Took, Eliminated};
+use network::PLACES;
+use network::SITES;
 
 // Adds d at two places of a list.
-fn add_at(list: &mut [usize; 257], a: usize, b: usize, d: usize)
-    requires { ⌜ (length (now list) ≡ 257) × (a < 257) × (b < 257) × (a ≢ b) × (d ≤ 131072) × ((x : ℕ) → look (now list) x ≤ 33554432) ⌝ }
-    ensures { λ _. ⌜ (length (now (list .exit)) ≡ 257) × ((x : ℕ) → look (now (list .exit)) x ≡ look (now (list .entry)) x + pick a x 1 (is b x) * d) ⌝ }
+fn add_at(list: &mut [usize; PLACES], a: usize, b: usize, d: usize)
+    requires { ⌜ (length (now list) ≡ PLACES) × (a < PLACES) × (b < PLACES) × (a ≢ b) × (d ≤ 131072) × ((x : ℕ) → look (now list) x ≤ SITES * 131072) ⌝ }
+    ensures { λ _. ⌜ (length (now (list .exit)) ≡ PLACES) × ((x : ℕ) → look (now (list .exit)) x ≡ look (now (list .entry)) x + pick a x 1 (is b x) * d) ⌝ }
 {
     list[a] += d;
     list[b] += d;
 }
 
 // The key of each site, 131072 too high at the root so that it is never taken.
-fn keys_of(one: &[usize], two: &[usize], root: usize) -> [usize; 257]
-    requires { ⌜ Proper (suc (length (now one))) (now one) (now two) × (root ≤ 256) ⌝ }
+fn keys_of(one: &[usize], two: &[usize], root: usize) -> [usize; PLACES]
+    requires { ⌜ Proper (suc (length (now one))) (now one) (now two) × (root ≤ SITES) ⌝ }
     ensures { λ r. ⌜ Counted (now (one .entry)) (now (two .entry)) root r ⌝ }
 {
-    let mut keys = [0usize; 257];
+    let mut keys = [0usize; PLACES];
     keys[root] = 131072;
     for j in 0..one.len() {
         add_at(&mut keys, one[j], two[j], 65536 + j);
@@ -32,8 +35,8 @@ fn keys_of(one: &[usize], two: &[usize], root: usize) -> [usize; 257]
 }
 
 // The lowest site from `from` to n with a key below 131072, 0 if there is none.
-fn lowest_from(from: usize, n: usize, keys: &[usize; 257]) -> usize
-    requires { ⌜ (1 ≤ from) × (from ≤ n) × (n ≤ 256) ⌝ }
+fn lowest_from(from: usize, n: usize, keys: &[usize; PLACES]) -> usize
+    requires { ⌜ (1 ≤ from) × (from ≤ n) × (n ≤ SITES) ⌝ }
     ensures { λ r. ⌜ Lowest from n (now (keys .entry)) r ⌝ }
 {
     for x in from..n + 1 {
@@ -51,8 +54,8 @@ struct Search {
 }
 
 // The lowest site with a key below 131072, 0 if there is none.
-fn lowest(search: Search, n: usize, keys: &[usize; 257]) -> usize
-    requires { ⌜ (n ≤ 256) × Behind n (now keys) search ⌝ }
+fn lowest(search: Search, n: usize, keys: &[usize; PLACES]) -> usize
+    requires { ⌜ (n ≤ SITES) × Behind n (now keys) search ⌝ }
     ensures { λ r. ⌜ Lowest 1 n (now (keys .entry)) r ⌝ }
 {
     if search.back != 0 {
@@ -90,7 +93,7 @@ fn onward(search: Search, v: usize, w: usize, key: usize) -> Search
 }
 
 // Takes site v with a key below 131072. The answer is the site at the other end of its link, which has that link less, or 0 if there is none.
-fn take(v: usize, one: &[usize], two: &[usize], keys: &mut [usize; 257]) -> usize
+fn take(v: usize, one: &[usize], two: &[usize], keys: &mut [usize; PLACES]) -> usize
     requires { ⌜ Ready (now one) (now two) (now keys) v ⌝ }
     ensures { λ w. ⌜ Took (now (one .entry)) (now (two .entry)) (now (keys .entry)) v w (now (keys .exit)) ⌝ }
 {
@@ -118,10 +121,10 @@ fn take_all(
     one: &[usize],
     two: &[usize],
     root: usize,
-    mut keys: [usize; 257],
-    sites: &mut [usize; 256],
+    mut keys: [usize; PLACES],
+    sites: &mut [usize; SITES],
 ) -> bool
-    requires { ⌜ Proper n (now one) (now two) × (root ≤ n) × Counted (now one) (now two) root keys × (now sites ≡ set (replicate 256 0) (n - 1) root) ⌝ }
+    requires { ⌜ Proper n (now one) (now two) × (root ≤ n) × Counted (now one) (now two) root keys × (now sites ≡ set (replicate SITES 0) (n - 1) root) ⌝ }
     ensures { λ r. ⌜ Eliminated n (now (one .entry)) (now (two .entry)) root (now (sites .exit)) r ⌝ }
 {
     let mut search = Search { from: 1, back: 0 };
@@ -139,7 +142,7 @@ fn take_all(
 
 // Sites in the order taken, and whether all could be taken.
 pub struct Order {
-    pub sites: [usize; 256],
+    pub sites: [usize; SITES],
     pub all: bool,
 }
 
@@ -148,7 +151,7 @@ pub fn order_of(n: usize, one: &[usize], two: &[usize], root: usize) -> Order
     requires { ⌜ Proper n (now one) (now two) × (root ≤ n) ⌝ }
     ensures { λ r. ⌜ Eliminated n (now (one .entry)) (now (two .entry)) root (r .sites) (r .all) ⌝ }
 {
-    let mut sites = [0usize; 256];
+    let mut sites = [0usize; SITES];
     sites[n - 1] = root;
     let all = take_all(n, one, two, root, keys_of(one, two, root), &mut sites);
     Order { sites, all }

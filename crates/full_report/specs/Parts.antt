@@ -2,6 +2,7 @@
 use mathlib.Core.List.{List, _++_}
 use Prim.Native.Nat.{ℕ, _≤_}
 use lib.ListN.{length, take}
+use Rattle.network.specs.Limits.{SITES}
 use Rattle.network.specs.Numbers.{upfrom}
 use Rattle.network.specs.Network.{sites}
 use Rattle.sheet.specs.declared.Network.{Network}
@@ -34,7 +35,7 @@ pub record LinksReady (s starts ends : List ℕ) (network : Network) (trimmed : 
 
 -- named sites, named owners, and a place for the cut of each site
 pub record SitesReady (s starts ends : List ℕ) (n : ℕ) (owners sizes counts : List ℕ) : Type 0 where
-  pub few : n ≤ 256
+  pub few : n ≤ SITES
   pub named : AllNamed s starts ends n
   pub owned : Owners s starts ends owners n
   pub sized : n ≤ length sizes

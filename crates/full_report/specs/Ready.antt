@@ -3,6 +3,7 @@ use mathlib.Core.Path.{_≡_}
 use mathlib.Core.List.{List, []}
 use Prim.Native.Nat.{ℕ, _≤_}
 use lib.ListN.{length, take}
+use Rattle.network.specs.Limits.{SITES}
 use Rattle.network.specs.Edition.{edition1}
 use Rattle.network.specs.Network.{leaf}
 use Rattle.network.specs.Trimming.{balanced}
@@ -27,7 +28,7 @@ pub record Ready (s : List ℕ) (network : Lists) (w : Worked) : Type 0 where
   pub listed : network ≡ lists net
   pub trimmed : take (length (net .links)) (w .trimmed) ≡ balanced (net .links) (length (net .names)) (leaf (net .links)) (net .capacities)
   pub works : Works net (w .owner) (w .size) (w .count) (take (w .pairs) (w .list))
-  pub owners-held : length (w .owner) ≡ 256
-  pub sizes-held : length (w .size) ≡ 256
-  pub counts-held : length (w .count) ≡ 256
+  pub owners-held : length (w .owner) ≡ SITES
+  pub sizes-held : length (w .size) ≡ SITES
+  pub counts-held : length (w .count) ≡ SITES
   pub pairs-held : w .pairs ≤ length (w .list)

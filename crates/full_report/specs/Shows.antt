@@ -7,6 +7,7 @@ use native.Mathlib.Nat.{add-zero}
 use native.Mathlib.Omega.{arith}
 use lib.ListN.{length, getD, take}
 use lib.Seq.{length-take-le}
+use Rattle.network.specs.Limits.{SITES}
 use Rattle.network.specs.Numbers.{look, upfrom}
 use Rattle.network.specs.Network.{sites, sumAt, leaf, total}
 use Rattle.network.specs.Trimming.{balanced}
@@ -100,12 +101,12 @@ module _ (net : Network) where
   four-after a b c d e = sym (append-assoc a (b ++ (c ++ d)) e) ∙ ap (λ l. l ++ e) (sym (append-assoc a b (c ++ d)) ∙ sym (append-assoc (a ++ b) c d))
 
   -- the name of a site, by its range
-  names : (s : List ℕ) → nameBy s (padded 256 (map (λ r. r .0) (net .names))) (padded 256 (map (λ r. r .1) (net .names))) ≡ (λ v. part s (getD (net .names) (v - 1) (0, 0)))
-  names s = fun-ext (λ v. ap (part s) (ranges 256 (net .names) (v - 1)))
+  names : (s : List ℕ) → nameBy s (padded SITES (map (λ r. r .0) (net .names))) (padded SITES (map (λ r. r .1) (net .names))) ≡ (λ v. part s (getD (net .names) (v - 1) (0, 0)))
+  names s = fun-ext (λ v. ap (part s) (ranges SITES (net .names) (v - 1)))
 
   -- the report written from such lists is the network's report
   pub the-lists-show-the-plan : (s : List ℕ) {owners sizes counts : List ℕ} (pairs : List Pair) (k : ℕ) → k ≤ length pairs → Works owners sizes counts (take k pairs)
-      → let name = nameBy s (padded 256 (map (λ r. r .0) (net .names))) (padded 256 (map (λ r. r .1) (net .names))) in
+      → let name = nameBy s (padded SITES (map (λ r. r .0) (net .names))) (padded SITES (map (λ r. r .1) (net .names))) in
       planRecord (total (take k pairs)) k
       ++ (lines (linkLine name (map (λ l. l .0) (net .links)) (map (λ l. l .1) (net .links)) (net .capacities) trimmed) (upfrom 0 (length (map (λ l. l .0) (net .links))))
       ++ (lines (siteLine name owners) (sites size) ++ lines (heldLine name sizes counts) (sites size))

@@ -8,6 +8,7 @@ use native.Mathlib.Omega.{arith}
 use native.Mathlib.Nat.{mul-le-mul-right}
 use lib.ListN.{length, getD, take, drop, replicate, length-append, length-map, length-take, length-drop, length-replicate, List·getD-map}
 use lib.Seq.{take-at, getD-take, length-take-le}
+use Rattle.network.specs.Limits.{LINKS, SITES}
 use Rattle.network.specs.Numbers.{is, sum, look, Each}
 use Rattle.network.specs.Network.{Links, Site, sites, one, two, sumAt, leaf, total, atTerminals, Route}
 use Rattle.network.specs.Trimming.{balanced}
@@ -51,24 +52,24 @@ module _ (s : List ℕ) (net : Network) (n : IsNetwork edition1 s net) where
   size = length (net .names)
 
   abbrev starts : List ℕ
-  starts = padded 256 (map (λ r. r .0) (net .names))
+  starts = padded SITES (map (λ r. r .0) (net .names))
 
   abbrev ends : List ℕ
-  ends = padded 256 (map (λ r. r .1) (net .names))
+  ends = padded SITES (map (λ r. r .1) (net .names))
 
   sites-are-named : AllNamed s starts ends size
   sites-are-named v l h =
       let i = v - 1 in
       let range = n .names i (omega arith) in
-      let e = ranges 256 (net .names) i in
+      let e = ranges SITES (net .names) i in
       let a : look starts i ≡ getD (net .names) i (0, 0) .0 = ap (λ r. r .0) e in
       let b : look ends i ≡ getD (net .names) i (0, 0) .1 = ap (λ r. r .1) e in
-      let few : size ≤ 256 = n .few in
+      let few : size ≤ SITES = n .few in
       let r = getD (net .names) i (0, 0) in
       record {
         above = l;
-        in-starts = omega (arith, padded-length 256 (map (λ r. r .0) (net .names)) (omega (arith, length-map (net .names) (λ r. r .0))));
-        in-ends = omega (arith, padded-length 256 (map (λ r. r .1) (net .names)) (omega (arith, length-map (net .names) (λ r. r .1))));
+        in-starts = omega (arith, padded-length SITES (map (λ r. r .0) (net .names)) (omega (arith, length-map (net .names) (λ r. r .0))));
+        in-ends = omega (arith, padded-length SITES (map (λ r. r .1) (net .names)) (omega (arith, length-map (net .names) (λ r. r .1))));
         forward = rw (a, b) (range .start);
         within = rw b (range .end);
         short = rw (a, b) (omega (arith, name-length (part s r) (range .name), length-take (r .1 - r .0) (drop (r .0) s), length-drop (r .0) s, range .end));
@@ -82,7 +83,7 @@ module _ (s : List ℕ) (net : Network) (n : IsNetwork edition1 s net) where
   abbrev trimmed : List ℕ
   trimmed = balanced ls size (leaf ls) (net .capacities)
 
-  links-are-few : length ls ≤ 255
+  links-are-few : length ls ≤ LINKS
   links-are-few = omega (arith, n .tree .links, n .few)
 
   named-site : (v : ℕ) → Site size v → Named s starts ends v
@@ -136,7 +137,7 @@ module _ (s : List ℕ) (net : Network) (n : IsNetwork edition1 s net) where
   -- ---- all of it
 
   module _ (w : Worked) (trim : take (length ls) (w .trimmed) ≡ trimmed) (works : Works net (w .owner) (w .size) (w .count) (take (w .pairs) (w .list)))
-      (owned : length (w .owner) ≡ 256) (sized : length (w .size) ≡ 256) (counted : length (w .count) ≡ 256)
+      (owned : length (w .owner) ≡ SITES) (sized : length (w .size) ≡ SITES) (counted : length (w .count) ≡ SITES)
       (held : w .pairs ≤ length (w .list)) where
     pairs-are-few : w .pairs ≤ length ls
     pairs-are-few = omega (arith, sound .few, ap length (works .paired), length-take-le (w .pairs) (w .list) held)
@@ -183,9 +184,9 @@ module _ (s : List ℕ) (network : Lists) (w : Worked) (r : Ready s network w) w
       let few = links-are-few s net accepted-network in
       rw (r .listed) (record {
         linked = record {
-          ones = omega (arith, padded-length 256 (map (λ l. l .0) (net .links)) (omega (arith, length-map (net .links) (λ l. l .0))));
-          twos = omega (arith, padded-length 256 (map (λ l. l .1) (net .links)) (omega (arith, length-map (net .links) (λ l. l .1))));
-          capacities = omega (arith, padded-length 256 (net .capacities) (omega (arith, accepted-network .capacities)));
+          ones = omega (arith, padded-length SITES (map (λ l. l .0) (net .links)) (omega (arith, length-map (net .links) (λ l. l .0))));
+          twos = omega (arith, padded-length SITES (map (λ l. l .1) (net .links)) (omega (arith, length-map (net .links) (λ l. l .1))));
+          capacities = omega (arith, padded-length SITES (net .capacities) (omega (arith, accepted-network .capacities)));
           balanced = omega (
             arith,
             ap length (r .trimmed),
@@ -193,9 +194,9 @@ module _ (s : List ℕ) (network : Lists) (w : Worked) (r : Ready s network w) w
             balanced-has-each-link (accepted-network .tree) (leaf (net .links)) (net .capacities),
           );
           linked = rw (
-            padded-front 256 (length (net .links)) (map (λ l. l .0) (net .links)) (length-map (net .links) (λ l. l .0)),
-            padded-front 256 (length (net .links)) (map (λ l. l .1) (net .links)) (length-map (net .links) (λ l. l .1)),
-            padded-front 256 (length (net .links)) (net .capacities) (accepted-network .capacities),
+            padded-front SITES (length (net .links)) (map (λ l. l .0) (net .links)) (length-map (net .links) (λ l. l .0)),
+            padded-front SITES (length (net .links)) (map (λ l. l .1) (net .links)) (length-map (net .links) (λ l. l .1)),
+            padded-front SITES (length (net .links)) (net .capacities) (accepted-network .capacities),
             r .trimmed,
           )
               (links-join-named-sites s net accepted-network);
@@ -214,9 +215,9 @@ module _ (s : List ℕ) (network : Lists) (w : Worked) (r : Ready s network w) w
       let net = r .net in
       rw (
         r .listed,
-        padded-front 256 (length (net .links)) (map (λ l. l .0) (net .links)) (length-map (net .links) (λ l. l .0)),
-        padded-front 256 (length (net .links)) (map (λ l. l .1) (net .links)) (length-map (net .links) (λ l. l .1)),
-        padded-front 256 (length (net .links)) (net .capacities) (accepted-network .capacities),
+        padded-front SITES (length (net .links)) (map (λ l. l .0) (net .links)) (length-map (net .links) (λ l. l .0)),
+        padded-front SITES (length (net .links)) (map (λ l. l .1) (net .links)) (length-map (net .links) (λ l. l .1)),
+        padded-front SITES (length (net .links)) (net .capacities) (accepted-network .capacities),
         r .trimmed,
         r .read,
       )

@@ -4,6 +4,7 @@ ghost use Rattle.writers.specs.Wrote.{Wrote};
 ghost use Rattle.report.specs.Shown.{nameBy};
 ghost use Rattle.full_report.specs.Parts.{linkPart, sitePart, linesBy, LinksReady, SitesReady, LinesReady};
 ghost use Rattle.full_report.specs.Ready.{Ready, reportFor};
+use network::SITES;
 use sheet::Network;
 use working::Worked;
 
@@ -13,7 +14,7 @@ fn put_links(
     start: &[usize],
     end: &[usize],
     network: Network,
-    trimmed: [u64; 256],
+    trimmed: [u64; SITES],
     buf: &mut [u8],
     at: usize,
 ) -> usize
@@ -42,9 +43,9 @@ fn put_sites(
     start: &[usize],
     end: &[usize],
     n: usize,
-    owner: [usize; 256],
-    size: [u64; 256],
-    count: [usize; 256],
+    owner: [usize; SITES],
+    size: [u64; SITES],
+    count: [usize; SITES],
     buf: &mut [u8],
     at: usize,
 ) -> usize

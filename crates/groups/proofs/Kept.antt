@@ -7,6 +7,7 @@ use native.Mathlib.Numerals.{add-one}
 use native.Mathlib.Omega.{arith}
 use lib.ListN.{length, drop, getD, length-map, drop-of-length-le}
 use lib.Seq.{drop-cons}
+use Rattle.network.specs.Limits.{PLACES}
 use Rattle.network.specs.Numbers.{pick, less, look, upfrom}
 use Rattle.network.specs.Network.{Links, label, relabel}
 use Rattle.network.specs.Cuts.{kept, group}
@@ -44,26 +45,26 @@ relabelled {now} m rest p q hp hq e =
 
 -- the labels by the kept links from position j on
 abbrev pub groupsFrom : List ℕ → List ℕ → List ℕ → List ℕ → ℕ → List ℕ
-groupsFrom a b c t j = map (label (keptFrom (λ i. less (look t i) (look c i)) (links a b) j)) (upfrom 0 257)
+groupsFrom a b c t j = map (label (keptFrom (λ i. less (look t i) (look c i)) (links a b) j)) (upfrom 0 PLACES)
 
-pub length-groups : (a b c t : List ℕ) (j : ℕ) → length (groupsFrom a b c t j) ≡ 257
-length-groups a b c t j = length-map (upfrom 0 257) (label (keptFrom (λ i. less (look t i) (look c i)) (links a b) j)) ∙ length-upfrom 0 257
+pub length-groups : (a b c t : List ℕ) (j : ℕ) → length (groupsFrom a b c t j) ≡ PLACES
+length-groups a b c t j = length-map (upfrom 0 PLACES) (label (keptFrom (λ i. less (look t i) (look c i)) (links a b) j)) ∙ length-upfrom 0 PLACES
 
 module _ (a b c t : List ℕ) (same : length b ≡ length a) where
-  pub groups-none : upfrom 0 257 ≡ groupsFrom a b c t (length a)
+  pub groups-none : upfrom 0 PLACES ≡ groupsFrom a b c t (length a)
   unfolding label kept
   groups-none =
       let past : drop (length a) (links a b) ≡ [] = drop-of-length-le (links a b) {i = length a} (omega (arith, length-links a b (sym same))) in
-      rw past (sym (map-id (upfrom 0 257)))
+      rw past (sym (map-id (upfrom 0 PLACES)))
 
   module _ {now : List ℕ} (j : ℕ) (h : j < length a) (e : now ≡ groupsFrom a b c t (j + 1)) where
-    pub groups-in : look a j < 257 → look b j < 257 → look t j < look c j → map (relabel (look now (look a j)) (look now (look b j))) now ≡ groupsFrom a b c t j
+    pub groups-in : look a j < PLACES → look b j < PLACES → look t j < look c j → map (relabel (look now (look a j)) (look now (look b j))) now ≡ groupsFrom a b c t j
     groups-in p q l =
         let u : ℕ → ℕ = λ i. less (look t i) (look c i) in
         let from : keptFrom u (links a b) j ≡ (look a j, look b j) ∷ keptFrom u (links a b) (j + 1) =
         kept-next u (links a b) j (omega (arith, length-links a b (sym same)))
         ∙ rw (less-one l, pick-same {u = 1} refl) (ap₂ (λ x y. (x, y) ∷ keptFrom u (links a b) (j + 1)) (links-one a b j h (omega arith)) (links-two a b j h (omega arith))) in
-        rw from (relabelled 257 (keptFrom u (links a b) (j + 1)) (look a j) (look b j) p q e)
+        rw from (relabelled PLACES (keptFrom u (links a b) (j + 1)) (look a j) (look b j) p q e)
 
     pub groups-out : look c j ≤ look t j → now ≡ groupsFrom a b c t j
     groups-out l =
@@ -73,6 +74,6 @@ module _ (a b c t : List ℕ) (same : length b ≡ length a) where
         ∙ rw (less-none {a = look t j} {b = look c j} (λ k. omega arith), pick-other {u = 0} {v = 1} (λ k. omega arith)) refl in
         rw from e
 
-  pub groups-all : groupsFrom a b c t 0 ≡ map (group (links a b) (look c) (look t)) (upfrom 0 257)
+  pub groups-all : groupsFrom a b c t 0 ≡ map (group (links a b) (look c) (look t)) (upfrom 0 PLACES)
   unfolding group
   groups-all = rw (kept-same (λ i. less (look t (0 + i)) (look c (0 + i))) (λ i. less (look t i) (look c i)) (links a b) (λ i. rw zero-add refl)) refl

@@ -7,6 +7,7 @@ use native.Mathlib.Decide.{decLt}
 use native.Mathlib.Omega.{arith}
 use lib.ListN.{length, set, replicate, getD-replicate, length-set, length-map, List·getD-eq-default}
 use lib.Seq.{getD-set-same, getD-set-other}
+use Rattle.network.specs.Limits.{LINKS, PLACES, SITES}
 use Rattle.network.specs.Numbers.{pick, is, differ, less, sum, look, upfrom}
 use Rattle.network.specs.Network.{one, two, at, sumAt, label}
 use Rattle.network.specs.Cuts.{kept, group, inCut, cutSize}
@@ -49,62 +50,62 @@ module _ (labels : List ℕ) (a b d : ℕ) where
 
 -- ---- own labels: the links at a site
 
-pub own-small : (x : ℕ) → look (upfrom 0 257) x ≤ 256
-own-small x = cases (decLt x 257)
-    (λ h. omega (arith, look-upfrom 0 257 x h))
-    (λ h. omega (arith, List·getD-eq-default (upfrom 0 257) 0 {n = x} (omega (arith, length-upfrom 0 257))))
+pub own-small : (x : ℕ) → look (upfrom 0 PLACES) x ≤ SITES
+own-small x = cases (decLt x PLACES)
+    (λ h. omega (arith, look-upfrom 0 PLACES x h))
+    (λ h. omega (arith, List·getD-eq-default (upfrom 0 PLACES) 0 {n = x} (omega (arith, length-upfrom 0 PLACES))))
 
 -- a link leaves each of its two sites
-leaves-own : (v a b : ℕ) → a ≤ 256 → b ≤ 256 → a ≢ b → leaves (upfrom 0 257) a b v ≡ pick a v 1 (is b v)
+leaves-own : (v a b : ℕ) → a ≤ SITES → b ≤ SITES → a ≢ b → leaves (upfrom 0 PLACES) a b v ≡ pick a v 1 (is b v)
 unfolding leaves
 leaves-own v a b p q apart =
-    let own-a : look (upfrom 0 257) a ≡ a = omega (arith, look-upfrom 0 257 a (omega arith)) in
-    let own-b : look (upfrom 0 257) b ≡ b = omega (arith, look-upfrom 0 257 b (omega arith)) in
+    let own-a : look (upfrom 0 PLACES) a ≡ a = omega (arith, look-upfrom 0 PLACES a (omega arith)) in
+    let own-b : look (upfrom 0 PLACES) b ≡ b = omega (arith, look-upfrom 0 PLACES b (omega arith)) in
     rw (own-a, own-b) (same? a v
     (λ e. rw (pick-same e, is-same e, is-other {u = b} {v = v} (λ z. apart (e ∙ sym z))) (differ-other (λ z. omega arith)))
     (λ d. rw (pick-other d, is-other d) (same? b v (λ e. rw (is-same e) (differ-other (λ z. omega arith))) (λ e. rw (is-other e) (differ-same refl)))))
 
-pub leaving-own : {a b : List ℕ} → Linked a b → (v : ℕ) → leaving (upfrom 0 257) a b (replicate 255 1) v ≡ sumAt (links a b) v (λ i. 1)
+pub leaving-own : {a b : List ℕ} → Linked a b → (v : ℕ) → leaving (upfrom 0 PLACES) a b (replicate LINKS 1) v ≡ sumAt (links a b) v (λ i. 1)
 unfolding leaving sumAt
 leaving-own {a} {b} k v = rw (length-links a b (sym (k .seconds))) (sum-eq (length a)
-    (λ j. leaves (upfrom 0 257) (look a j) (look b j) v * look (replicate 255 1) j)
+    (λ j. leaves (upfrom 0 PLACES) (look a j) (look b j) v * look (replicate LINKS 1) j)
     (λ j. at (links a b) v j * 1)
     (λ j h. rw (
       leaves-own v (look a j) (look b j) (k .ends j h .0 .1) (k .ends j h .1 .1) (k .apart j h),
-      getD-replicate {A = ℕ} 255 j 1 0 (omega (arith, k .few)),
+      getD-replicate {A = ℕ} LINKS j 1 0 (omega (arith, k .few)),
       links-at-site a b v j h (omega (arith, k .seconds)),
     ) refl))
 
 -- ---- the labels of groups: the sizes of cuts
 
-module _ {labels a b : List ℕ} (k : Linked a b) (c t : List ℕ) (grouped : labels ≡ map (group (links a b) (look c) (look t)) (upfrom 0 257)) where
+module _ {labels a b : List ℕ} (k : Linked a b) (c t : List ℕ) (grouped : labels ≡ map (group (links a b) (look c) (look t)) (upfrom 0 PLACES)) where
   abbrev label-of : ℕ → ℕ
   label-of = group (links a b) (look c) (look t)
 
-  look-group : (x : ℕ) → x ≤ 256 → look labels x ≡ label-of x
-  look-group x h = ap (λ r. look r x) grouped ∙ look-values label-of 257 x (omega arith)
+  look-group : (x : ℕ) → x ≤ SITES → look labels x ≡ label-of x
+  look-group x h = ap (λ r. look r x) grouped ∙ look-values label-of PLACES x (omega arith)
 
   -- a label has a place, as sites have
-  group-small : (x : ℕ) → x ≤ 256 → label-of x ≤ 256
+  group-small : (x : ℕ) → x ≤ SITES → label-of x ≤ SITES
   unfolding group
   group-small x h =
       let ls = links a b in
       let u : ℕ → ℕ = λ i. less (look t i) (look c i) in
       let all = length-links a b (sym (k .seconds)) in
-      let low : (y : ℕ) → y ≤ 256 → less y 257 ≡ 1 = λ y p. less-one {a = y} {b = 257} (omega arith) in
-      let shared = kept-agree u ls (λ y. less y 257)
+      let low : (y : ℕ) → y ≤ SITES → less y PLACES ≡ 1 = λ y p. less-one {a = y} {b = PLACES} (omega arith) in
+      let shared = kept-agree u ls (λ y. less y PLACES)
       (λ i p q. rw (links-one a b i (omega arith) (omega (arith, k .seconds)), links-two a b i (omega arith) (omega (arith, k .seconds)))
       (low (look a i) (omega (arith, k .ends i (omega arith))) ∙ sym (low (look b i) (omega (arith, k .ends i (omega arith))))))
       (label (kept u ls) x) x (label-label (kept u ls) x) in
       omega (arith, less-lt (shared ∙ low x h))
 
-  pub labels-small : (x : ℕ) → look labels x ≤ 256
-  labels-small x = cases (decLt x 257)
+  pub labels-small : (x : ℕ) → look labels x ≤ SITES
+  labels-small x = cases (decLt x PLACES)
       (λ h. rw (look-group x (omega arith)) (group-small x (omega arith)))
-      (λ h. omega (arith, List·getD-eq-default labels 0 {n = x} (omega (arith, ap length grouped, length-map (upfrom 0 257) label-of, length-upfrom 0 257))))
+      (λ h. omega (arith, List·getD-eq-default labels 0 {n = x} (omega (arith, ap length grouped, length-map (upfrom 0 PLACES) label-of, length-upfrom 0 PLACES))))
 
   -- the sum at the label of a site is the size of the cut with that label
-  pub leaving-is-size : (x : ℕ) → x ≤ 256 → leaving labels a b c (look labels x) ≡ cutSize (links a b) (look c) (look t) x
+  pub leaving-is-size : (x : ℕ) → x ≤ SITES → leaving labels a b c (look labels x) ≡ cutSize (links a b) (look c) (look t) x
   unfolding leaving leaves cutSize inCut
   leaving-is-size x h = rw (length-links a b (sym (k .seconds)), look-group x h) (sum-eq (length a)
       (λ j. differ (is (look labels (look a j)) (label-of x)) (is (look labels (look b j)) (label-of x)) * look c j)

@@ -9,6 +9,7 @@ use native.Mathlib.Omega.{arith}
 use lib.Bits.{bitOr}
 use lib.ListN.{length, set, replicate}
 use lib.Seq.{getD-set-same, getD-set-other}
+use Rattle.network.specs.Limits.{SETS, SITES, WORDS}
 use Rattle.network.specs.Numbers.{is, look}
 use Rattle.theory.specs.Sums.{pick-same, pick-other, is-same, is-other, cases, same?, less-one, less-none}
 use Rattle.bitset.specs.Members.{bit}
@@ -16,13 +17,13 @@ use Rattle.bitset.proofs.Bits.{or-bit}
 use Rattle.groups.specs.Groups.{labelled, inWords}
 use Rattle.theory.specs.Sites.{look-zeros}
 
-pub words-none : (labels : List ℕ) (l i : ℕ) → inWords (replicate 1028 0) l i ≡ labelled 0 labels l i
+pub words-none : (labels : List ℕ) (l i : ℕ) → inWords (replicate SETS 0) l i ≡ labelled 0 labels l i
 unfolding inWords labelled
-words-none labels l i = rw (look-zeros 1028 (l * 4 + i / 64), zero-div, less-none {a = i} {b = 0} (λ h. omega arith)) (omega arith)
+words-none labels l i = rw (look-zeros SETS (l * WORDS + i / 64), zero-div, less-none {a = i} {b = 0} (λ h. omega arith)) (omega arith)
 
-module _ (words labels : List ℕ) (k : ℕ) (h : k < 256) (small : look labels (k + 1) ≤ 256) (long : length words ≡ 1028) where
+module _ (words labels : List ℕ) (k : ℕ) (h : k < SITES) (small : look labels (k + 1) ≤ SITES) (long : length words ≡ SETS) where
   abbrev here : ℕ
-  here = look labels (k + 1) * 4 + k / 64
+  here = look labels (k + 1) * WORDS + k / 64
 
   abbrev next : List ℕ
   next = set words here (bitOr (look words here) (1 * 2 ^ (k % 64) % 2 ^ 64))
@@ -42,28 +43,28 @@ module _ (words labels : List ℕ) (k : ℕ) (h : k < 256) (small : look labels 
   unfolding labelled
   labelled-none l = rw (less-none {a = k} {b = k} (λ q. omega arith)) (omega arith)
 
-  in-low : (ws : List ℕ) (l i : ℕ) → i < 256 → inWords ws l i ≡ bit (look ws (l * 4 + i / 64)) (i % 64)
+  in-low : (ws : List ℕ) (l i : ℕ) → i < SITES → inWords ws l i ≡ bit (look ws (l * WORDS + i / 64)) (i % 64)
   unfolding inWords
   in-low ws l i p = rw (less-one p) (omega arith)
 
-  in-high : (ws : List ℕ) (l i : ℕ) → ¬ (i < 256) → inWords ws l i ≡ labelled (k + 1) labels l i
+  in-high : (ws : List ℕ) (l i : ℕ) → ¬ (i < SITES) → inWords ws l i ≡ labelled (k + 1) labels l i
   unfolding inWords labelled
   in-high ws l i p = rw (less-none p, less-none {a = i} {b = k + 1} (λ q. p (omega arith))) (omega arith)
 
-  module _ (l i : ℕ) (before : inWords words l i ≡ labelled k labels l i) (p : i < 256) where
+  module _ (l i : ℕ) (before : inWords words l i ≡ labelled k labels l i) (p : i < SITES) where
     -- the word that is changed, and any other
-    changed : l * 4 + i / 64 ≡ here → bit (look next (l * 4 + i / 64)) (i % 64) ≡ labelled (k + 1) labels l i
+    changed : l * WORDS + i / 64 ≡ here → bit (look next (l * WORDS + i / 64)) (i % 64) ≡ labelled (k + 1) labels l i
     changed e = rw (e, getD-set-same words here (bitOr (look words here) (1 * 2 ^ (k % 64) % 2 ^ 64)) 0 (omega arith), or-bit (look words here) (k % 64) (i % 64) (omega arith)) (same? i k
         (λ q. pick-same (ap (λ n. n % 64) q) _ _ ∙ sym (ap (labelled (k + 1) labels l) q ∙ labelled-here l ∙ is-same {u = look labels (k + 1)} {v = l} (omega arith)))
         (λ d. pick-other {u = i % 64} {v = k % 64} (λ z. d (omega arith)) _ _
         ∙ ap (λ w. bit (look words w) (i % 64)) (sym e) ∙ sym (in-low words l i p) ∙ before ∙ labelled-other l i d))
 
-    kept : l * 4 + i / 64 ≢ here → bit (look next (l * 4 + i / 64)) (i % 64) ≡ labelled (k + 1) labels l i
-    kept n = rw (getD-set-other words here (l * 4 + i / 64) (bitOr (look words here) (1 * 2 ^ (k % 64) % 2 ^ 64)) 0 n) (same? i k
+    kept : l * WORDS + i / 64 ≢ here → bit (look next (l * WORDS + i / 64)) (i % 64) ≡ labelled (k + 1) labels l i
+    kept n = rw (getD-set-other words here (l * WORDS + i / 64) (bitOr (look words here) (1 * 2 ^ (k % 64) % 2 ^ 64)) 0 n) (same? i k
         (λ q. sym (in-low words l i p) ∙ before ∙ ap (labelled k labels l) q ∙ labelled-none l ∙ sym (ap (labelled (k + 1) labels l) q ∙ labelled-here l ∙ is-other (λ z. n (rw (q, z) refl))))
         (λ d. sym (in-low words l i p) ∙ before ∙ labelled-other l i d))
 
   pub words-next : (l i : ℕ) → inWords words l i ≡ labelled k labels l i → inWords next l i ≡ labelled (k + 1) labels l i
-  words-next l i before = cases (decLt i 256)
-      (λ p. in-low next l i p ∙ same? (l * 4 + i / 64) here (changed l i before p) (kept l i before p))
+  words-next l i before = cases (decLt i SITES)
+      (λ p. in-low next l i p ∙ same? (l * WORDS + i / 64) here (changed l i before p) (kept l i before p))
       (λ p. in-high next l i p)

@@ -2,12 +2,15 @@
 ghost use mathlib.Core.Path.{_≡_};
 ghost use Prim.Native.Nat.{_-_, _≤_};
 ghost use lib.Dec.{ltb};
+ghost use Rattle.network.specs.Limits.{SITES};
 ghost use Rattle.network.specs.Numbers.{look};
-ghost use Rattle.network.specs.Edition.{edition1};
+ghost use Rattle.network.specs.Edition.{largest};
 ghost use Rattle.tree.specs.Offer.{links};
 ghost use Rattle.tree.specs.Accepted.{TreeWithin};
 ghost use Rattle.links.specs.Chains.{Chained, Limited};
 ghost use Rattle.heavy.specs.Heavy.{heavyAt, heavySomewhere};
+use network::CHAINS;
+use network::PLACES;
 
 // Whether a link of capacity t is larger than the other links have together at a site whose links have the sum.
 fn is_heavy(t: u64, sum: u64) -> bool
@@ -20,13 +23,13 @@ fn is_heavy(t: u64, sum: u64) -> bool
 // Whether v is an inner site with a heavy link.
 fn heavy_at(
     v: usize,
-    last: &[usize; 257],
-    before: &[usize; 512],
+    last: &[usize; PLACES],
+    before: &[usize; CHAINS],
     one: &[usize],
     two: &[usize],
     capacity: &[u64],
 ) -> bool
-    requires { ⌜ (v ≤ 256) × Chained (now one) (now two) (now last) (now before) × Limited (now one) (now capacity) ⌝ }
+    requires { ⌜ (v ≤ SITES) × Chained (now one) (now two) (now last) (now before) × Limited (now one) (now capacity) ⌝ }
     ensures { λ r. ⌜ r ≡ heavyAt (links (now (one .entry)) (now (two .entry))) (look (now (capacity .entry))) v ⌝ }
 {
     let site = links::at_site(v, last, before, one, two, capacity);
@@ -45,7 +48,7 @@ fn heavy_at(
 
 // Whether some inner site has a heavy link. Only the planner's own crates call it, of a tree that is accepted.
 pub fn heavy(n: usize, one: &[usize], two: &[usize], capacity: &[u64]) -> bool
-    requires { ⌜ TreeWithin edition1 n (now one) (now two) (now capacity) ⌝ }
+    requires { ⌜ TreeWithin largest n (now one) (now two) (now capacity) ⌝ }
     ensures { λ r. ⌜ r ≡ heavySomewhere (links (now (one .entry)) (now (two .entry))) n (look (now (capacity .entry))) ⌝ }
 {
     let chains = links::chain(one, two);

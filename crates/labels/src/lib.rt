@@ -1,14 +1,16 @@
 // The labels of sites: sites that links join have the same label. Place x has the label of site x, and place 0 is unused.
 ghost use mathlib.Core.Path.{_≡_};
+ghost use Rattle.network.specs.Limits.{PLACES};
 ghost use Rattle.network.specs.Numbers.{upfrom};
 ghost use Rattle.network.specs.Network.{relabel};
 ghost use Rattle.labels.specs.Labels.{linked, whole};
+use network::PLACES;
 
 // The labels before the first link: every site has its own number.
-pub fn own_labels() -> [u16; 257]
-    ensures { λ r. ⌜ r ≡ upfrom 0 257 ⌝ }
+pub fn own_labels() -> [u16; PLACES]
+    ensures { λ r. ⌜ r ≡ upfrom 0 PLACES ⌝ }
 {
-    let mut labels = [0u16; 257];
+    let mut labels = [0u16; PLACES];
     for x in 0..257 {
         labels[x] = x as u16;
     }

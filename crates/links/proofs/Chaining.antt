@@ -6,6 +6,7 @@ use native.Mathlib.Omega.{arith}
 use native.Mathlib.Numerals.{add-one}
 use lib.Seq.{getD-set-same, getD-set-other}
 use lib.ListN.{length, set, replicate, getD-replicate, length-set}
+use Rattle.network.specs.Limits.{CHAINS, PLACES, SITES}
 use Rattle.network.specs.Numbers.{pick, is, look}
 use Rattle.theory.specs.Sums.{pick-same, pick-other, pick-const, same?, is-same, is-other}
 use Rattle.tree.specs.Offer.{links}
@@ -22,13 +23,13 @@ stored l a b y x p q = same? b x
 
 -- the first j links are chained
 pub record ChainedTo (a b : List ℕ) (j : ℕ) (last before : List ℕ) : Type 0 where
-  pub places : (length last ≡ 257) × (length before ≡ 512)
-  pub lasts : (v : ℕ) → v ≤ 256 → look last v ≡ lastAt (links a b) j v
+  pub places : (length last ≡ PLACES) × (length before ≡ CHAINS)
+  pub lasts : (v : ℕ) → v ≤ SITES → look last v ≡ lastAt (links a b) j v
   pub befores : (i : ℕ) → i < j → (look before (2 * i) ≡ lastAt (links a b) i (look a i)) × (look before (2 * i + 1) ≡ lastAt (links a b) i (look b i))
 
-pub chain-start : (a b : List ℕ) → ChainedTo a b 0 (replicate 257 0) (replicate 512 0)
+pub chain-start : (a b : List ℕ) → ChainedTo a b 0 (replicate PLACES 0) (replicate CHAINS 0)
 unfolding lastAt
-chain-start a b = record { places = (refl, refl); lasts = λ v h. getD-replicate 257 v 0 0 (omega arith); befores = λ i l. absurd (omega arith) }
+chain-start a b = record { places = (refl, refl); lasts = λ v h. getD-replicate PLACES v 0 0 (omega arith); befores = λ i l. absurd (omega arith) }
 
 pub chain-next : {a b : List ℕ} {j : ℕ} {last before : List ℕ} → Placed a b → j < length a → ChainedTo a b j last before
     → ChainedTo a b (j + 1) (set (set last (look a j) (j + 1)) (look b j) (j + 1)) (set (set before (2 * j) (look last (look a j))) (2 * j + 1) (look last (look b j)))

@@ -7,20 +7,21 @@ use Prim.Native.Nat.{ℕ, zero, suc, _+_, _-_, _*_, _≤_, _<_}
 use native.Mathlib.Omega.{arith}
 use native.Mathlib.Nat.{mul-le-mul-right}
 use lib.ListN.{length}
+use Rattle.network.specs.Limits.{LINKS, SITES, SIZE}
 use Rattle.network.specs.Numbers.{pick, is, sum, look}
 use Rattle.network.specs.Network.{Links, at}
-use Rattle.network.specs.Edition.{edition1}
+use Rattle.network.specs.Edition.{largest}
 use Rattle.theory.specs.Sums.{pick-same, pick-other, same?, is-one}
 use Rattle.theory.specs.Trees.{at-le}
 use Rattle.tree.specs.Offer.{links}
 use Rattle.tree.specs.Accepted.{TreeWithin}
 use Rattle.tree.specs.Links.{length-links, links-one, links-two, links-at-site}
 
--- at most 255 links between sites up to 256
+-- at most LINKS links between sites up to SITES
 pub record Placed (one two : List ℕ) : Type 0 where
-  pub few : length one ≤ 255
+  pub few : length one ≤ LINKS
   pub seconds : length two ≡ length one
-  pub sites : (j : ℕ) → j < length one → (look one j ≤ 256) × (look two j ≤ 256)
+  pub sites : (j : ℕ) → j < length one → (look one j ≤ SITES) × (look two j ≤ SITES)
 
 -- the last of the first j links that is at v, counted from 1; 0 if there is none
 unfoldable pub lastAt : Links → ℕ → ℕ → ℕ
@@ -30,17 +31,17 @@ lastAt ls (suc j) v = pick (at ls v j) 1 (suc j) (lastAt ls j v)
 -- the last link at each site, and for link j the links before it at its first site (place 2 j) and at its second (place 2 j + 1)
 pub record Chained (one two last before : List ℕ) : Type 0 where
   pub placed : Placed one two
-  pub lasts : (v : ℕ) → v ≤ 256 → look last v ≡ lastAt (links one two) (length one) v
+  pub lasts : (v : ℕ) → v ≤ SITES → look last v ≡ lastAt (links one two) (length one) v
   pub firsts : (j : ℕ) → j < length one → look before (2 * j) ≡ lastAt (links one two) j (look one j)
   pub others : (j : ℕ) → j < length one → look before (2 * j + 1) ≡ lastAt (links one two) j (look two j)
 
 -- a place for each link, with a capacity of at most 1,000,000
 pub record Limited (one c : List ℕ) : Type 0 where
   pub places : length one ≤ length c
-  pub small : (j : ℕ) → j < length one → look c j ≤ 1000000
+  pub small : (j : ℕ) → j < length one → look c j ≤ SIZE
 
 -- an accepted tree is placed, and its capacities are limited
-module _ {n : ℕ} {a b c : List ℕ} (w : TreeWithin edition1 n a b c) where
+module _ {n : ℕ} {a b c : List ℕ} (w : TreeWithin largest n a b c) where
   pub offer-placed : Placed a b
   offer-placed = record {
     few = omega arith;

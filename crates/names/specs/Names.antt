@@ -34,10 +34,14 @@ nameAt s rs i = part s (getD rs i (0, 0))
 
 -- ---- the table of hashes
 
--- the hash of a name, a number below 16384; from the bytes after those that make h
+-- the number of hashes
+abbrev pub HASHES : ℕ
+HASHES = 16384
+
+-- the hash of a name, a number below HASHES; from the bytes after those that make h
 unfoldable pub hashFrom : ℕ → List ℕ → ℕ
 hashFrom h [] = h
-hashFrom h (b ∷ bs) = hashFrom ((h * 31 + b) % 16384) bs
+hashFrom h (b ∷ bs) = hashFrom ((h * 31 + b) % HASHES) bs
 
 abbrev pub hash : List ℕ → ℕ
 hash f = hashFrom 0 f
@@ -48,6 +52,6 @@ entered table h site = cond (eqb (look table h) 0) (set table h site) table
 
 -- a table of the names: at every hash a site, or 0; and at the hash of a name no site after the one of that name
 pub record Indexes (s : List ℕ) (names : List (ℕ × ℕ)) (table : List ℕ) : Type 0 where
-  pub long : length table ≡ 16384
+  pub long : length table ≡ HASHES
   pub sites : (h : ℕ) → look table h ≤ length names
   pub first : (i : ℕ) → i < length names → (1 ≤ look table (hash (nameAt s names i))) × (look table (hash (nameAt s names i)) ≤ i + 1)

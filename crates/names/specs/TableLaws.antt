@@ -14,7 +14,7 @@ use lib.Seq.{drop-cons, getD-set-same, getD-set-other}
 use borrow.Author.Tests.{eqb-true, eqb-false}
 use Rattle.network.specs.Numbers.{look}
 use Rattle.theory.specs.Sums.{same?}
-use Rattle.names.specs.Names.{part, lookup, nameAt, hashFrom, hash, entered, Indexes}
+use Rattle.names.specs.Names.{HASHES, part, lookup, nameAt, hashFrom, hash, entered, Indexes}
 use Rattle.theory.specs.Sites.{look-zeros}
 use Rattle.names.specs.Lists.{one-more}
 use Rattle.names.specs.LookupLaws.{Says, lookup-says, first-is-found}
@@ -24,13 +24,13 @@ use Rattle.names.specs.declared.Found.the-variants.{At, Absent}
 -- ---- hashes
 
 -- a hash is a place of the table
-pub hash-below : (h : ℕ) (f : List ℕ) → h < 16384 → hashFrom h f < 16384
+pub hash-below : (h : ℕ) (f : List ℕ) → h < HASHES → hashFrom h f < HASHES
 unfolding hashFrom
 hash-below h [] l = l
-hash-below h (b ∷ bs) l = hash-below ((h * 31 + b) % 16384) bs (mod-lt (h * 31 + b) (omega arith))
+hash-below h (b ∷ bs) l = hash-below ((h * 31 + b) % HASHES) bs (mod-lt (h * 31 + b) (omega arith))
 
 -- the bytes from place i on, by the byte at i
-pub hash-step : (h : ℕ) (f : List ℕ) (i : ℕ) → i < length f → hashFrom h (drop i f) ≡ hashFrom ((h * 31 + look f i) % 16384) (drop (i + 1) f)
+pub hash-step : (h : ℕ) (f : List ℕ) (i : ℕ) → i < length f → hashFrom h (drop i f) ≡ hashFrom ((h * 31 + look f i) % HASHES) (drop (i + 1) f)
 unfolding hashFrom
 hash-step h f i l = rw (drop-cons f i 0 l, add-one)
 
@@ -55,10 +55,10 @@ module _ {s : List ℕ} {names : List (ℕ × ℕ)} {table : List ℕ} (t : Inde
 
 -- ---- entering
 
-pub no-sites : (s : List ℕ) → Indexes s [] (replicate 16384 0)
+pub no-sites : (s : List ℕ) → Indexes s [] (replicate HASHES 0)
 no-sites s = record {
-  long = length-replicate {A = ℕ} 16384 0;
-  sites = λ h. omega (arith, look-zeros 16384 h);
+  long = length-replicate {A = ℕ} HASHES 0;
+  sites = λ h. omega (arith, look-zeros HASHES h);
   first = λ i l. absurd (omega arith);
 }
 

@@ -1,7 +1,12 @@
 // The names of sites, as ranges of a sheet, and their look-up: by a table of hashes, and site by site where two names have one hash.
 ghost use mathlib.Core.Path.{_≡_};
 ghost use Prim.Native.Nat.{_≤_, min};
+ghost use Rattle.network.specs.Limits.{SITES};
 ghost use Rattle.names.specs.Names.{part, lookup, ranges, hash, entered, Indexes};
+use network::SITES;
+
+// The number of hashes. specs/Names.antt has it by the same name.
+pub const HASHES: usize = 16384;
 
 // What the look-up of a name finds: the number of the site, or that no site above has the name.
 pub enum Found {
@@ -34,7 +39,7 @@ fn hash(name: &[u8]) -> usize
     let mut value = 0;
     let mut i = 0;
     while i < name.len() {
-        value = (value * 31 + name[i] as usize) % 16384;
+        value = (value * 31 + name[i] as usize) % HASHES;
         i += 1;
     }
     value
@@ -42,8 +47,8 @@ fn hash(name: &[u8]) -> usize
 
 // The table with one site more, whose name is the part from a start to an end: the first site with a hash keeps the place.
 // Only the planner's own crates call it.
-pub fn enter(table: &mut [u16; 16384], sheet: &[u8], start: usize, end: usize, site: usize)
-    requires { ⌜ site ≤ 256 ⌝ }
+pub fn enter(table: &mut [u16; HASHES], sheet: &[u8], start: usize, end: usize, site: usize)
+    requires { ⌜ site ≤ SITES ⌝ }
     ensures { λ _. ⌜ now (table .exit) ≡ entered (now (table .entry)) (hash (part (now (sheet .entry)) (start, end))) site ⌝ }
 {
     let place = hash(part(sheet, start, end));
@@ -55,12 +60,12 @@ pub fn enter(table: &mut [u16; 16384], sheet: &[u8], start: usize, end: usize, s
 // The number of the site whose name is given, site by site.
 fn scan(
     sheet: &[u8],
-    starts: &[usize; 256],
-    ends: &[usize; 256],
+    starts: &[usize; SITES],
+    ends: &[usize; SITES],
     sites: usize,
     name: &[u8],
 ) -> Found
-    requires { ⌜ sites ≤ 256 ⌝ }
+    requires { ⌜ sites ≤ SITES ⌝ }
     ensures { λ r. ⌜ r ≡ lookup (now (sheet .entry)) (ranges (now (starts .entry)) (now (ends .entry)) 0 sites) (now (name .entry)) ⌝ }
 {
     let mut i = 0;
@@ -77,14 +82,14 @@ fn scan(
 // of their hashes. Only the planner's own crates call it.
 pub fn find(
     sheet: &[u8],
-    starts: &[usize; 256],
-    ends: &[usize; 256],
+    starts: &[usize; SITES],
+    ends: &[usize; SITES],
     sites: usize,
-    table: &[u16; 16384],
+    table: &[u16; HASHES],
     start: usize,
     end: usize,
 ) -> Found
-    requires { ⌜ (sites ≤ 256) × Indexes (now sheet) (ranges (now starts) (now ends) 0 sites) (now table) ⌝ }
+    requires { ⌜ (sites ≤ SITES) × Indexes (now sheet) (ranges (now starts) (now ends) 0 sites) (now table) ⌝ }
     ensures { λ r. ⌜ r ≡ lookup (now (sheet .entry)) (ranges (now (starts .entry)) (now (ends .entry)) 0 sites) (part (now (sheet .entry)) (start, end)) ⌝ }
 {
     let name = part(sheet, start, end);

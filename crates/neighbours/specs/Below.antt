@@ -5,6 +5,7 @@ use mathlib.Core.Logic.{_≢_}
 use mathlib.Core.List.{List}
 use Prim.Native.Nat.{ℕ, suc, _-_, _≤_, _<_}
 use lib.ListN.{length}
+use Rattle.network.specs.Limits.{PLACES}
 use Rattle.network.specs.Numbers.{pick}
 use Rattle.network.specs.Network.{Links, Tree, one, two}
 use Rattle.network.specs.Pairing.{between}
@@ -27,9 +28,9 @@ pub record Below (ls : Links) (v j : ℕ) (s : Set) : Type 0 where
   pub are : (c : ℕ) → 1 ≤ c → member s (c - 1) ≡ 1 → (between ls v c < length ls) × (between ls v c ≢ j)
   pub all : (c : ℕ) → 1 ≤ c → between ls v c < length ls → between ls v c ≢ j → member s (c - 1) ≡ 1
 
--- r is the lowest site above c at whose place f is 1, or 257
+-- r is the lowest site above c at whose place f is 1, or PLACES
 pub record NextSite (f : ℕ → ℕ) (c r : ℕ) : Type 0 where
   pub above : c < r
-  pub to : r ≤ 257
-  pub hit : r < 257 → f (r - 1) ≡ 1
+  pub to : r ≤ PLACES
+  pub hit : r < PLACES → f (r - 1) ≡ 1
   pub miss : (x : ℕ) → c < x → x < r → f (x - 1) ≢ 1

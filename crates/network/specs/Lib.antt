@@ -1,3 +1,4 @@
+pub mod Limits
 pub mod Edition
 pub mod Numbers
 pub mod Text

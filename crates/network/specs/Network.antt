@@ -2,7 +2,7 @@
 -- Document 01, "The network sheet" (site, link, joined) and "Plans, trimmed sizes, end sets" (end, joint, plan, load, fits, total).
 use mathlib.Core.Path.{_≡_}
 use mathlib.Core.Logic.{_≢_}
-use mathlib.Core.List.{List, [], _∷_}
+use mathlib.Core.List.{List, [], _∷_, map}
 use Prim.Native.Nat.{ℕ, zero, suc, _+_, _*_, _≤_, _<_}
 use lib.ListN.{length, getD}
 use Rattle.network.specs.Numbers.{pick, is, differ, sum, over, upfrom, Each}
@@ -49,6 +49,11 @@ others ls v j f = sum (length ls) (λ i. pick i j 0 (at ls v i * f i))
 -- Terminals enter what follows as any such predicate: 1 at a terminal, another number at an inner site.
 unfoldable pub leaf : Links → ℕ → ℕ
 leaf ls v = is (sumAt ls v (λ i. 1)) 1
+
+-- the ends of a tree of n sites: place v holds 1 where site v is an end, 0 where it is none (01: end). Place 0 is unused.
+-- This is the one rule of what an end is; the definitions below it take any terminals.
+unfoldable pub ends : Links → ℕ → List ℕ
+ends ls n = map (leaf ls) (upfrom 0 (suc n))
 
 -- ---- joined
 

@@ -4,7 +4,7 @@ use mathlib.Core.List.{List, [], _∷_, _++_}
 use Prim.Native.Nat.{ℕ, zero, suc, _+_, _-_, _*_, min}
 use lib.ListN.{length}
 use Rattle.network.specs.Numbers.{pick, is, less}
-use Rattle.network.specs.Network.{Links, sumAt, leaf}
+use Rattle.network.specs.Network.{Links, sumAt}
 use Rattle.network.specs.declared.Pair.{Pair}
 
 -- ---- lists of halves
@@ -117,10 +117,10 @@ lowestInner terminal c zero = 0
 lowestInner terminal c (suc m) = pick (terminal c) 1 (lowestInner terminal (suc c) m) c
 
 -- the pairs from the joint of lowest number; without one there are two sites, and one pair of twice the capacity, or none for capacity 0
-unfoldable pub pairs : Links → ℕ → (ℕ → ℕ) → List Pair
-pairs ls n t =
-    let root = lowestInner (leaf ls) 1 n in
-    pick root 0 (give 1 (put 2 (2 * t 0) [])) (pairsFrom ls n t (leaf ls) root)
+unfoldable pub pairs : Links → ℕ → (ℕ → ℕ) → (ℕ → ℕ) → List Pair
+pairs ls n t terminal =
+    let root = lowestInner terminal 1 n in
+    pick root 0 (give 1 (put 2 (2 * t 0) [])) (pairsFrom ls n t terminal root)
 
 -- ---- the order of the pair list
 
@@ -141,5 +141,5 @@ ordered [] = []
 ordered (e ∷ es) = insert (lowerFirst e) (ordered es)
 
 -- the pair list (01: the pair list, put in order)
-unfoldable pub pairList : Links → ℕ → (ℕ → ℕ) → List Pair
-pairList ls n t = ordered (pairs ls n t)
+unfoldable pub pairList : Links → ℕ → (ℕ → ℕ) → (ℕ → ℕ) → List Pair
+pairList ls n t terminal = ordered (pairs ls n t terminal)

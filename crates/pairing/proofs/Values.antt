@@ -17,6 +17,7 @@ use denote.Builtin.{usize}
 use denote.Array.{Array, each, arrayVal, array-lawful}
 use denote.Steps.{only}
 use denote.Struct.Laws as LL
+use Rattle.network.specs.Limits.{SITES}
 use Rattle.network.specs.declared.Pair.{Pair}
 use Rattle.network.proofs.Pair as T
 use Rattle.network.proofs.Pair.Laws as T′
@@ -43,13 +44,13 @@ abbrev pub answerVal : Pairing → Val
 answerVal a = P′.the-field-laws .val (P.the-field .into a)
 
 abbrev pub listVal : List Pair → Val
-listVal ps = LL.array-laws T.the-field T′.the-field-laws 256 .val (map (T.the-field .into) ps)
+listVal ps = LL.array-laws T.the-field T′.the-field-laws SITES .val (map (T.the-field .into) ps)
 
 abbrev pub IsAnswer : Pairing → Type 0
 IsAnswer a = Is P.the-row a (answerVal a ∷ [])
 
 abbrev pub IsList : List Pair → Type 0
-IsList ps = Is (Array T.the-row 256) ps (listVal ps ∷ [])
+IsList ps = Is (Array T.the-row SITES) ps (listVal ps ∷ [])
 
 pub answer-tells : Tells P.the-row (Is P.the-row) (λ a. answerVal a ∷ [])
 answer-tells a = P′.the-field-laws .tells (P.the-field .into a)
@@ -60,7 +61,7 @@ each-tells [] (u ∷ us) h = absurd h
 each-tells (p ∷ ps) [] h = absurd h
 each-tells (p ∷ ps) (u ∷ us) h = ap₂ _∷_ (ap only (T′.the-field-laws .tells (T.the-field .into p) (u ∷ []) (h .0))) (each-tells ps us (h .1))
 
-pub list-tells : Tells (Array T.the-row 256) (Is (Array T.the-row 256)) (λ ps. listVal ps ∷ [])
+pub list-tells : Tells (Array T.the-row SITES) (Is (Array T.the-row SITES)) (λ ps. listVal ps ∷ [])
 list-tells ps vs h = h .1 .0 .0 ∙ ap (λ us. arrayVal us ∷ []) (each-tells ps (h .0) (h .1 .1))
 
 -- a pair that is repeated

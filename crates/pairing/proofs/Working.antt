@@ -7,8 +7,9 @@ use native.Mathlib.Omega.{arith}
 use native.Mathlib.Decide.{decLe}
 use lib.Seq.{length-take-le}
 use lib.ListN.{length, take, drop}
+use Rattle.network.specs.Limits.{LINKS, SITES}
 use Rattle.network.specs.Numbers.{look}
-use Rattle.network.specs.Edition.{edition1}
+use Rattle.network.specs.Edition.{largest}
 use Rattle.network.specs.Network.{leaf}
 use Rattle.network.specs.Trimming.{Balanced}
 use Rattle.network.specs.Pairing.{pairs, pairList, ordered}
@@ -39,8 +40,8 @@ module _ (n : ℕ) (one two c : List ℕ) (places : ℕ) where
   }
 
   -- the pairs of an accepted tree with balanced capacities
-  module _ (t : TreeWithin edition1 n one two c) (B : Balanced (links one two) (leaf (links one two)) (look c)) (enough : length one ≤ places) (w : Work)
-      (made : take (w .count) (w .list) ≡ pairs (links one two) n (look c)) (few : w .count ≤ 255) (full : length (w .list) ≡ 256) where
+  module _ (t : TreeWithin largest n one two c) (B : Balanced (links one two) (leaf (links one two)) (look c)) (enough : length one ≤ places) (w : Work)
+      (made : take (w .count) (w .list) ≡ pairs (links one two) n (look c)) (few : w .count ≤ LINKS) (full : length (w .list) ≡ SITES) where
     number : length (pairs (links one two) n (look c)) ≡ w .count
     number = sym (ap length made) ∙ length-take-le (w .count) (w .list) (omega arith)
 
@@ -73,7 +74,7 @@ after-storing Heavy ps l = refl
 after-storing (Pairs count) ps l = refl
 
 -- stored in a list of so many places, they leave it as the definition says
-pub work-is-stored : (n : ℕ) (one two c : List ℕ) (l : List Pair) (w : Work) → Worked n one two c (length l) w → length (w .list) ≡ 256
+pub work-is-stored : (n : ℕ) (one two c : List ℕ) (l : List Pair) (w : Work) → Worked n one two c (length l) w → length (w .list) ≡ SITES
     → stored (w .list) (w .count) l ≡ paired n one two c l
 unfolding paired pairList
 work-is-stored n one two c l w h full =

@@ -5,8 +5,9 @@ use mathlib.Core.List.{List, _++_}
 use Prim.Native.Nat.{ℕ}
 use lib.Dec.{leb}
 use lib.ListN.{length, drop, replicate}
+use Rattle.network.specs.Limits.{SITES}
 use Rattle.network.specs.Numbers.{look}
-use Rattle.network.specs.Edition.{edition1}
+use Rattle.network.specs.Edition.{largest}
 use Rattle.network.specs.Pairing.{pairList}
 use Rattle.network.specs.declared.Pair.{Pair}
 use Rattle.pairlist.specs.PairList.{noPair}
@@ -31,7 +32,7 @@ decide offered.Accepted true false count = Pairs count
 unfoldable pub answer : ℕ → List ℕ → List ℕ → List ℕ → ℕ → Pairing
 answer n one two c places =
     let ls = links one two in
-    decide (offer edition1 n one two c) (leb (length one) places) (heavySomewhere ls n (look c)) (length (pairList ls n (look c)))
+    decide (offer largest n one two c) (leb (length one) places) (heavySomewhere ls n (look c)) (length (pairList ls n (look c)))
 
 -- ---- the lent list after
 
@@ -46,9 +47,9 @@ after (Pairs count) ps lent = ps ++ drop count lent
 unfoldable pub paired : ℕ → List ℕ → List ℕ → List ℕ → List Pair → List Pair
 paired n one two c lent = after (answer n one two c (length lent)) (pairList (links one two) n (look c)) lent
 
--- 256 places without a pair
+-- SITES places without a pair
 unfoldable pub noPairs : List Pair
-noPairs = replicate 256 noPair
+noPairs = replicate SITES noPair
 
 -- ---- document 01's numbers
 

@@ -10,7 +10,7 @@ use lib.Dec.{leb}
 use lib.Seq.{take-at, drop-at}
 use lib.ListN.{length, take, drop}
 use Rattle.network.specs.Numbers.{look, Each}
-use Rattle.network.specs.Edition.{edition1}
+use Rattle.network.specs.Edition.{largest}
 use Rattle.network.specs.Network.{Tree, leaf}
 use Rattle.network.specs.Trimming.{Balanced}
 use Rattle.network.specs.Pairing.{pairList}
@@ -35,11 +35,11 @@ pub record Promise (n : ℕ) (one two c : List ℕ) (count : ℕ) (list : List P
   pub lower-first : Each (λ e. e .first < e .second) (take count list)
 
 -- balanced capacities of a tree within the limits are paired, wherever there is a place for each link
-pub balanced-capacities-are-paired : {n : ℕ} {one two c : List ℕ} → TreeWithin edition1 n one two c → Balanced (links one two) (leaf (links one two)) (look c)
+pub balanced-capacities-are-paired : {n : ℕ} {one two c : List ℕ} → TreeWithin largest n one two c → Balanced (links one two) (leaf (links one two)) (look c)
     → (places : ℕ) → length one ≤ places → answer n one two c places ≡ Pairs (length (pairList (links one two) n (look c)))
 unfolding answer decide
 balanced-capacities-are-paired {n} {one} {two} {c} t B places enough = rw (
-  a-tree-within-the-limits-is-accepted edition1 n one two c t,
+  a-tree-within-the-limits-is-accepted largest n one two c t,
   le-leb (length one) places enough,
   balanced-has-no-heavy-link (links one two) (look c) n B,
 ) refl
@@ -66,17 +66,17 @@ heavy-is-told offered.Accepted true false m e = absurd (let z : _≡_ {A = ℕ} 
 pub heavy-is-not-balanced : (n : ℕ) (one two c : List ℕ) (places : ℕ) → answer n one two c places ≡ Heavy → Balanced (links one two) (leaf (links one two)) (look c) → ⊥
 unfolding answer
 heavy-is-not-balanced n one two c places e B =
-    let told = heavy-is-told (offer edition1 n one two c) (leb (length one) places) (heavySomewhere (links one two) n (look c)) (length (pairList (links one two) n (look c))) e in
+    let told = heavy-is-told (offer largest n one two c) (leb (length one) places) (heavySomewhere (links one two) n (look c)) (length (pairList (links one two) n (look c))) e in
     let none = balanced-has-no-heavy-link (links one two) (look c) n B in
     let z : _≡_ {A = ℕ} 0 1 = cc in omega arith
 
 module _ (n : ℕ) (one two c : List ℕ) (lent : List Pair) (count : ℕ) (e : answer n one two c (length lent) ≡ Pairs count) where
-  told : (offer edition1 n one two c ≡ offered.Accepted) × (leb (length one) (length lent) ≡ true) × (heavySomewhere (links one two) n (look c) ≡ false) × (length (pairList (links one two) n (look c)) ≡ count)
+  told : (offer largest n one two c ≡ offered.Accepted) × (leb (length one) (length lent) ≡ true) × (heavySomewhere (links one two) n (look c) ≡ false) × (length (pairList (links one two) n (look c)) ≡ count)
   unfolding answer
-  told = pairs-are-told (offer edition1 n one two c) (leb (length one) (length lent)) (heavySomewhere (links one two) n (look c)) (length (pairList (links one two) n (look c))) count e
+  told = pairs-are-told (offer largest n one two c) (leb (length one) (length lent)) (heavySomewhere (links one two) n (look c)) (length (pairList (links one two) n (look c))) count e
 
-  within : TreeWithin edition1 n one two c
-  within = accepted-is-a-tree-within-the-limits edition1 n one two c (told .0)
+  within : TreeWithin largest n one two c
+  within = accepted-is-a-tree-within-the-limits largest n one two c (told .0)
 
   balanced : Balanced (links one two) (leaf (links one two)) (look c)
   balanced = no-heavy-link-is-balanced (links one two) (look c) (within .tree) (told .2)

@@ -3,6 +3,7 @@ use mathlib.Core.Path.{_≡_}
 use mathlib.Core.List.{List, []}
 use Prim.Native.Nat.{ℕ, _≤_}
 use lib.ListN.{take}
+use Rattle.network.specs.Limits.{SITES}
 use Rattle.network.specs.Numbers.{look}
 use Rattle.network.specs.Pairing.{pairs}
 use Rattle.network.specs.declared.Pair.{Pair}
@@ -25,5 +26,5 @@ pub record Worked (n : ℕ) (one two c : List ℕ) (places : ℕ) (w : Work) : T
   pub said : w .answer ≡ answer n one two c places
   pub counted : w .count ≡ pairCount (w .answer)
   pub listed : take (w .count) (w .list) ≡ toStore (w .answer) (pairs (links one two) n (look c))
-  pub few : w .count ≤ 256
+  pub few : w .count ≤ SITES
   pub fits : w .count ≤ places

@@ -1,7 +1,9 @@
 // What is said of an offered tree whose capacities are to be paired, and its pair list.
 use network::Pair;
+use network::SITES;
 use tree::Offer;
 ghost use mathlib.Core.Path.{_≡_};
+ghost use Rattle.network.specs.Limits.{SITES};
 ghost use lib.ListN.{length};
 ghost use Rattle.pairing.specs.Outcome.{answer, paired, noPairs};
 ghost use Rattle.pairing.specs.Storing.{Worked};
@@ -23,7 +25,7 @@ pub enum Pairing {
 // What there is to say and to store: the first `count` pairs of the list, in the order in which they are made.
 struct Work {
     answer: Pairing,
-    list: [Pair; 256],
+    list: [Pair; SITES],
     count: usize,
 }
 
@@ -38,7 +40,7 @@ fn refused(answer: Pairing) -> Work
     };
     Work {
         answer,
-        list: [none; 256],
+        list: [none; SITES],
         count: 0,
     }
 }
@@ -84,20 +86,20 @@ pub fn pair_up(
     done.answer
 }
 
-// The pair list of an offered tree by value, in a list of 256 places; pairs of zeros past its count.
+// The pair list of an offered tree by value, in a list of SITES places; pairs of zeros past its count.
 pub struct PairList {
     pub answer: Pairing,
-    pub list: [Pair; 256],
+    pub list: [Pair; SITES],
 }
 
 pub fn pair_list(n: usize, one: &[usize], two: &[usize], capacity: &[u64]) -> PairList
-    ensures { λ r. ⌜ (r .answer ≡ answer n (now (one .entry)) (now (two .entry)) (now (capacity .entry)) 256) × (r .list ≡ paired n (now (one .entry)) (now (two .entry)) (now (capacity .entry)) noPairs) ⌝ }
+    ensures { λ r. ⌜ (r .answer ≡ answer n (now (one .entry)) (now (two .entry)) (now (capacity .entry)) SITES) × (r .list ≡ paired n (now (one .entry)) (now (two .entry)) (now (capacity .entry)) noPairs) ⌝ }
 {
     let mut list = [Pair {
         first: 0,
         second: 0,
         amount: 0,
-    }; 256];
+    }; SITES];
     let answer = pair_up(n, one, two, capacity, &mut list);
     PairList { answer, list }
 }

@@ -6,6 +6,7 @@ use Prim.Native.Nat.{ℕ, suc, _+_, _-_, _*_, _≤_, _<_}
 use native.Mathlib.Omega.{arith}
 use native.Mathlib.Numerals.{one-add}
 use lib.ListN.{length, take, length-map}
+use Rattle.network.specs.Limits.{LINKS, SITES}
 use Rattle.network.specs.Edition.{edition1}
 use Rattle.network.specs.Numbers.{is, look}
 use Rattle.network.specs.Network.{Links, Site, sites, leaf}
@@ -54,15 +55,15 @@ module _ (s : List ℕ) (network : Lists) (net : Network) (read : readSheet edit
 
   ones : take m (network .one) ≡ map (λ l. l .0) (net .links)
   unfolding lists
-  ones = rw listed (padded-front 256 (length (net .links)) (map (λ l. l .0) (net .links)) (length-map (net .links) (λ l. l .0)))
+  ones = rw listed (padded-front SITES (length (net .links)) (map (λ l. l .0) (net .links)) (length-map (net .links) (λ l. l .0)))
 
   twos : take m (network .two) ≡ map (λ l. l .1) (net .links)
   unfolding lists
-  twos = rw listed (padded-front 256 (length (net .links)) (map (λ l. l .1) (net .links)) (length-map (net .links) (λ l. l .1)))
+  twos = rw listed (padded-front SITES (length (net .links)) (map (λ l. l .1) (net .links)) (length-map (net .links) (λ l. l .1)))
 
   sizes : take m (network .capacity) ≡ net .capacities
   unfolding lists
-  sizes = rw listed (padded-front 256 (length (net .links)) (net .capacities) (given .capacities))
+  sizes = rw listed (padded-front SITES (length (net .links)) (net .capacities) (given .capacities))
 
   count : network .sites ≡ length (net .names)
   unfolding lists
@@ -72,11 +73,11 @@ module _ (s : List ℕ) (network : Lists) (net : Network) (read : readSheet edit
   room : (m ≤ length (network .one)) × (m ≤ length (network .two)) × (m ≤ length (network .capacity))
   unfolding lists
   room =
-      let few : length (net .links) ≤ 255 = omega (arith, given .tree .links, given .few) in
+      let few : length (net .links) ≤ LINKS = omega (arith, given .tree .links, given .few) in
       rw listed (
-        omega (arith, padded-length 256 (map (λ l. l .0) (net .links)) (omega (arith, length-map (net .links) (λ l. l .0)))),
-        omega (arith, padded-length 256 (map (λ l. l .1) (net .links)) (omega (arith, length-map (net .links) (λ l. l .1)))),
-        omega (arith, padded-length 256 (net .capacities) (omega (arith, given .capacities))),
+        omega (arith, padded-length SITES (map (λ l. l .0) (net .links)) (omega (arith, length-map (net .links) (λ l. l .0)))),
+        omega (arith, padded-length SITES (map (λ l. l .1) (net .links)) (omega (arith, length-map (net .links) (λ l. l .1)))),
+        omega (arith, padded-length SITES (net .capacities) (omega (arith, given .capacities))),
       )
 
   -- the lists are a tree within the limits
@@ -127,7 +128,7 @@ module _ (s : List ℕ) (network : Lists) (net : Network) (read : readSheet edit
     unfolding cuts
     cut-counts = o .counts ∙ ap (λ c. c .count) same-cuts
 
-    few : n ≤ 256
+    few : n ≤ SITES
     few = given .few
 
     -- a cut has a site at least, its terminal

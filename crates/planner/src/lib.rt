@@ -8,6 +8,7 @@ ghost use Rattle.full_report.specs.Ready.{Ready};
 ghost use Rattle.planner.specs.Fits.{fits};
 ghost use Rattle.planner.specs.Worked.{Listed};
 use full_report::write_plan;
+use network::REPORT;
 use sheet::Answer;
 use sheet::Network;
 use working::Worked;
@@ -23,7 +24,7 @@ fn fits(sheet: &[u8], network: Network, worked: Worked, room: usize) -> bool
     requires { ⌜ Ready (now sheet) network worked ⌝ }
     ensures { λ r. ⌜ r ≡ fits (now (sheet .entry)) room ⌝ }
 {
-    if 65536 <= room {
+    if REPORT <= room {
         return true;
     }
     let mut none = [0u8; 1];

@@ -4,6 +4,7 @@ use mathlib.Core.Logic.{_≢_}
 use mathlib.Core.List.{List, []}
 use Prim.Native.Nat.{ℕ, _-_, _≤_, _<_}
 use lib.ListN.{length, getD}
+use Rattle.network.specs.Limits.{LINKS, SITES}
 use Rattle.network.specs.Numbers.{pick, look}
 use Rattle.network.specs.declared.Pair.{Pair}
 use Rattle.sheet.specs.Sheet.{part}
@@ -28,7 +29,7 @@ AllNamed s starts ends n = (v : ℕ) → 1 ≤ v → v ≤ n → Named s starts 
 
 -- lists of links between named sites, of one length
 pub record Links (s starts ends ones twos capacities trimmed : List ℕ) : Type 0 where
-  pub few : length ones ≤ 255
+  pub few : length ones ≤ LINKS
   pub twos-length : length twos ≡ length ones
   pub capacities-length : length capacities ≡ length ones
   pub trimmed-length : length trimmed ≡ length ones
@@ -53,6 +54,6 @@ no-pair = record { first = 0; second = 0; amount = 0 }
 
 -- the first n pairs of a list join named sites
 pub record Paired (s starts ends : List ℕ) (pairs : List Pair) (n : ℕ) : Type 0 where
-  pub few : n ≤ 256
+  pub few : n ≤ SITES
   pub held : n ≤ length pairs
   pub named : (i : ℕ) → i < n → Named s starts ends (getD pairs i no-pair .first) × Named s starts ends (getD pairs i no-pair .second)

@@ -4,6 +4,7 @@ ghost use mathlib.Core.Path.{_≡_};
 ghost use mathlib.Core.List.{[], _∷_, _++_};
 ghost use Prim.Native.Nat.{_+_, _*_, _≤_, _<_};
 ghost use lib.ListN.{length, take};
+ghost use Rattle.network.specs.Limits.{SITES};
 ghost use Rattle.network.specs.Numbers.{upfrom};
 ghost use Rattle.network.specs.Network.{sites, total};
 ghost use Rattle.network.specs.Text.{bytes};
@@ -13,6 +14,7 @@ ghost use Rattle.writers.specs.Wrote.{Wrote};
 ghost use Rattle.report.specs.Report.{lines, planRecord, linkRecord, linkLine, ownerName, siteLine, pairLine, refusalLine};
 ghost use Rattle.report.specs.Shown.{nameBy, Named, AllNamed, Links, Owners, Paired, heldRecord, heldLine};
 use network::Pair;
+use network::SITES;
 use writers::put_bytes;
 use writers::put_letter;
 use writers::put_number;
@@ -158,7 +160,7 @@ pub fn site_lines(
     buf: &mut [u8],
     at: usize,
 ) -> usize
-    requires { ⌜ (at < 200000) × (n ≤ 256) × AllNamed (now sheet) (now start) (now end) n × Owners (now sheet) (now start) (now end) (now owner) n ⌝ }
+    requires { ⌜ (at < 200000) × (n ≤ SITES) × AllNamed (now sheet) (now start) (now end) n × Owners (now sheet) (now start) (now end) (now owner) n ⌝ }
     ensures { λ r. ⌜ Wrote (now (buf .entry)) at (lines (siteLine (nameBy (now (sheet .entry)) (now (start .entry)) (now (end .entry))) (now (owner .entry))) (sites n)) (now (buf .exit)) r × (r ≤ at + 28 * n) ⌝ }
 {
     let mut next = at;
@@ -202,7 +204,7 @@ pub fn cut_lines(
     buf: &mut [u8],
     at: usize,
 ) -> usize
-    requires { ⌜ (at < 200000) × (n ≤ 256) × AllNamed (now sheet) (now start) (now end) n × (n ≤ length (now size)) × (n ≤ length (now count)) ⌝ }
+    requires { ⌜ (at < 200000) × (n ≤ SITES) × AllNamed (now sheet) (now start) (now end) n × (n ≤ length (now size)) × (n ≤ length (now count)) ⌝ }
     ensures { λ r. ⌜ Wrote (now (buf .entry)) at (lines (heldLine (nameBy (now (sheet .entry)) (now (start .entry)) (now (end .entry))) (now (size .entry)) (now (count .entry))) (sites n)) (now (buf .exit)) r × (r ≤ at + 57 * n) ⌝ }
 {
     let mut next = at;
@@ -235,7 +237,7 @@ pub fn pair_lines(
     sheet: &[u8],
     start: &[usize],
     end: &[usize],
-    pairs: [Pair; 256],
+    pairs: [Pair; SITES],
     n: usize,
     buf: &mut [u8],
     at: usize,
@@ -253,8 +255,8 @@ pub fn pair_lines(
 }
 
 // The sum of the amounts of the first n pairs of a list.
-fn amounts(pairs: [Pair; 256], n: usize) -> u64
-    requires { ⌜ (n ≤ 256) × (n ≤ length pairs) × (total (take n pairs) < 1000000000000) ⌝ }
+fn amounts(pairs: [Pair; SITES], n: usize) -> u64
+    requires { ⌜ (n ≤ SITES) × (n ≤ length pairs) × (total (take n pairs) < 1000000000000) ⌝ }
     ensures { λ r. ⌜ r ≡ total (take n pairs) ⌝ }
 {
     let mut sum = 0;
@@ -268,8 +270,8 @@ fn amounts(pairs: [Pair; 256], n: usize) -> u64
 }
 
 // The heading over the first n pairs of a list, from the start of the buffer. Only the planner's own crates call it.
-pub fn heading(pairs: [Pair; 256], n: usize, buf: &mut [u8]) -> usize
-    requires { ⌜ (n ≤ 256) × (n ≤ length pairs) × (total (take n pairs) < 1000000000000) ⌝ }
+pub fn heading(pairs: [Pair; SITES], n: usize, buf: &mut [u8]) -> usize
+    requires { ⌜ (n ≤ SITES) × (n ≤ length pairs) × (total (take n pairs) < 1000000000000) ⌝ }
     ensures { λ r. ⌜ Wrote (now (buf .entry)) 0 (planRecord (total (take n pairs)) n) (now (buf .exit)) r × (r ≤ 47) ⌝ }
 {
     let halves = amounts(pairs, n);

@@ -8,6 +8,7 @@ use native.Mathlib.Nat.{sub-zero}
 use native.Mathlib.Numerals.{add-one}
 use native.Mathlib.Omega.{arith}
 use lib.ListN.{length, replicate, set, length-append, length-map}
+use Rattle.network.specs.Limits.{PLACES, SITES}
 use Rattle.network.specs.Numbers.{look, upfrom}
 use Rattle.network.specs.Network.{Site, relabel}
 use Rattle.network.specs.Edition.{edition1}
@@ -32,11 +33,11 @@ use Rattle.sheet.specs.declared.Network.{Network as Lists}
 use Rattle.sheet.specs.declared.Answer.the-variants.{Accepted}
 
 -- an element more of a list, in the first free place of the list of one of its parts
-placed : (f : ℕ × ℕ → ℕ) (rs : List (ℕ × ℕ)) (r : ℕ × ℕ) → length rs < 256 → set (padded 256 (map f rs)) (length rs) (f r) ≡ padded 256 (map f (rs ++ (r ∷ [])))
+placed : (f : ℕ × ℕ → ℕ) (rs : List (ℕ × ℕ)) (r : ℕ × ℕ) → length rs < SITES → set (padded SITES (map f rs)) (length rs) (f r) ≡ padded SITES (map f (rs ++ (r ∷ [])))
 placed f rs r h =
-    ap (λ n. set (padded 256 (map f rs)) n (f r)) (sym (length-map rs f))
-    ∙ padded-more 256 (map f rs) (f r) (omega (arith, length-map rs f))
-    ∙ ap (padded 256) (sym (map-append f rs (r ∷ [])))
+    ap (λ n. set (padded SITES (map f rs)) n (f r)) (sym (length-map rs f))
+    ∙ padded-more SITES (map f rs) (f r) (omega (arith, length-map rs f))
+    ∙ ap (padded SITES) (sym (map-append f rs (r ∷ [])))
 
 -- the lists with one site more, and with one link more
 abbrev withSite : Lists → ℕ → ℕ → Lists
@@ -66,18 +67,18 @@ pub record Progress (s : List ℕ) (net : Lists) (table marks : List ℕ) (at nu
   pub read : Network
   pub lists-are : net ≡ lists read
   pub indexed : Indexes s (read .names) table
-  pub labels-are : marks ≡ labels 257 (reverse (read .links))
+  pub labels-are : marks ≡ labels PLACES (reverse (read .links))
   pub sound : Sound edition1 s read
   pub on-sheet : at ≤ length s
   pub numbered : number ≤ at + 1
   pub rest : readLines edition1 s (length s) 1 0 empty ≡ readLines edition1 s (length s - at) number at read
 
-pub start : (s : List ℕ) → Progress s (lists empty) (replicate 16384 0) (upfrom 0 257) 0 1
+pub start : (s : List ℕ) → Progress s (lists empty) (replicate 16384 0) (upfrom 0 PLACES) 0 1
 start s = record {
   read = empty;
   lists-are = refl;
   indexed = no-sites s;
-  labels-are = sym (own-labels 257);
+  labels-are = sym (own-labels PLACES);
   sound = none-is-sound edition1 s;
   on-sheet = omega arith;
   numbered = omega arith;
@@ -94,13 +95,13 @@ module _ {s table marks : List ℕ} {net : Lists} {at number : ℕ} (P : Progres
   unfolding lists
   links-are = ap (λ n. n .links) (P .lists-are)
 
-  pub lengths : (length marks ≡ 257) × (net .sites ≤ 256)
-  lengths = (ap length (P .labels-are) ∙ length-labels 257 (reverse (P .read .links)), omega (arith, sites-are, P .sound .few))
+  pub lengths : (length marks ≡ PLACES) × (net .sites ≤ SITES)
+  lengths = (ap length (P .labels-are) ∙ length-labels PLACES (reverse (P .read .links)), omega (arith, sites-are, P .sound .few))
 
   -- the names of the lists, of which the table is
   ranges-are : ranges (net .start) (net .end) 0 (net .sites) ≡ P .read .names
   unfolding lists
-  ranges-are = rw (P .lists-are) (names-are 256 (P .read .names))
+  ranges-are = rw (P .lists-are) (names-are SITES (P .read .names))
 
   pub table-is : Indexes s (ranges (net .start) (net .end) 0 (net .sites)) table
   table-is = rw ranges-are (P .indexed)
@@ -110,7 +111,7 @@ module _ {s table marks : List ℕ} {net : Lists} {at number : ℕ} (P : Progres
     line-is : readLine edition1 s (P .read) number at ≡ applied (P .read) number w
     line-is =
         let here = rw (ranges-are, P .labels-are) at e in
-        step-reads-the-line (P .read) number 257 (omega (arith, P .sound .few)) edition1 s at ∙ ap (applied (P .read) number) (sym here)
+        step-reads-the-line (P .read) number PLACES (omega (arith, P .sound .few)) edition1 s at ∙ ap (applied (P .read) number) (sym here)
 
     -- the network after a line is sound
     sound-next : (next : Network) → applied (P .read) number w ≡ accepted next → Sound edition1 s next
@@ -118,7 +119,7 @@ module _ {s table marks : List ℕ} {net : Lists} {at number : ℕ} (P : Progres
 
     -- and the lines left go on from it
     on : (next : Network) → applied (P .read) number w ≡ accepted next → (after : Lists) → after ≡ lists next → (entries : List ℕ) → Indexes s (next .names) entries
-        → (joined : List ℕ) → joined ≡ labels 257 (reverse (next .links)) → Progress s after entries joined (at + length (lineAt s at) + 1) (number + 1)
+        → (joined : List ℕ) → joined ≡ labels PLACES (reverse (next .links)) → Progress s after entries joined (at + length (lineAt s at) + 1) (number + 1)
     unfolding afterLine andThen
     on next q after l entries t joined m =
         let read = line-is ∙ q in
@@ -141,7 +142,7 @@ module _ {s table marks : List ℕ} {net : Lists} {at number : ℕ} (P : Progres
     by-heading q = on (P .read) (ap (applied (P .read) number) q) net (P .lists-are) table (P .indexed) marks (P .labels-are)
 
     -- a site takes the next place of the names
-    pub site-fits : (a b : ℕ) → w ≡ step.Site a b → net .sites < 256
+    pub site-fits : (a b : ℕ) → w ≡ step.Site a b → net .sites < SITES
     site-fits a b q = omega (arith, sites-are, sound-next _ (ap (applied (P .read) number) q) .few, length-append (P .read .names) ((a, b) ∷ []))
 
     pub by-site : (a b : ℕ) → w ≡ step.Site a b → (entries : List ℕ) → entries ≡ entered table (hash (part s (a, b))) (net .sites + 1)
@@ -149,7 +150,7 @@ module _ {s table marks : List ℕ} {net : Lists} {at number : ℕ} (P : Progres
     unfolding lists
     by-site a b q entries e =
         let names = P .read .names in
-        let room : length names < 256 = omega (arith, sites-are, site-fits a b q) in
+        let room : length names < SITES = omega (arith, sites-are, site-fits a b q) in
         on (record { names = names ++ ((a, b) ∷ []); links = P .read .links; capacities = P .read .capacities }) (ap (applied (P .read) number) q) _
         (rw (P .lists-are, placed (λ r. r .0) names (a, b) room, placed (λ r. r .1) names (a, b) room, length-append names ((a, b) ∷ [])))
         entries (rw (e, sites-are) (site-entered (P .indexed) (a, b)))
@@ -159,7 +160,7 @@ module _ {s table marks : List ℕ} {net : Lists} {at number : ℕ} (P : Progres
     link-behind : (a b : ℕ) → reverse (P .read .links ++ ((a, b) ∷ [])) ≡ (a, b) ∷ reverse (P .read .links)
     link-behind a b = reverseAux-append (P .read .links) ((a, b) ∷ []) []
 
-    pub link-fits : (a b size : ℕ) → w ≡ step.Link a b size → (net .links < 256) × (a < 257) × (b < 257)
+    pub link-fits : (a b size : ℕ) → w ≡ step.Link a b size → (net .links < SITES) × (a < PLACES) × (b < PLACES)
     link-fits a b size q =
         let are-sites : Site (length (P .read .names)) a × Site (length (P .read .names)) b
         = rw (link-behind a b) at (sound-next _ (ap (applied (P .read) number) q) .ends) 0 (omega arith) in
@@ -173,14 +174,14 @@ module _ {s table marks : List ℕ} {net : Lists} {at number : ℕ} (P : Progres
         let ls = P .read .links in
         let cs = P .read .capacities in
         let fits = link-fits a b size q in
-        let room : length ls < 256 = omega (arith, links-are) in
-        let sized : set (padded 256 cs) (length ls) size ≡ padded 256 (cs ++ (size ∷ []))
-        = rw (← (P .sound .capacities)) (padded-more 256 cs size (omega (arith, P .sound .capacities))) in
+        let room : length ls < SITES = omega (arith, links-are) in
+        let sized : set (padded SITES cs) (length ls) size ≡ padded SITES (cs ++ (size ∷ []))
+        = rw (← (P .sound .capacities)) (padded-more SITES cs size (omega (arith, P .sound .capacities))) in
         on (record { names = P .read .names; links = ls ++ ((a, b) ∷ []); capacities = cs ++ (size ∷ []) }) (ap (applied (P .read) number) q) _
         (rw (P .lists-are, placed (λ l. l .0) ls (a, b) room, placed (λ l. l .1) ls (a, b) room, sized, length-append ls ((a, b) ∷ [])))
         table (P .indexed)
         joined
-        (e ∙ linked-sites marks a b (omega (arith, lengths)) (omega (arith, lengths)) ∙ ap (λ m. map (relabel (look m a) (look m b)) m) (P .labels-are) ∙ labels-join 257 a b (reverse ls) (fits .1) (fits .2) ∙ ap (labels 257) (sym (link-behind a b)))
+        (e ∙ linked-sites marks a b (omega (arith, lengths)) (omega (arith, lengths)) ∙ ap (λ m. map (relabel (look m a) (look m b)) m) (P .labels-are) ∙ labels-join PLACES a b (reverse ls) (fits .1) (fits .2) ∙ ap (labels PLACES) (sym (link-behind a b)))
 
     -- a refused line decides
     pub by-refusal : (n : ℕ) → w ≡ step.Refused n → andThen (readLines edition1 s (length s) 1 0 empty) finish ≡ refused n number
@@ -197,7 +198,7 @@ module _ {s table marks : List ℕ} {net : Lists} {at number : ℕ} (P : Progres
     all-joined : finish (P .read) ≡ cond (whole marks (net .sites)) (accepted (P .read)) (refused 8 0)
     unfolding finish
     all-joined =
-        rw (whole-sites marks (net .sites) (omega (arith, lengths)), alike-tells (P .read .links) 257 1 (length (P .read .names)) (omega arith) (omega (arith, P .sound .few)), ← (P .labels-are), ← sites-are)
+        rw (whole-sites marks (net .sites) (omega (arith, lengths)), alike-tells (P .read .links) PLACES 1 (length (P .read .names)) (omega arith) (omega (arith, P .sound .few)), ← (P .labels-are), ← sites-are)
 
     -- under two sites, or not all joined
     pub by-parts : whole marks (net .sites) ≡ false → andThen (readLines edition1 s (length s) 1 0 empty) finish ≡ refused 8 0

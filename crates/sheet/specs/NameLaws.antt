@@ -4,6 +4,7 @@ use mathlib.Core.Path.{_≡_, refl, ap}
 use Prim.Native.Nat.{ℕ, zero, suc, _<_}
 use native.Mathlib.Omega.{arith}
 use lib.ListN.{List·getD-eq-default, List·getD-map}
+use Rattle.network.specs.Limits.{SITES}
 use Rattle.network.specs.Numbers.{look}
 use Rattle.network.specs.declared.Edition.{Edition}
 use Rattle.sheet.specs.Sheet.{Read, refused, accepted, part, readSheet, nameIn, nameOf}
@@ -33,11 +34,11 @@ no-site-above ed s (suc k) h = by (readSheet ed s) refl
 -- the lists of the answer give the range of a site's name
 pub name-by-lists : (s : List ℕ) (r : Read) (i : ℕ) → part s (look (reading r .network .start) i, look (reading r .network .end) i) ≡ nameIn s (suc i) r
 unfolding reading lists nameIn
-name-by-lists s (refused n k) i = rw (look-padded 256 [] i)
+name-by-lists s (refused n k) i = rw (look-padded SITES [] i)
 name-by-lists s (accepted net) i =
     rw (
-      look-padded 256 (map (λ r. r .0) (net .names)) i,
-      look-padded 256 (map (λ r. r .1) (net .names)) i,
+      look-padded SITES (map (λ r. r .0) (net .names)) i,
+      look-padded SITES (map (λ r. r .1) (net .names)) i,
       List·getD-map (λ r. r .0) (net .names) i (0, 0),
       List·getD-map (λ r. r .1) (net .names) i (0, 0),
     )

@@ -1,8 +1,9 @@
--- The answer of the code for what reading a sheet comes to: the network as lists of 256 places.
+-- The answer of the code for what reading a sheet comes to: the network as lists of SITES places.
 -- Document 01, "The network sheet"; the table's columns "No." and "Returned".
 use mathlib.Core.List.{List, _++_, map}
 use Prim.Native.Nat.{ℕ, _-_}
 use lib.ListN.{length, replicate}
+use Rattle.network.specs.Limits.{SITES}
 use Rattle.sheet.specs.Sheet.{Network, empty, Read, refused, accepted}
 use Rattle.sheet.specs.declared.Answer.the-variants.{Accepted, Refused}
 use Rattle.sheet.specs.declared.Network.{Network as Lists}
@@ -15,11 +16,11 @@ padded n l = l ++ replicate (n - length l) 0
 -- a network as lists
 unfoldable pub lists : Network → Lists
 lists net = record {
-  start = padded 256 (map (λ r. r .0) (net .names));
-  end = padded 256 (map (λ r. r .1) (net .names));
-  one = padded 256 (map (λ l. l .0) (net .links));
-  two = padded 256 (map (λ l. l .1) (net .links));
-  capacity = padded 256 (net .capacities);
+  start = padded SITES (map (λ r. r .0) (net .names));
+  end = padded SITES (map (λ r. r .1) (net .names));
+  one = padded SITES (map (λ l. l .0) (net .links));
+  two = padded SITES (map (λ l. l .1) (net .links));
+  capacity = padded SITES (net .capacities);
   sites = length (net .names);
   links = length (net .links);
 }

@@ -4,7 +4,9 @@ ghost use lib.ListN.{length};
 ghost use Rattle.network.specs.Edition.{edition1};
 ghost use Rattle.sheet.specs.Sheet.{empty, refused, readLines, andThen, finish, readSheet, nameOf};
 ghost use Rattle.sheet.specs.Reading.{lists, reading};
+use names::HASHES;
 use network::Edition;
+use network::SITES;
 use steps::Step;
 
 // What a sheet is answered: accepted, or refused with the refusal's number and its line.
@@ -16,11 +18,11 @@ pub enum Answer {
 // The network of a sheet: for each site the range of its name on the sheet, for each link its two sites and its capacity, each in the
 // order of the sheet, with zeros behind them; and how many sites and links there are.
 pub struct Network {
-    pub start: [usize; 256],
-    pub end: [usize; 256],
-    pub one: [usize; 256],
-    pub two: [usize; 256],
-    pub capacity: [u64; 256],
+    pub start: [usize; SITES],
+    pub end: [usize; SITES],
+    pub one: [usize; SITES],
+    pub two: [usize; SITES],
+    pub capacity: [u64; SITES],
     pub sites: usize,
     pub links: usize,
 }
@@ -36,11 +38,11 @@ fn nothing() -> Network
     ensures { λ r. ⌜ r ≡ lists empty ⌝ }
 {
     Network {
-        start: [0; 256],
-        end: [0; 256],
-        one: [0; 256],
-        two: [0; 256],
-        capacity: [0; 256],
+        start: [0; SITES],
+        end: [0; SITES],
+        one: [0; SITES],
+        two: [0; SITES],
+        capacity: [0; SITES],
         sites: 0,
         links: 0,
     }
@@ -61,7 +63,7 @@ fn read_lines(sheet: &[u8]) -> Reading
     ensures { λ r. ⌜ r ≡ reading (andThen (readLines edition1 (now (sheet .entry)) (length (now (sheet .entry))) 1 0 empty) finish) ⌝ }
 {
     let mut net = nothing();
-    let mut table = [0u16; 16384];
+    let mut table = [0u16; HASHES];
     let mut labels = labels::own_labels();
     let mut at = 0;
     let mut number = 1;

@@ -2,6 +2,7 @@
 ghost use mathlib.Core.Path.{_≡_};
 ghost use Prim.Native.Nat.{_+_, _≤_, _<_};
 ghost use lib.ListN.{length};
+ghost use Rattle.network.specs.Limits.{PLACES, SITES};
 ghost use Rattle.network.specs.Edition.{edition1};
 ghost use Rattle.lines.specs.Lines.{lineAt};
 ghost use Rattle.line_kinds.specs.FormedLines.{Formed};
@@ -9,7 +10,10 @@ ghost use Rattle.names.specs.Names.{ranges, Indexes};
 ghost use Rattle.steps.specs.Steps.{siteStep, Labelled, linkStep, headingStep, recordStep, stepAt};
 use line_kinds::Line;
 use names::Found;
+use names::HASHES;
 use network::Edition;
+use network::PLACES;
+use network::SITES;
 
 // What a line adds to the network, or the number of its refusal.
 pub enum Step {
@@ -33,8 +37,8 @@ fn site_step(sites: usize, found: Found, start: usize, end: usize) -> Step
 }
 
 // What a link line adds, by what the look-ups of its two names found, and the labels of the sites.
-fn link_step(labels: &[u16; 257], first: Found, second: Found, size: u64) -> Step
-    requires { ⌜ Labelled 257 first × Labelled 257 second ⌝ }
+fn link_step(labels: &[u16; PLACES], first: Found, second: Found, size: u64) -> Step
+    requires { ⌜ Labelled PLACES first × Labelled PLACES second ⌝ }
     ensures { λ r. ⌜ r ≡ linkStep (now (labels .entry)) size first second ⌝ }
 {
     let Found::At(one) = first else {
@@ -70,15 +74,15 @@ fn heading_step(line: Line) -> Step
 // What a later line adds, at an offset.
 fn record_step(
     sheet: &[u8],
-    starts: &[usize; 256],
-    ends: &[usize; 256],
+    starts: &[usize; SITES],
+    ends: &[usize; SITES],
     sites: usize,
-    table: &[u16; 16384],
-    labels: &[u16; 257],
+    table: &[u16; HASHES],
+    labels: &[u16; PLACES],
     at: usize,
     line: Line,
 ) -> Step
-    requires { ⌜ (sites ≤ 256) × Indexes (now sheet) (ranges (now starts) (now ends) 0 sites) (now table) × (at + length (lineAt (now sheet) at) < length (now sheet)) × Formed (edition1 .size) (lineAt (now sheet) at) line ⌝ }
+    requires { ⌜ (sites ≤ SITES) × Indexes (now sheet) (ranges (now starts) (now ends) 0 sites) (now table) × (at + length (lineAt (now sheet) at) < length (now sheet)) × Formed (edition1 .size) (lineAt (now sheet) at) line ⌝ }
     ensures { λ r. ⌜ r ≡ recordStep edition1 (now (sheet .entry)) (ranges (now (starts .entry)) (now (ends .entry)) 0 sites) (now (labels .entry)) at line ⌝ }
 {
     match line {
@@ -108,15 +112,15 @@ fn record_step(
 pub fn step_at<'a>(
     sheet: &[u8],
     line: &[u8],
-    starts: &'a [usize; 256],
-    ends: &'a [usize; 256],
+    starts: &'a [usize; SITES],
+    ends: &'a [usize; SITES],
     sites: usize,
-    table: &[u16; 16384],
-    labels: &[u16; 257],
+    table: &[u16; HASHES],
+    labels: &[u16; PLACES],
     number: usize,
     at: usize,
 ) -> Step
-    requires { ⌜ (sites ≤ 256) × Indexes (now sheet) (ranges (now starts) (now ends) 0 sites) (now table) × (at ≤ length (now sheet)) × (now line ≡ lineAt (now sheet) at) ⌝ }
+    requires { ⌜ (sites ≤ SITES) × Indexes (now sheet) (ranges (now starts) (now ends) 0 sites) (now table) × (at ≤ length (now sheet)) × (now line ≡ lineAt (now sheet) at) ⌝ }
     ensures { λ r. ⌜ r ≡ stepAt edition1 (now (sheet .entry)) (ranges (now (starts .entry)) (now (ends .entry)) 0 sites) (now (labels .entry)) number at ⌝ }
 {
     if at + line.len() >= sheet.len() {

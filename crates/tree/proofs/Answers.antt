@@ -4,6 +4,7 @@ use mathlib.Core.Bool.{Bool, true, false}
 use mathlib.Core.List.{List}
 use Prim.Native.Nat.{ℕ}
 use native.Mathlib.Omega.{arith}
+use Rattle.network.specs.Limits.{SITES}
 use Rattle.theory.specs.Trees.{loopless}
 use Rattle.elimination.specs.Links.{length-links, links-one, links-two}
 use Rattle.elimination.specs.Steps.{Proper}
@@ -22,8 +23,8 @@ pub tells-of : (b : Bool) {P Q : Type 0} → (P → Q) → (Q → P) → Tells b
 tells-of true f g t = f t
 tells-of false f g t = λ q. t (g q)
 
--- a tree of at most 256 sites has links between different sites
-pub a-tree-is-proper : {n : ℕ} {a b : List ℕ} → TreeOf 256 n a b → Proper n a b
+-- a tree of at most SITES sites has links between different sites
+pub a-tree-is-proper : {n : ℕ} {a b : List ℕ} → TreeOf SITES n a b → Proper n a b
 a-tree-is-proper {n} {a} {b} t =
     let all = length-links a b (omega arith) in
     record {

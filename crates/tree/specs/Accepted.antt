@@ -8,10 +8,11 @@ use borrow.Author.Tests.{leb-true, eqb-true, le-leb, eq-eqb}
 use lib.Dec.{eqb, leb}
 use lib.Seq.{take-at}
 use lib.ListN.{length, take, replicate}
+use Rattle.network.specs.Limits.{SITES}
 use Rattle.network.specs.Numbers.{count, look}
 use Rattle.network.specs.Network.{Links, Site, Tree, label, sites}
 use Rattle.network.specs.Trimming.{elimination, InwardOrder}
-use Rattle.network.specs.Edition.{edition1}
+use Rattle.network.specs.Edition.{largest}
 use Rattle.network.specs.declared.Edition.{Edition}
 use Rattle.theory.specs.Sums.{is-same, is-other, same?}
 use Rattle.theory.specs.Sites.{sites-once, sites-site}
@@ -170,34 +171,34 @@ said Accepted order = refl
 
 in-order : (o : Offer) (n : ℕ) (order : List ℕ) → o ≡ Accepted → length order ≡ n → take n (decide o (orderIn n order) .sites) ≡ order
 unfolding decide orderIn
-in-order o n order e l = rw e (take-at order (replicate (256 - n) 0) n l)
+in-order o n order e l = rw e (take-at order (replicate (SITES - n) 0) n l)
 
 module _ (n : ℕ) (a b c : List ℕ) where
-  pub eliminated-says : eliminated n a b c .offer ≡ offer edition1 n a b c
+  pub eliminated-says : eliminated n a b c .offer ≡ offer largest n a b c
   unfolding eliminated
-  eliminated-says = said (offer edition1 n a b c) (orderIn n (elimination (links a b) n))
+  eliminated-says = said (offer largest n a b c) (orderIn n (elimination (links a b) n))
 
-  pub eliminated-in-order : offer edition1 n a b c ≡ Accepted → take n (eliminated n a b c .sites) ≡ elimination (links a b) n
+  pub eliminated-in-order : offer largest n a b c ≡ Accepted → take n (eliminated n a b c .sites) ≡ elimination (links a b) n
   unfolding eliminated
-  eliminated-in-order e = in-order (offer edition1 n a b c) n (elimination (links a b) n) e (length-elimination (links a b) n)
+  eliminated-in-order e = in-order (offer largest n a b c) n (elimination (links a b) n) e (length-elimination (links a b) n)
 
   module _ (root : ℕ) where
-    pub eliminated-toward-says : eliminatedToward n a b c root .offer ≡ offer edition1 n a b c
+    pub eliminated-toward-says : eliminatedToward n a b c root .offer ≡ offer largest n a b c
     unfolding eliminatedToward
-    eliminated-toward-says = said (offer edition1 n a b c) (orderIn n (eliminationToward (links a b) n root))
+    eliminated-toward-says = said (offer largest n a b c) (orderIn n (eliminationToward (links a b) n root))
 
     -- an accepted offer is answered with the order toward the root: from outside inward, and the root last
-    pub eliminated-toward-in-order : offer edition1 n a b c ≡ Accepted → take n (eliminatedToward n a b c root .sites) ≡ eliminationToward (links a b) n root
+    pub eliminated-toward-in-order : offer largest n a b c ≡ Accepted → take n (eliminatedToward n a b c root .sites) ≡ eliminationToward (links a b) n root
     unfolding eliminatedToward
     eliminated-toward-in-order e =
-        let big = accepted-is-a-tree-within-the-limits edition1 n a b c e .tree .big in
-        in-order (offer edition1 n a b c) n (eliminationToward (links a b) n root) e (length-elimination-toward (links a b) n root (omega arith))
+        let big = accepted-is-a-tree-within-the-limits largest n a b c e .tree .big in
+        in-order (offer largest n a b c) n (eliminationToward (links a b) n root) e (length-elimination-toward (links a b) n root (omega arith))
 
-    pub eliminated-toward-is-inward : offer edition1 n a b c ≡ Accepted → InwardOrder (links a b) n (take n (eliminatedToward n a b c root .sites))
+    pub eliminated-toward-is-inward : offer largest n a b c ≡ Accepted → InwardOrder (links a b) n (take n (eliminatedToward n a b c root .sites))
     eliminated-toward-is-inward e =
-        rw (eliminated-toward-in-order e) (elimination-toward-a-root-is-inward (accepted-is-a-tree-within-the-limits edition1 n a b c e .tree) root)
+        rw (eliminated-toward-in-order e) (elimination-toward-a-root-is-inward (accepted-is-a-tree-within-the-limits largest n a b c e .tree) root)
 
-    pub eliminated-toward-ends-at-the-root : offer edition1 n a b c ≡ Accepted → Site n root → look (take n (eliminatedToward n a b c root .sites)) (n - 1) ≡ root
+    pub eliminated-toward-ends-at-the-root : offer largest n a b c ≡ Accepted → Site n root → look (take n (eliminatedToward n a b c root .sites)) (n - 1) ≡ root
     eliminated-toward-ends-at-the-root e p = rw (eliminated-toward-in-order e) (ends-at-the-root (links a b) n root p)
 
     -- a root that is no site changes nothing

@@ -3,7 +3,8 @@
 use mathlib.Core.List.{List}
 use Prim.Native.Nat.{ℕ}
 use lib.ListN.{replicate}
-use Rattle.network.specs.Edition.{edition1}
+use Rattle.network.specs.Limits.{SITES}
+use Rattle.network.specs.Edition.{largest}
 use Rattle.network.specs.Trimming.{elimination}
 use Rattle.elimination.specs.Toward.{eliminationToward, orderIn}
 use Rattle.tree.specs.Offer.{links, offer}
@@ -11,9 +12,9 @@ use Rattle.tree.specs.declared.Elimination.{Elimination}
 use Rattle.tree.specs.declared.Offer.{Offer}
 use Rattle.tree.specs.declared.Offer.the-variants.{NoTree, TooLarge, Accepted}
 
--- an answer without an order: 0 in all 256 places
+-- an answer without an order: 0 in all SITES places
 abbrev pub unordered : Offer → Elimination
-unordered o = record { offer = o; sites = replicate 256 0 }
+unordered o = record { offer = o; sites = replicate SITES 0 }
 
 -- the answer by what is said of the offer, with this order if it is accepted
 unfoldable pub decide : Offer → List ℕ → Elimination
@@ -23,8 +24,8 @@ decide Accepted order = record { offer = Accepted; sites = order }
 
 -- the answer to an offer of n sites, the first and second sites of the links, and the capacities
 unfoldable pub eliminated : ℕ → List ℕ → List ℕ → List ℕ → Elimination
-eliminated n one two c = decide (offer edition1 n one two c) (orderIn n (elimination (links one two) n))
+eliminated n one two c = decide (offer largest n one two c) (orderIn n (elimination (links one two) n))
 
 -- the same with the order that takes the root last
 unfoldable pub eliminatedToward : ℕ → List ℕ → List ℕ → List ℕ → ℕ → Elimination
-eliminatedToward n one two c root = decide (offer edition1 n one two c) (orderIn n (eliminationToward (links one two) n root))
+eliminatedToward n one two c root = decide (offer largest n one two c) (orderIn n (eliminationToward (links one two) n root))

@@ -3,6 +3,7 @@ use mathlib.Core.Path.{_≡_}
 use mathlib.Core.Bool.{Bool, true, false}
 use mathlib.Core.List.{List}
 use Prim.Native.Nat.{ℕ}
+use Rattle.network.specs.Limits.{SITES}
 use Rattle.elimination.specs.Toward.{eliminationToward, orderIn}
 use Rattle.elimination.specs.declared.Order.{Order}
 use Rattle.tree.specs.Offer.{links, isTree}
@@ -12,7 +13,7 @@ abbrev pub Tells : Bool → Type 0 → Type 0
 Tells true P = P
 Tells false P = P → ⊥
 
--- r tells whether the links make a tree of at most 256 sites, and then has their order toward the root
+-- r tells whether the links make a tree of at most SITES sites, and then has their order toward the root
 pub record Ordered (n : ℕ) (one two : List ℕ) (root : ℕ) (r : Order) : Type 0 where
-  pub tree : r .all ≡ isTree 256 n one two
+  pub tree : r .all ≡ isTree SITES n one two
   pub order : r .all ≡ true → r .sites ≡ orderIn n (eliminationToward (links one two) n root)

@@ -1,11 +1,12 @@
 // A tree that is offered as lists: whether it is one within the limits of the edition, and the elimination order of its sites.
 use elimination::Order;
 use network::Edition;
+use network::SITES;
 ghost use mathlib.Core.Path.{_≡_};
 ghost use Prim.Native.Nat.{ℕ, _<_};
 ghost use lib.ListN.{length};
 ghost use Rattle.network.specs.Numbers.{look};
-ghost use Rattle.network.specs.Edition.{edition1};
+ghost use Rattle.network.specs.Edition.{largest};
 ghost use Rattle.elimination.specs.Steps.{Link, Proper};
 ghost use Rattle.tree.specs.Offer.{within, offerOf, offer};
 ghost use Rattle.tree.specs.Elimination.{decide, eliminated, eliminatedToward};
@@ -68,7 +69,7 @@ fn all_links(n: usize, one: &[usize], two: &[usize]) -> bool
     true
 }
 
-// Whether there are 2 to 256 sites and one link less, each between two different sites.
+// Whether there are 2 to SITES sites and one link less, each between two different sites.
 fn is_proper(n: usize, one: &[usize], two: &[usize]) -> bool
     ensures { λ r. ⌜ Tells r (Proper n (now (one .entry)) (now (two .entry))) ⌝ }
 {
@@ -87,13 +88,13 @@ fn is_proper(n: usize, one: &[usize], two: &[usize]) -> bool
     all_links(n, one, two)
 }
 
-// Whether n sites and their links are a tree of 2 to 256 sites, and then the order of its sites toward a root.
+// Whether n sites and their links are a tree of 2 to SITES sites, and then the order of its sites toward a root.
 fn order_of(n: usize, one: &[usize], two: &[usize], root: usize) -> Order
     ensures { λ r. ⌜ Ordered n (now (one .entry)) (now (two .entry)) root r ⌝ }
 {
     if !is_proper(n, one, two) {
         return Order {
-            sites: [0usize; 256],
+            sites: [0usize; SITES],
             all: false,
         };
     }
@@ -105,7 +106,7 @@ fn order_of(n: usize, one: &[usize], two: &[usize], root: usize) -> Order
 
 // What is said of an offer, by whether its links make a tree, how many they are, and the capacities.
 fn offer_of(tree: bool, links: usize, capacity: &[u64]) -> Offer
-    ensures { λ r. ⌜ r ≡ offerOf edition1 tree links (now (capacity .entry)) ⌝ }
+    ensures { λ r. ⌜ r ≡ offerOf largest tree links (now (capacity .entry)) ⌝ }
 {
     if !tree {
         return Offer::NoTree;
@@ -122,16 +123,16 @@ fn offer_of(tree: bool, links: usize, capacity: &[u64]) -> Offer
 // What is said of an offered tree, and the elimination order of its sites: 0 past the last site, and everywhere if it is refused.
 pub struct Elimination {
     pub offer: Offer,
-    pub sites: [usize; 256],
+    pub sites: [usize; SITES],
 }
 
 // The order if the offer is accepted, else 0 everywhere.
-fn kept(offer: Offer, order: [usize; 256]) -> [usize; 256]
+fn kept(offer: Offer, order: [usize; SITES]) -> [usize; SITES]
     ensures { λ r. ⌜ r ≡ decide offer order .sites ⌝ }
 {
     match offer {
-        Offer::NoTree => [0usize; 256],
-        Offer::TooLarge => [0usize; 256],
+        Offer::NoTree => [0usize; SITES],
+        Offer::TooLarge => [0usize; SITES],
         Offer::Accepted => order,
     }
 }
@@ -163,7 +164,7 @@ pub fn eliminate(n: usize, one: &[usize], two: &[usize], capacity: &[u64]) -> El
 
 // What is said of an offer of n sites, the two sites of each link and the capacities.
 pub fn test(n: usize, one: &[usize], two: &[usize], capacity: &[u64]) -> Offer
-    ensures { λ r. ⌜ r ≡ offer edition1 n (now (one .entry)) (now (two .entry)) (now (capacity .entry)) ⌝ }
+    ensures { λ r. ⌜ r ≡ offer largest n (now (one .entry)) (now (two .entry)) (now (capacity .entry)) ⌝ }
 {
     let answer = eliminate(n, one, two, capacity);
     answer.offer

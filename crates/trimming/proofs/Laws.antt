@@ -7,9 +7,10 @@ use native.Mathlib.Omega.{arith}
 use native.Mathlib.Decide.{decLt}
 use lib.Seq.{getD-take, getD-append-add, getD-append-seam, take-at, drop-at, length-take-le}
 use lib.ListN.{length, take, drop, take-append-drop, length-append, length-reverse, List·getD-append}
+use Rattle.network.specs.Limits.{SITES}
 use Rattle.network.specs.Numbers.{count, look}
 use Rattle.network.specs.Network.{Links, at, sumAt, leaf}
-use Rattle.network.specs.Edition.{edition1}
+use Rattle.network.specs.Edition.{largest}
 use Rattle.network.specs.Trimming.{cutAt, cutSite, cutSites, elimination, balancedAlong, balanced}
 use Rattle.theory.specs.Sums.{pick-same, pick-other, cases, same?, is-same}
 use Rattle.theory.specs.Sites.{sumAt-same, sites-site}
@@ -139,7 +140,7 @@ module _ (n : ℕ) (order : List ℕ) (h : n ≤ length order) (i : ℕ) (l : i 
       sym (ap (look (o ++ reverse o)) seam ∙ getD-append-add o (reverse o) (i - n) 0 ∙ look-reverse o (i - n) (omega arith) ∙ ap (look o) place ∙ getD-take n order (min i (2 * n - 1 - i)) 0 (omega arith)))
 
   -- each of them is a place of the order
-  pub up-to-on-the-way : UpTo256 (take n order) → look order (min i (2 * n - 1 - i)) ≤ 256
+  pub up-to-on-the-way : UpTo256 (take n order) → look order (min i (2 * n - 1 - i)) ≤ SITES
   up-to-on-the-way u =
       let place : min i (2 * n - 1 - i) < n = omega arith in
       omega (arith, getD-take n order (min i (2 * n - 1 - i)) 0 place, u (min i (2 * n - 1 - i)) (omega (arith, length-take-le n order h)))
@@ -158,7 +159,7 @@ count-look [] i h = absurd (omega arith)
 count-look (x ∷ l) zero h = omega (arith, is-same {u = x} refl)
 count-look (x ∷ l) (suc i) h = omega (arith, count-look l i (omega arith))
 
-module _ {n : ℕ} {a b c : List ℕ} (w : TreeWithin edition1 n a b c) where
+module _ {n : ℕ} {a b c : List ℕ} (w : TreeWithin largest n a b c) where
   pub order-up-to : UpTo256 (elimination (links a b) n)
   order-up-to i h = omega (
     arith,
@@ -169,7 +170,7 @@ module _ {n : ℕ} {a b c : List ℕ} (w : TreeWithin edition1 n a b c) where
     )),
   )
 
-module _ {n : ℕ} {a b c : List ℕ} (w : TreeWithin edition1 n a b c) (lent : List ℕ) (enough : length a ≤ length lent) where
+module _ {n : ℕ} {a b c : List ℕ} (w : TreeWithin largest n a b c) (lent : List ℕ) (enough : length a ≤ length lent) where
   same-places : length c ≡ length a
   same-places = omega arith
 

@@ -5,7 +5,7 @@ use mathlib.Core.List.{List, _++_}
 use Prim.Native.Nat.{ℕ}
 use lib.Dec.{leb}
 use lib.ListN.{length, drop}
-use Rattle.network.specs.Edition.{edition1}
+use Rattle.network.specs.Edition.{largest}
 use Rattle.network.specs.Network.{leaf}
 use Rattle.network.specs.Trimming.{balanced}
 use Rattle.tree.specs.Offer.{links, offer}
@@ -23,7 +23,7 @@ decide offered.Accepted true = Balanced
 
 -- what is said of an offer of n sites, the first and second sites of the links and the capacities, and of the lent list
 unfoldable pub answer : ℕ → List ℕ → List ℕ → List ℕ → List ℕ → Trimming
-answer n one two c lent = decide (offer edition1 n one two c) (leb (length one) (length lent))
+answer n one two c lent = decide (offer largest n one two c) (leb (length one) (length lent))
 
 -- the balanced capacities of the offered tree (01: trimmed sizes); the terminals are the sites with just one link
 unfoldable pub capacities : ℕ → List ℕ → List ℕ → List ℕ → List ℕ

@@ -10,7 +10,7 @@ use lib.Dec.{leb}
 use lib.Seq.{take-at, drop-at}
 use lib.ListN.{length, take, drop}
 use Rattle.network.specs.Numbers.{look}
-use Rattle.network.specs.Edition.{edition1}
+use Rattle.network.specs.Edition.{largest}
 use Rattle.network.specs.Network.{Tree, leaf}
 use Rattle.network.specs.Trimming.{Greatest}
 use Rattle.theory.specs.Greatest.{balanced-is-greatest, balanced-has-each-link, balanced-again}
@@ -35,7 +35,7 @@ balanced-is-accepted offered.NoTree enough e = absurd (let z : _≡_ {A = ℕ} 0
 balanced-is-accepted offered.TooLarge enough e = absurd (let z : _≡_ {A = ℕ} 0 1 = cc in omega arith)
 balanced-is-accepted offered.Accepted enough e = refl
 
-module _ {n : ℕ} {one two c : List ℕ} (w : TreeWithin edition1 n one two c) where
+module _ {n : ℕ} {one two c : List ℕ} (w : TreeWithin largest n one two c) where
   capacities-keep-the-promise : Promise n one two c (capacities n one two c)
   unfolding capacities
   capacities-keep-the-promise = record {
@@ -45,7 +45,7 @@ module _ {n : ℕ} {one two c : List ℕ} (w : TreeWithin edition1 n one two c) 
   }
 
   -- they are accepted as capacities, and balanced already
-  again-within : TreeWithin edition1 n one two (capacities n one two c)
+  again-within : TreeWithin largest n one two (capacities n one two c)
   again-within =
       let p = capacities-keep-the-promise in
       record {
@@ -58,9 +58,9 @@ module _ {n : ℕ} {one two c : List ℕ} (w : TreeWithin edition1 n one two c) 
       }
 
 module _ (n : ℕ) (one two c lent : List ℕ) (e : answer n one two c lent ≡ Balanced) where
-  within : TreeWithin edition1 n one two c
+  within : TreeWithin largest n one two c
   unfolding answer
-  within = accepted-is-a-tree-within-the-limits edition1 n one two c (balanced-is-accepted (offer edition1 n one two c) (leb (length one) (length lent)) e)
+  within = accepted-is-a-tree-within-the-limits largest n one two c (balanced-is-accepted (offer largest n one two c) (leb (length one) (length lent)) e)
 
   -- the lent list begins with the balanced capacities, and goes on as it was
   list-after : trimmed n one two c lent ≡ capacities n one two c ++ drop (length one) lent
@@ -77,8 +77,8 @@ module _ (n : ℕ) (one two c lent : List ℕ) (e : answer n one two c lent ≡ 
   later-places-stay = ap (drop (length one)) list-after ∙ drop-at (capacities n one two c) (drop (length one) lent) (length one) (capacities-keep-the-promise within .each)
 
   -- handed its own answer as capacities, trimming gives that answer back
-  pub its-answer-is-accepted : offer edition1 n one two (take (length one) (trimmed n one two c lent)) ≡ offered.Accepted
-  its-answer-is-accepted = rw first-places (a-tree-within-the-limits-is-accepted edition1 n one two (capacities n one two c) (again-within within))
+  pub its-answer-is-accepted : offer largest n one two (take (length one) (trimmed n one two c lent)) ≡ offered.Accepted
+  its-answer-is-accepted = rw first-places (a-tree-within-the-limits-is-accepted largest n one two (capacities n one two c) (again-within within))
 
   pub its-answer-is-given-back : capacities n one two (take (length one) (trimmed n one two c lent)) ≡ take (length one) (trimmed n one two c lent)
   unfolding capacities
@@ -102,10 +102,10 @@ short-is-short offered.Accepted false e = (refl, refl)
 
 module _ (n : ℕ) (one two c lent : List ℕ) where
   -- 9 is told after every other cause, for fewer lent places than links
-  pub nine-means-too-few-places : told (answer n one two c lent) (length one) .number ≡ 9 → (offer edition1 n one two c ≡ offered.Accepted) × (length lent < length one)
+  pub nine-means-too-few-places : told (answer n one two c lent) (length one) .number ≡ 9 → (offer largest n one two c ≡ offered.Accepted) × (length lent < length one)
   unfolding answer
   nine-means-too-few-places e =
-      let t = short-is-short (offer edition1 n one two c) (leb (length one) (length lent)) (nine-is-short (answer n one two c lent) (length one) e) in
+      let t = short-is-short (offer largest n one two c) (leb (length one) (length lent)) (nine-is-short (answer n one two c lent) (length one) e) in
       (t .0, leb-false (length one) (length lent) (t .1))
 
   -- whatever is told but success, the lent list stays as it was

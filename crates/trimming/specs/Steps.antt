@@ -2,14 +2,15 @@
 use mathlib.Core.List.{List, _++_, reverse}
 use Prim.Native.Nat.{ℕ, _≤_, _<_}
 use lib.ListN.{length, take, drop}
+use Rattle.network.specs.Limits.{SITES}
 use Rattle.network.specs.Numbers.{look}
 use Rattle.network.specs.Network.{leaf}
 use Rattle.network.specs.Trimming.{cutSites}
 use Rattle.tree.specs.Offer.{links}
 
--- every site of a list is at most 256
+-- every site of a list is at most SITES
 abbrev pub UpTo256 : List ℕ → Type 0
-UpTo256 vs = (i : ℕ) → i < length vs → look vs i ≤ 256
+UpTo256 vs = (i : ℕ) → i < length vs → look vs i ≤ SITES
 
 -- an order of sites, and then back against it
 unfoldable pub bothWays : List ℕ → List ℕ

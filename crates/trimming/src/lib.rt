@@ -1,8 +1,12 @@
 // Balanced capacities of a tree (01: trimming): cut at each site inward along the elimination order, then outward against it.
+use network::CHAINS;
+use network::PLACES;
+use network::SITES;
 use tree::Offer;
 ghost use mathlib.Core.Path.{_≡_};
 ghost use mathlib.Core.List.{[], _∷_, _++_};
 ghost use Prim.Native.Nat.{_-_, _*_, _≤_, _<_, min};
+ghost use Rattle.network.specs.Limits.{SITES};
 ghost use lib.ListN.{length, take, drop};
 ghost use Rattle.links.specs.Chains.{Placed, Chained, Limited};
 ghost use Rattle.trimming.specs.Steps.{UpTo256, bothWays, cutFirst};
@@ -31,13 +35,13 @@ fn keep(t: u64, sum: u64) -> u64
 // Cuts the capacities at site v: each link keeps no more than the other links there have together.
 fn cut(
     v: usize,
-    last: &[usize; 257],
-    before: &[usize; 512],
+    last: &[usize; PLACES],
+    before: &[usize; CHAINS],
     one: &[usize],
     two: &[usize],
     capacity: &mut [u64],
 )
-    requires { ⌜ (v ≤ 256) × Chained (now one) (now two) (now last) (now before) × Limited (now one) (now capacity) ⌝ }
+    requires { ⌜ (v ≤ SITES) × Chained (now one) (now two) (now last) (now before) × Limited (now one) (now capacity) ⌝ }
     ensures { λ _. ⌜ now (capacity .exit) ≡ cutFirst (now (one .entry)) (now (two .entry)) (v ∷ []) (now (capacity .entry)) ⌝ }
 {
     let site = links::at_site(v, last, before, one, two, capacity);
@@ -63,7 +67,7 @@ fn copy(from: &[u64], to: &mut [u64])
 
 // The place that step i of a way along n places and back comes to.
 fn there_and_back(i: usize, n: usize) -> usize
-    requires { ⌜ (i < 2 * n) × (n ≤ 256) ⌝ }
+    requires { ⌜ (i < 2 * n) × (n ≤ SITES) ⌝ }
     ensures { λ r. ⌜ r ≡ min i (2 * n - 1 - i) ⌝ }
 {
     if i < n {
@@ -73,8 +77,14 @@ fn there_and_back(i: usize, n: usize) -> usize
 }
 
 // Cuts the capacities at each site of an order in turn, and back against it.
-fn cut_both_ways(n: usize, order: [usize; 256], one: &[usize], two: &[usize], capacity: &mut [u64])
-    requires { ⌜ (n ≤ 256) × UpTo256 (take n order) × Placed (now one) (now two) × Limited (now one) (now capacity) ⌝ }
+fn cut_both_ways(
+    n: usize,
+    order: [usize; SITES],
+    one: &[usize],
+    two: &[usize],
+    capacity: &mut [u64],
+)
+    requires { ⌜ (n ≤ SITES) × UpTo256 (take n order) × Placed (now one) (now two) × Limited (now one) (now capacity) ⌝ }
     ensures { λ _. ⌜ now (capacity .exit) ≡ cutFirst (now (one .entry)) (now (two .entry)) (bothWays (take n order)) (now (capacity .entry)) ⌝ }
 {
     let chains = links::chain(one, two);

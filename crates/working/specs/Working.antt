@@ -6,7 +6,8 @@ use native.Mathlib.Omega.{arith}
 use borrow.Author.Tests.{le-leb}
 use lib.ListN.{length, take, drop, length-take}
 use lib.Seq.{take-at}
-use Rattle.network.specs.Edition.{edition1}
+use Rattle.network.specs.Limits.{SITES}
+use Rattle.network.specs.Edition.{largest}
 use Rattle.network.specs.Numbers.{look}
 use Rattle.network.specs.Network.{leaf}
 use Rattle.network.specs.Trimming.{Balanced}
@@ -30,16 +31,16 @@ pub record WorkedOut (n : ℕ) (one two c : List ℕ) (w : Worked) : Type 0 wher
   pub pairs : take (w .pairs) (w .list) ≡ pairList (links one two) n (look (capacities n one two c))
   pub held : w .pairs ≤ length (w .list)
 
-module _ (n : ℕ) (one two c : List ℕ) (h : offer edition1 n one two c ≡ Accepted) where
-  tree : TreeWithin edition1 n one two c
-  tree = accepted-is-a-tree-within-the-limits edition1 n one two c h
+module _ (n : ℕ) (one two c : List ℕ) (h : offer largest n one two c ≡ Accepted) where
+  tree : TreeWithin largest n one two c
+  tree = accepted-is-a-tree-within-the-limits largest n one two c h
 
   pub a-capacity-for-each-link : length (capacities n one two c) ≡ length one
   unfolding capacities
   a-capacity-for-each-link = balanced-has-each-link (tree .tree) (leaf (links one two)) c ∙ length-links one two (omega (arith, tree .firsts, tree .seconds))
 
-  -- a list of 256 places holds the balanced capacities at its front
-  pub trimming-fills-the-front : (lent : List ℕ) → 256 ≤ length lent → take (length one) (trimmed n one two c lent) ≡ capacities n one two c
+  -- a list of SITES places holds the balanced capacities at its front
+  pub trimming-fills-the-front : (lent : List ℕ) → SITES ≤ length lent → take (length one) (trimmed n one two c lent) ≡ capacities n one two c
   unfolding trimmed answer decide after
   trimming-fills-the-front lent l =
       rw (h, le-leb (length one) (length lent) (omega (arith, tree .firsts, tree .few)))
@@ -55,19 +56,19 @@ module _ (n : ℕ) (one two c : List ℕ) (h : offer edition1 n one two c ≡ Ac
 
 -- what the pairs are made of: a tree that is accepted with the capacities at the front of a list, and these balanced
 pub record PairsOf (n : ℕ) (one two trimmed : List ℕ) : Type 0 where
-  pub accepted : offer edition1 n one two (take (length one) trimmed) ≡ Accepted
+  pub accepted : offer largest n one two (take (length one) trimmed) ≡ Accepted
   pub balanced : Balanced (links one two) (leaf (links one two)) (look (take (length one) trimmed))
 
 -- the balanced capacities of an accepted tree are accepted and balanced
-pub pairs-of-the-trimmed : (n : ℕ) (one two c : List ℕ) → offer edition1 n one two c ≡ Accepted → (trimmed : List ℕ) → take (length one) trimmed ≡ capacities n one two c
+pub pairs-of-the-trimmed : (n : ℕ) (one two c : List ℕ) → offer largest n one two c ≡ Accepted → (trimmed : List ℕ) → take (length one) trimmed ≡ capacities n one two c
     → PairsOf n one two trimmed
 unfolding capacities
 pairs-of-the-trimmed n one two c h trimmed e =
-    let within = accepted-is-a-tree-within-the-limits edition1 n one two c h in
+    let within = accepted-is-a-tree-within-the-limits largest n one two c h in
     let promise = balanced-is-greatest (within .tree) (leaf (links one two)) c in
     let each = a-capacity-for-each-link n one two c h in
     record {
-      accepted = rw e (a-tree-within-the-limits-is-accepted edition1 n one two (capacities n one two c) (record {
+      accepted = rw e (a-tree-within-the-limits-is-accepted largest n one two (capacities n one two c) (record {
         tree = within .tree;
         few = within .few;
         firsts = within .firsts;

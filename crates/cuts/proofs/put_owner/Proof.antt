@@ -4,6 +4,7 @@ use mathlib.Core.Logic.{⊎-elim}
 use Prim.Native.Nat.{_-_, _≤_}
 use native.Mathlib.Omega.{arith}
 use borrow.Author.Needs.{needs}
+use Rattle.network.specs.Limits.{SITES}
 use Rattle.bitset.specs.Members.{member}
 use Rattle.bitset.specs.Laws.{First, first-at, first-absent}
 use Rattle.cuts.proofs.Owners.{Claiming, claiming-start, claiming-kept, claiming-new, claiming-end}
@@ -11,18 +12,18 @@ use Rattle.cuts.proofs.put_owner.Statement.{statement}
 use Rattle.cuts.proofs.put_owner.Tie as tie
 
 abbrev Inv-loop : tie.InvT-loop
-Inv-loop owner₀ cut a p₀ owner p = (p ≤ 256) × Claiming owner₀ (member cut) a p owner
+Inv-loop owner₀ cut a p₀ owner p = (p ≤ SITES) × Claiming owner₀ (member cut) a p owner
 
 abbrev μ-loop : tie.MeasureT-loop
-μ-loop owner₀ cut a p₀ owner p = 256 - p
+μ-loop owner₀ cut a p₀ owner p = SITES - p
 
 -- the member that was found
 found : (c : tie.After-known-told Inv-loop μ-loop) →
     let top = c .before .before .before .before in
-    First (member (top .before .args .cut)) (top .loop .p) (256 - top .loop .p) (c .before .i .given .0 .0)
+    First (member (top .before .args .cut)) (top .loop .p) (SITES - top .loop .p) (c .before .i .given .0 .0)
 found c =
     let top = c .before .before .before .before in
-    first-at (member (top .before .args .cut)) (top .loop .p) (256 - top .loop .p) (c .before .i .given .0 .0)
+    first-at (member (top .before .args .cut)) (top .loop .p) (SITES - top .loop .p) (c .before .i .given .0 .0)
     (sym (c .before .before .before .next .ensures) ∙ c .before .i .given .1)
 
 loop-holds : tie.Need-loop-holds Inv-loop μ-loop
@@ -33,7 +34,7 @@ returns c =
     let top = c .before .before .before in
     let s = top .before .args in
     claiming-end (s .owner .now) (member (s .cut)) (s .a) (top .loop .p) (top .loop .owner) (top .loop .inv .1)
-    (first-absent (member (s .cut)) (top .loop .p) (256 - top .loop .p) (sym (c .before .before .next .ensures) ∙ c .enum-told .given .1))
+    (first-absent (member (s .cut)) (top .loop .p) (SITES - top .loop .p) (sym (c .before .before .next .ensures) ∙ c .enum-told .given .1))
 
 loop-again : tie.Need-loop-again Inv-loop μ-loop
 loop-again c =

@@ -4,6 +4,7 @@ use mathlib.Core.Logic.{⊎-elim}
 use Prim.Native.Nat.{_+_, _-_, _≤_}
 use native.Mathlib.Omega.{arith}
 use lib.ListN.{length, length-map}
+use Rattle.network.specs.Limits.{SITES}
 use Rattle.network.specs.Numbers.{look, upfrom}
 use Rattle.theory.specs.Sites.{length-upfrom}
 use Rattle.groups.specs.Groups.{inWords}
@@ -16,7 +17,7 @@ use Rattle.cuts.proofs.put_owners.Tie as tie
 
 abbrev Inv-loop : tie.InvT-loop
 Inv-loop owner₀ n words labels degree count₀ i₀ owner count i =
-    (i ≤ n) × (length owner ≡ 256) × (owner ≡ ownersTo (inWords words) labels owner₀ degree i) × (count ≡ places i (ofTerminal (look degree) (members (inWords words) labels)))
+    (i ≤ n) × (length owner ≡ SITES) × (owner ≡ ownersTo (inWords words) labels owner₀ degree i) × (count ≡ places i (ofTerminal (look degree) (members (inWords words) labels)))
 
 abbrev μ-loop : tie.MeasureT-loop
 μ-loop owner₀ n words labels degree count₀ i₀ owner count i = n - i
@@ -39,7 +40,7 @@ loop-again c =
     ⊎-elim
     (λ w. (
       omega arith,
-      ap length (w .3 ∙ w .2 .ensures .0) ∙ length-map (upfrom 0 256) (claim (top .loop .owner) (cut (look labels (i + 1))) (i + 1)) ∙ length-upfrom 0 256,
+      ap length (w .3 ∙ w .2 .ensures .0) ∙ length-map (upfrom 0 SITES) (claim (top .loop .owner) (cut (look labels (i + 1))) (i + 1)) ∙ length-upfrom 0 SITES,
       w .3 ∙ w .2 .ensures .0 ∙ owners-next cut labels (a .owner .now) degree i (inv .2) (w .0 .taken),
       w .4 ∙ places-terminal (look degree) (members cut labels) i (omega arith) (inv .3) (w .0 .taken) (w .2 .ensures .1),
     ))

@@ -1,6 +1,7 @@
 -- `take_cut` meets its contract: the members of the set are those of the label's words.
 use mathlib.Core.Path.{_∙_}
 use native.Mathlib.Omega.{arith}
+use Rattle.network.specs.Limits.{SITES}
 use Rattle.network.specs.Numbers.{look}
 use Rattle.theory.specs.Sums.{sum-eq}
 use Rattle.bitset.specs.Members.{member}
@@ -18,7 +19,7 @@ returns c =
     let cut = c .before .before .before .cut-of .result in
     let is-cut = c .before .before .before .cut-of .ensures in
     let places = inWords (a .words .now) (look (a .labels .now) (a .a)) in
-    (c .before .put-owner .ensures ∙ claims-same (a .owner .now) (member cut) places (a .a) is-cut, c .count .ensures ∙ sum-eq 256 (member cut) places (λ i h. is-cut i))
+    (c .before .put-owner .ensures ∙ claims-same (a .owner .now) (member cut) places (a .a) is-cut, c .count .ensures ∙ sum-eq SITES (member cut) places (λ i h. is-cut i))
 
 pub take-cut-spec : {M : Type 1} → statement M
 take-cut-spec =

@@ -3,7 +3,7 @@ use mathlib.Core.Path.{_≡_, refl, sym, _∙_}
 use borrow.Author.Needs.{needs}
 use borrow.Author.Tests.{eq-eqb, ne-eqb}
 use lib.ListN.{length}
-use Rattle.network.specs.Edition.{edition1}
+use Rattle.network.specs.Edition.{largest}
 use Rattle.tree.specs.Offer.{offer}
 use Rattle.tree.specs.declared.Offer.the-variants.{Accepted}
 use Rattle.tree.specs.Accepted.{accepted-is-a-tree-within-the-limits}
@@ -27,7 +27,7 @@ too-large c =
 -- the offer was accepted
 accepted : (c : tie.After-enum-told3) →
     let a = c .before .before .before .before .before .before .before .args in
-    offer edition1 (a .n) (a .one .now) (a .two .now) (a .capacity .now) ≡ Accepted
+    offer largest (a .n) (a .one .now) (a .two .now) (a .capacity .now) ≡ Accepted
 accepted c = sym (c .before .before .test .ensures) ∙ c .enum-told3 .given .1
 
 unequal : tie.Need-returns
@@ -45,7 +45,7 @@ made c =
 cuts-of-requires : tie.Need-cuts-of-requires
 cuts-of-requires c κs =
     let a = c .before .before .before .before .before .before .before .before .args in
-    let tree = accepted-is-a-tree-within-the-limits edition1 (a .n) (a .one .now) (a .two .now) (a .capacity .now) (accepted (c .before)) in
+    let tree = accepted-is-a-tree-within-the-limits largest (a .n) (a .one .now) (a .two .now) (a .capacity .now) (accepted (c .before)) in
     (tree .few, offered tree, c .if1 .left)
 
 pub terminal-cuts-spec : {M : Type 1} → statement M

@@ -3,6 +3,7 @@ use mathlib.Core.Path.{_≡_, refl, _∙_}
 use mathlib.Core.Logic.{⊎-elim}
 use Prim.Native.Nat.{ℕ, _+_, _-_, _≤_}
 use native.Mathlib.Omega.{arith}
+use Rattle.network.specs.Limits.{SITES}
 use Rattle.network.specs.Numbers.{look}
 use Rattle.cuts.specs.Outcome.{places, ofTerminal}
 use Rattle.cuts.specs.Places.{places-none, places-terminal, places-inner}
@@ -19,7 +20,7 @@ loop-holds : tie.Need-loop-holds Inv-loop μ-loop
 loop-holds c = (omega arith, places-none (ofTerminal (look (c .args .degree .now)) (λ a. look (c .args .leaving .now) (look (c .args .labels .now) a))))
 
 -- the label of the site that is looked at has a place
-placed : (c : tie.In-loop Inv-loop μ-loop) → look (c .before .before .args .labels .now) (c .before .loop .i + 1) ≤ 256
+placed : (c : tie.In-loop Inv-loop μ-loop) → look (c .before .before .args .labels .now) (c .before .loop .i + 1) ≤ SITES
 placed c = c .before .before .pre .1 (c .before .loop .i + 1)
 
 loop-again : tie.Need-loop-again Inv-loop μ-loop

@@ -4,6 +4,7 @@ use mathlib.Core.Logic.{_≢_}
 use Prim.Native.Nat.{ℕ, suc, _+_, _-_, _*_, _≤_, _<_}
 use native.Mathlib.Omega.{arith}
 use lib.ListN.{length}
+use Rattle.network.specs.Limits.{PLACES}
 use Rattle.network.specs.Numbers.{look}
 use Rattle.network.specs.Network.{leaf}
 use Rattle.network.specs.Pairing.{between}
@@ -65,14 +66,14 @@ cs t = (
   settle-reads.Learnt,
 )
 
--- c is the next child, or 257, and the children below it are gathered
+-- c is the next child, or PLACES, and the children below it are gathered
 abbrev Inv : visit-lts.InvT-loop
 Inv last before one two capacity fuel v link up ups₀ downs₀ pairs₀ base down below rest₀ top₀ c₀ ups downs pairs rest top c =
-    (1 ≤ c) × (c ≤ 257) × (c < 257 → member below (c - 1) ≡ 1)
+    (1 ≤ c) × (c ≤ PLACES) × (c < PLACES → member below (c - 1) ≡ 1)
     × Gathering (suc (length one)) one two capacity (fuel - 1) v link (2 * look capacity link - up) ups₀ downs₀ pairs₀ base ups downs pairs top rest c
 
 abbrev μ : visit-lts.MeasureT-loop
-μ last before one two capacity fuel v link up ups₀ downs₀ pairs₀ base down below rest₀ top₀ c₀ ups downs pairs rest top c = 257 - c
+μ last before one two capacity fuel v link up ups₀ downs₀ pairs₀ base down below rest₀ top₀ c₀ ups downs pairs rest top c = PLACES - c
 
 module _ (t : ℕ) where
   abbrev Entry : Type 0

@@ -3,6 +3,7 @@ use mathlib.Core.Path.{refl}
 use Prim.Native.Nat.{_+_, _-_, _<_, _≤_}
 use native.Mathlib.Omega.{arith}
 use lib.ListN.{length}
+use Rattle.network.specs.Limits.{SITES}
 use Rattle.decomposition.proofs.Reading.{Reading, reading-starts, reading-room, reading-next, reading-ends}
 use Rattle.decomposition.proofs.read_pairs.Statement.{statement}
 use Rattle.decomposition.proofs.read_pairs.Tie as tie
@@ -14,7 +15,7 @@ abbrev μ-loop : tie.MeasureT-loop
 μ-loop numbers end list₀ count₀ at₀ list count at = end - at
 
 -- the next pair lies within the numbers, and there is a place for it
-room : (c : tie.In-loop Inv-loop μ-loop) → (c .before .loop .at + 3 ≤ length (c .before .before .before .args .numbers .now)) × (c .before .loop .count < 256)
+room : (c : tie.In-loop Inv-loop μ-loop) → (c .before .loop .at + 3 ≤ length (c .before .before .before .args .numbers .now)) × (c .before .loop .count < SITES)
 room c =
     let r = reading-room (c .before .before .before .pre) (c .before .loop .inv) (c .loop-test .taken) in
     (omega (arith, r .0, c .before .before .before .pre .inside), r .1)

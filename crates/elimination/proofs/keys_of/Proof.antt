@@ -6,6 +6,7 @@ use native.Mathlib.Omega.{arith}
 use native.Mathlib.Nat.{mul-le-mul-right}
 use lib.Seq.{getD-set-same, getD-set-other}
 use lib.ListN.{length, set, replicate, length-set, length-replicate}
+use Rattle.network.specs.Limits.{PLACES}
 use Rattle.network.specs.Numbers.{pick, is, look, sum}
 use Rattle.network.specs.Network.{at, sumAt}
 use Rattle.theory.specs.Sums.{is-same, is-other, same?}
@@ -18,7 +19,7 @@ use Rattle.elimination.proofs.keys_of.Tie as tie
 
 abbrev Inv-loop : tie.InvT-loop
 Inv-loop one two root keys₀ j₀ j-end keys j =
-    (j ≤ length one) × (length keys ≡ 257)
+    (j ≤ length one) × (length keys ≡ PLACES)
     × ((x : ℕ) → (look keys x ≤ j * 65791 + 131072) × (look keys x ≡ sum j (λ i. at (links one two) x i * share i) + is root x * 131072))
 
 abbrev μ-loop : tie.MeasureT-loop
@@ -34,7 +35,7 @@ start : tie.Need-loop-holds Inv-loop μ-loop
 unfolding sum
 start c =
     let root = c .before .before .args .root in
-    (omega arith, length-set (replicate 257 0) root _ ∙ length-replicate {A = ℕ} 257 0, λ x. only-root 257 root x (omega arith))
+    (omega arith, length-set (replicate PLACES 0) root _ ∙ length-replicate {A = ℕ} PLACES 0, λ x. only-root PLACES root x (omega arith))
 
 add : tie.Need-add-at-requires Inv-loop μ-loop
 add c κs =

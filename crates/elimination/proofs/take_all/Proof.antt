@@ -2,6 +2,7 @@
 use Prim.Native.Nat.{_-_, _≤_, _<_}
 use native.Mathlib.Omega.{arith}
 use lib.ListN.{length}
+use Rattle.network.specs.Limits.{SITES}
 use Rattle.network.specs.Numbers.{count, look}
 use Rattle.network.specs.Network.{Site, sites}
 use Rattle.theory.specs.Sums.{same?}
@@ -14,7 +15,7 @@ use Rattle.elimination.proofs.take_all.Tie as tie
 
 abbrev Inv-loop : tie.InvT-loop
 Inv-loop n one two root sites₀ keys₀ search₀ i₀ i-end order keys search i =
-    (i ≤ n - count (sites n) root) × Going (links one two) n root 256 i order keys × Behind n keys search
+    (i ≤ n - count (sites n) root) × Going (links one two) n root SITES i order keys × Behind n keys search
 
 abbrev μ-loop : tie.MeasureT-loop
 μ-loop n one two root sites₀ keys₀ search₀ i₀ i-end order keys search i = n - i
@@ -42,7 +43,7 @@ take c κs =
     ready (t .before .before .before .before .pre .0) (t .loop .inv .1) (e .before .lowest .result) (low e .0) (low e .1)
 
 -- the other end is a site or 0
-place : (c : tie.After-take Inv-loop μ-loop) → c .take .result ≤ 256
+place : (c : tie.After-take Inv-loop μ-loop) → c .take .result ≤ SITES
 place c =
     let e = c .before .before in
     let t = e .before .before .before .before in

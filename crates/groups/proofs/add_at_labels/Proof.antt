@@ -4,13 +4,14 @@ use Prim.Native.Nat.{_+_, _≤_}
 use native.Mathlib.Omega.{arith}
 use lib.ListN.{length-set}
 use lib.Seq.{getD-set-other}
+use Rattle.network.specs.Limits.{SITES}
 use Rattle.network.specs.Numbers.{look}
 use Rattle.groups.proofs.Sums.{raised, raised-none}
 use Rattle.groups.proofs.add_at_labels.Statement.{statement}
 use Rattle.groups.proofs.add_at_labels.Tie as tie
 
 -- the labels of the two sites have a place
-placed : (c : tie.Start) → let a = c .args in (look (a .labels .now) (a .one) ≤ 256) × (look (a .labels .now) (a .two) ≤ 256)
+placed : (c : tie.Start) → let a = c .args in (look (a .labels .now) (a .one) ≤ SITES) × (look (a .labels .now) (a .two) ≤ SITES)
 placed c = (c .pre .labelled (c .args .one), c .pre .labelled (c .args .two))
 
 returns : tie.Need-returns

@@ -3,6 +3,7 @@ use mathlib.Core.Path.{_≡_, ap, _∙_}
 use Prim.Native.Nat.{_+_, _-_, _≤_}
 use native.Mathlib.Omega.{arith}
 use lib.ListN.{length}
+use Rattle.network.specs.Limits.{PLACES}
 use Rattle.network.specs.Numbers.{look}
 use Rattle.theory.specs.Sites.{length-upfrom}
 use Rattle.labels.specs.LabelPlaces.{linked-sites}
@@ -56,7 +57,7 @@ same-length c =
     omega (
       arith,
       ap length (s .pre .0),
-      length-upfrom 0 257,
+      length-upfrom 0 PLACES,
       ap length (c .before .loop .inv .1),
       length-groups (a .one .now) (a .two .now) (a .capacity .now) (a .balanced .now) (c .before .loop .j),
     )

@@ -3,6 +3,7 @@ use mathlib.Core.Path.{_≡_, refl}
 use Prim.Native.Nat.{ℕ, _+_, _-_, _≤_}
 use native.Mathlib.Omega.{arith}
 use lib.ListN.{length, length-set}
+use Rattle.network.specs.Limits.{SETS, SITES}
 use Rattle.network.specs.Numbers.{look}
 use Rattle.groups.specs.Groups.{labelled, inWords}
 use Rattle.groups.proofs.Words.{words-none, words-next}
@@ -10,7 +11,7 @@ use Rattle.groups.proofs.sets.Statement.{statement}
 use Rattle.groups.proofs.sets.Tie as tie
 
 abbrev Inv-loop : tie.InvT-loop
-Inv-loop n labels words₀ i₀ words i = (i ≤ n) × (length words ≡ 1028) × ((l k : ℕ) → inWords words l k ≡ labelled i labels l k)
+Inv-loop n labels words₀ i₀ words i = (i ≤ n) × (length words ≡ SETS) × ((l k : ℕ) → inWords words l k ≡ labelled i labels l k)
 
 abbrev μ-loop : tie.MeasureT-loop
 μ-loop n labels words₀ i₀ words i = n - i
@@ -19,7 +20,7 @@ loop-holds : tie.Need-loop-holds Inv-loop μ-loop
 loop-holds c = (omega arith, refl, words-none (c .args .labels .now))
 
 -- the label of the site that is looked at has a place
-placed : (c : tie.In-loop Inv-loop μ-loop) → look (c .before .before .args .labels .now) (c .before .loop .i + 1) ≤ 256
+placed : (c : tie.In-loop Inv-loop μ-loop) → look (c .before .before .args .labels .now) (c .before .loop .i + 1) ≤ SITES
 placed c = c .before .before .pre .1 (c .before .loop .i + 1)
 
 loop-again : tie.Need-loop-again Inv-loop μ-loop

@@ -3,6 +3,7 @@ use mathlib.Core.Path.{_≡_, refl, _∙_}
 use Prim.Native.Nat.{ℕ, _-_, _*_, _≤_}
 use native.Mathlib.Omega.{arith}
 use lib.ListN.{length}
+use Rattle.network.specs.Limits.{PLACES, SIZE}
 use Rattle.network.specs.Numbers.{sum, look}
 use Rattle.tree.specs.Places.{sum-next}
 use Rattle.groups.specs.Groups.{leaves, leaving}
@@ -13,15 +14,15 @@ use Rattle.groups.proofs.sums_leaving.Tie as tie
 
 abbrev Inv-loop : tie.InvT-loop
 Inv-loop one two capacity labels sums₀ j₀ j-end sums j =
-    (j ≤ length one) × (length sums ≡ 257)
-    × ((l : ℕ) → (look sums l ≤ j * 1000000) × (look sums l ≡ sum j (λ i. leaves labels (look one i) (look two i) l * look capacity i)))
+    (j ≤ length one) × (length sums ≡ PLACES)
+    × ((l : ℕ) → (look sums l ≤ j * SIZE) × (look sums l ≡ sum j (λ i. leaves labels (look one i) (look two i) l * look capacity i)))
 
 abbrev μ-loop : tie.MeasureT-loop
 μ-loop one two capacity labels sums₀ j₀ j-end sums j = length one - j
 
 loop-holds : tie.Need-loop-holds Inv-loop μ-loop
 unfolding sum
-loop-holds c = (omega arith, refl, λ l. (omega (arith, look-zeros 257 l), look-zeros 257 l))
+loop-holds c = (omega arith, refl, λ l. (omega (arith, look-zeros PLACES l), look-zeros PLACES l))
 
 addable : tie.Need-add-at-labels-requires Inv-loop μ-loop
 addable c κs =

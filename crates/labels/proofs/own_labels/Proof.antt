@@ -3,6 +3,7 @@ use mathlib.Core.Path.{_≡_, refl, _∙_}
 use Prim.Native.Nat.{ℕ, _≤_, _<_, _-_}
 use lib.ListN.{length, length-set}
 use borrow.Author.Count.{below-none}
+use Rattle.network.specs.Limits.{PLACES}
 use Rattle.network.specs.Numbers.{look}
 use Rattle.labels.specs.LabelPlaces.{own-place, own-places}
 use native.Mathlib.Omega.{arith}
@@ -10,10 +11,10 @@ use Rattle.labels.proofs.own_labels.Statement.{statement}
 use Rattle.labels.proofs.own_labels.Tie as tie
 
 abbrev Inv-loop : tie.InvT-loop
-Inv-loop labels₀ x₀ labels x = (x ≤ 257) × (length labels ≡ 257) × ((y : ℕ) → y < x → look labels y ≡ y)
+Inv-loop labels₀ x₀ labels x = (x ≤ PLACES) × (length labels ≡ PLACES) × ((y : ℕ) → y < x → look labels y ≡ y)
 
 abbrev μ-loop : tie.MeasureT-loop
-μ-loop labels₀ x₀ labels x = 257 - x
+μ-loop labels₀ x₀ labels x = PLACES - x
 
 loop-holds : tie.Need-loop-holds Inv-loop μ-loop
 loop-holds c = (omega arith, refl, below-none _)
@@ -24,7 +25,7 @@ loop-again c =
     (omega arith, length-set (l .labels) (l .x) (l .x) ∙ l .inv .1, own-place (l .labels) (l .x) (omega arith) (l .inv .2))
 
 returns : tie.Need-returns Inv-loop μ-loop
-returns c = let l = c .before .loop in own-places 257 (l .labels) (l .inv .1) (λ y b. l .inv .2 y (omega arith))
+returns c = let l = c .before .loop in own-places PLACES (l .labels) (l .inv .1) (λ y b. l .inv .2 y (omega arith))
 
 pub own-labels-spec : {M : Type 1} → statement M
 own-labels-spec =

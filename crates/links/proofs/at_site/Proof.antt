@@ -4,6 +4,7 @@ use Prim.Native.Nat.{_+_, _*_, _-_, _≤_}
 use native.Mathlib.Omega.{arith}
 use native.Mathlib.Nat.{zero-add, add-zero, add-assoc}
 use lib.ListN.{length}
+use Rattle.network.specs.Limits.{LINKS, SIZE}
 use Rattle.network.specs.Numbers.{look, sum}
 use Rattle.network.specs.Network.{at, sumAt}
 use Rattle.tree.specs.Offer.{links}
@@ -31,7 +32,7 @@ start c =
 
 -- the sums stay small
 room : (c : tie.In-loop Inv-loop μ-loop) → let t = c .before in let a = t .before .before .before .before .before .args in
-    (t .loop .links + 1 ≤ 255) × (t .loop .total + look (a .capacity .now) (t .loop .p - 1) ≤ 255000000)
+    (t .loop .links + 1 ≤ LINKS) × (t .loop .total + look (a .capacity .now) (t .loop .p - 1) ≤ LINKS * SIZE)
 room c =
     let t = c .before in
     let s = t .before .before .before .before .before in
@@ -43,7 +44,7 @@ room c =
     let all : t .loop .total + sum (t .loop .p) (λ i. at ls (a .v) i * look (a .capacity .now) i) ≡ sum m (λ i. at ls (a .v) i * look (a .capacity .now) i) = t .loop .inv .2 in
     let few = s .pre .1 .placed .few in (
       omega (arith, sum-back ls (a .v) (λ i. 1) (t .loop .p) (omega arith) here, sum-limit ls (a .v) (λ i. 1) 1 m (λ i l. omega arith)),
-      omega (arith, sum-back ls (a .v) (look (a .capacity .now)) (t .loop .p) (omega arith) here, sum-limit ls (a .v) (look (a .capacity .now)) 1000000 m (s .pre .2 .small)),
+      omega (arith, sum-back ls (a .v) (look (a .capacity .now)) (t .loop .p) (omega arith) here, sum-limit ls (a .v) (look (a .capacity .now)) SIZE m (s .pre .2 .small)),
     )
 
 -- the link before

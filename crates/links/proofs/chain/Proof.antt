@@ -3,6 +3,7 @@ use mathlib.Core.Path.{_≡_, ap, _∙_}
 use Prim.Native.Nat.{_≤_, _-_}
 use native.Mathlib.Omega.{arith}
 use lib.ListN.{length}
+use Rattle.network.specs.Limits.{SITES}
 use Rattle.network.specs.Numbers.{look}
 use Rattle.tree.specs.Offer.{links}
 use Rattle.links.specs.Chains.{lastAt}
@@ -18,7 +19,7 @@ abbrev μ-loop : tie.MeasureT-loop
 
 -- the sites of the link are places of the list
 sites : (c : tie.After-shared-slice-known2 Inv-loop μ-loop) → let t = c .before .before .before in
-    (look (t .before .args .one .now) (t .loop .j) ≤ 256) × (look (t .before .args .two .now) (t .loop .j) ≤ 256)
+    (look (t .before .args .one .now) (t .loop .j) ≤ SITES) × (look (t .before .args .two .now) (t .loop .j) ≤ SITES)
 sites c = let t = c .before .before .before in t .before .pre .sites (t .loop .j) (omega arith)
 
 next : tie.Need-loop-again Inv-loop μ-loop

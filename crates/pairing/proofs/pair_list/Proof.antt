@@ -46,6 +46,7 @@ use denote.Triple.Clauses.{ensured, lasts}
 use denote.Triple.Table.{entered, cited}
 use denote.Triple.Walked.{says, Stays, stay-dropped, walkOf, goes-dropped, Walks, ends-at, walked, walk-meets}
 use denote.Exit.{yes}
+use Rattle.network.specs.Limits.{SITES}
 use Rattle.network.specs.declared.Pair.{Pair}
 use Rattle.network.proofs.Pair as T
 use Rattle.network.proofs.Pair.Laws as T′
@@ -88,22 +89,22 @@ no-pair-is : Is T.the-row noPair (T′.lowered noPair ∷ [])
 no-pair-is = LL.owes T.the-type T′.the-laws noPair ((refl, zero-fits), ((refl, zero-fits), ((refl, zero-fits), tt)))
 
 unfoldable zerosVal : Val
-zerosVal = arrayVal (replicate 256 (T′.lowered noPair))
+zerosVal = arrayVal (replicate SITES (T′.lowered noPair))
 
-no-pairs-are : Is (Array T.the-row 256) noPairs (zerosVal ∷ [])
+no-pairs-are : Is (Array T.the-row SITES) noPairs (zerosVal ∷ [])
 unfolding noPairs zerosVal
-no-pairs-are = repeated-is 256 noPair (T′.lowered noPair) no-pair-is
+no-pairs-are = repeated-is SITES noPair (T′.lowered noPair) no-pair-is
 
-no-pairs-many : length noPairs ≡ 256
+no-pairs-many : length noPairs ≡ SITES
 unfolding noPairs
-no-pairs-many = length-replicate 256 noPair
+no-pairs-many = length-replicate SITES noPair
 
 -- a pair of zeros that is entry n of the context, repeated
-repeats : {M : Type 1} {𝓤 : URA M} {H : Heap 𝓤} {A : Atoms 𝓤} {K : Type 0} {W : Given 𝓤 H A} {Γ : List (Item 𝓤)} {E : Env 𝓤 H} → K → (n : ℕ) {i : ℕ} → nth 𝓤 H A n Γ ≡ holds 𝓤 H E i (T′.lowered noPair) → Rv K W Γ E (repeat (copy (place i [])) 256) zerosVal
+repeats : {M : Type 1} {𝓤 : URA M} {H : Heap 𝓤} {A : Atoms 𝓤} {K : Type 0} {W : Given 𝓤 H A} {Γ : List (Item 𝓤)} {E : Env 𝓤 H} → K → (n : ℕ) {i : ℕ} → nth 𝓤 H A n Γ ≡ holds 𝓤 H E i (T′.lowered noPair) → Rv K W Γ E (repeat (copy (place i [])) SITES) zerosVal
 unfolding zerosVal
-repeats t n e = rep t 256 (get t n e)
+repeats t n e = rep t SITES (get t n e)
 
-roomy : Room T.the-row 256
+roomy : Room T.the-row SITES
 roomy = (omega arith, omega arith)
 
 module _ {M : Type 1} (𝓤 : URA M) (H : Heap 𝓤) (A : Atoms 𝓤) (mem : Memory → SProp 𝓤) (run : Routine → Fun 𝓤) where
@@ -136,7 +137,7 @@ module _ {M : Type 1} (𝓤 : URA M) (H : Heap 𝓤) (A : Atoms 𝓤) (W : Given
   Post = walkOf 𝓤 H A pair-list.ended stayed (pair-list.clauses 𝓤 H A mem run) .post ((κs, qs, tt, a, at), tt)
 
   -- ---- the call: the array ys at the block l, lent for the lifetime ν, under the name δ
-  module _ (ys : List Pair) (len : length ys ≡ 256) (l ν : ℕ) (δ : GName) where
+  module _ (ys : List Pair) (len : length ys ≡ SITES) (l ν : ℕ) (δ : GName) where
     abbrev lent : RefT (List Pair)
     lent = record { ptr = (l, 0); name = δ; now = ys }
 
@@ -168,7 +169,7 @@ module _ {M : Type 1} (𝓤 : URA M) (H : Heap 𝓤) (A : Atoms 𝓤) (W : Given
     result-typed : Holds (hasTy L′.mir (pairListVal r)) × WT (pairListVal r)
     result-typed = LL.lawful L.the-type L′.the-laws 𝓤 H A W .typed r _ (pair-list-is r ga gl) .0
 
-    exits : r .answer ≡ answer n (one .now) (two .now) (capacity .now) 256 → r .list ≡ paired n (one .now) (two .now) (capacity .now) noPairs
+    exits : r .answer ≡ answer n (one .now) (two .now) (capacity .now) SITES → r .list ≡ paired n (one .now) (two .now) (capacity .now) noPairs
         → ent 𝓤 (⋆ 𝓤 H A (‵ (flft κ₂ q₂) ∷ ‵ (flft κ₁ q₁) ∷ ‵ (flft κ₀ q₀) ∷ ‵ ftrue ∷ [])) (Post (pairListVal r))
     exits e f =
         qed W (‵ (flft κ₂ q₂) ∷ ‵ (flft κ₁ q₁) ∷ ‵ (flft κ₀ q₀) ∷ ‵ ftrue ∷ []) ∵
@@ -187,13 +188,13 @@ module _ {M : Type 1} (𝓤 : URA M) (H : Heap 𝓤) (A : Atoms 𝓤) (W : Given
         pass1 ! (init ! 3 refl (tt, record { fits = gn })) $ pass1 ! (init ! 4 refl (tt, (tt, (record { fits = g₀ }, tt)))) $ pass1 ! (init ! 5 refl (tt, (tt, (record { fits = g₁ }, tt)))) $
         pass1 ! (init ! 6 refl (tt, (tt, (record { fits = g₂ }, tt)))) $ pass0 ! $
         lets ! (agg ! (and-then ! (lit ! tt) (and-then ! (lit ! tt) (and-then ! (lit ! tt) (no-more !))))) 9 refl (typed 𝓤 H A W noPair no-pair-is) $
-        lets ! (repeats ! 9 refl) 7 refl (list-typed 𝓤 H A W 256 noPairs zerosVal no-pairs-are) $
+        lets ! (repeats ! 9 refl) 7 refl (list-typed 𝓤 H A W SITES noPairs zerosVal no-pairs-are) $
         lets ! (addr ! (from ! (stop !))) 10 refl (tt, tt) $
         lets ! (agg ! (and-then ! (get ! 10 refl) (and-then ! (lit ! tt) (no-more !)))) 11 refl (tt, (tt, (record { fits = roomy .0 }, tt))) $
         rewrite ! 11 (λ (c : ℕ). ‵ (fat fullShare (sliceTy lent-pairs) l₉ 0 (sliceVal (l₅, 0) c))) (sym no-pairs-many) refl $
         -- the array is taken apart, and lent for a lifetime ν of the call
-        owned ! (Array T.the-row 256) (Is (Array T.the-row 256)) (array-makes 𝓤 H A W T.the-row (LL.makes T.the-type T′.the-plain 𝓤 H A) 256) noPairs _ no-pairs-are $
-        move ! (8 ∷ 0 ∷ []) $ use2 W (‵ (cells (lying T.the-row) noPairs l₅ 0)) (comes-apart 𝓤 H A W 256 noPairs l₅ zerosVal) $
+        owned ! (Array T.the-row SITES) (Is (Array T.the-row SITES)) (array-makes 𝓤 H A W T.the-row (LL.makes T.the-type T′.the-plain 𝓤 H A) SITES) noPairs _ no-pairs-are $
+        move ! (8 ∷ 0 ∷ []) $ use2 W (‵ (cells (lying T.the-row) noPairs l₅ 0)) (comes-apart 𝓤 H A W SITES noPairs l₅ zerosVal) $
         lft-new ! tt (λ ν. move ! (1 ∷ []) $
         use1 W (later (some (λ (δ : GName). ‵ (Lent noPairs no-pairs-many l₅ ν δ) ⊛ ‵ (flent (ν ∷ []) (Held T.the-row (length noPairs) l₅ 0 δ))))) (lends-slice 𝓤 H A W T.the-row (named 3) (ν ∷ []) noPairs l₅ 0 (subst (Room T.the-row) (sym no-pairs-many) roomy)) $ await ! tt $ pick ! (λ δ. split ! $
         -- [the slice; the lender's part; the token; what was owned; that each local dies; …]
@@ -212,12 +213,12 @@ module _ {M : Type 1} (𝓤 : URA M) (H : Heap 𝓤) (A : Atoms 𝓤) (W : Given
         split ! $ move ! (1 ∷ []) $ split ! $ move ! (1 ∷ []) $ split ! $ move ! (1 ∷ []) $ split ! $ lft-end ! tt $
         -- [that it is dead; nothing; the tokens, last first; the last list; nothing; the lender's part; that each local dies; …]
         move ! (0 ∷ 7 ∷ 5 ∷ []) $ use3 W (later (‵ (Arr (lying T.the-row) (length noPairs) .lies (ws .1 .1 .1 .1 .0) l₅ 0))) (slice-back 𝓤 H A W T.the-row (ν ∷ []) δ (ws .1 .1 .1 .1 .0) (length noPairs) l₅ 0) $ await ! tt $ fsplit ! $ drop ! $
-        use1 W (‵ (partAt (Array T.the-row 256) fullShare (ws .1 .1 .1 .1 .0) l₅ 0)) (comes-together 𝓤 H A W 256 (ws .1 .1 .1 .1 .0) l₅ (many ∙ no-pairs-many)) $ fpick ! (λ vs. fsplit ! $
-        spelt ! (Array T.the-row 256) (Is (Array T.the-row 256)) (shows 𝓤 H A (Array T.the-row 256)) (λ ps. listVal ps ∷ []) list-tells fullShare (ws .1 .1 .1 .1 .0) vs l₅ 0 $
-        use1 W (‵ (fat fullShare (array 256) l₅ 0 (listVal (ws .1 .1 .1 .1 .0)))) (W .laws .raw-at fullShare (array 256) l₅ 0 (listVal (ws .1 .1 .1 .1 .0))) $
-        move ! (1 ∷ []) $ peeks ! (Array T.the-row 256) (Is (Array T.the-row 256)) (shows 𝓤 H A (Array T.the-row 256)) (ws .1 .1 .1 .1 .0) (listVal (ws .1 .1 .1 .1 .0) ∷ []) (λ gl. drop ! $ move ! (1 ∷ []) $ drop ! $
+        use1 W (‵ (partAt (Array T.the-row SITES) fullShare (ws .1 .1 .1 .1 .0) l₅ 0)) (comes-together 𝓤 H A W SITES (ws .1 .1 .1 .1 .0) l₅ (many ∙ no-pairs-many)) $ fpick ! (λ vs. fsplit ! $
+        spelt ! (Array T.the-row SITES) (Is (Array T.the-row SITES)) (shows 𝓤 H A (Array T.the-row SITES)) (λ ps. listVal ps ∷ []) list-tells fullShare (ws .1 .1 .1 .1 .0) vs l₅ 0 $
+        use1 W (‵ (fat fullShare (array SITES) l₅ 0 (listVal (ws .1 .1 .1 .1 .0)))) (W .laws .raw-at fullShare (array SITES) l₅ 0 (listVal (ws .1 .1 .1 .1 .0))) $
+        move ! (1 ∷ []) $ peeks ! (Array T.the-row SITES) (Is (Array T.the-row SITES)) (shows 𝓤 H A (Array T.the-row SITES)) (ws .1 .1 .1 .1 .0) (listVal (ws .1 .1 .1 .1 .0) ∷ []) (λ gl. drop ! $ move ! (1 ∷ []) $ drop ! $
         -- [local 5; the tokens, last first; nothing; that each local dies; …]: local k stands at 6 + k up to 4, and at 5 + k from 6 on
-        lets ! (of-opd ! (get ! 0 refl)) 15 refl (list-typed 𝓤 H A W 256 (ws .1 .1 .1 .1 .0) _ gl) $
+        lets ! (of-opd ! (get ! 0 refl)) 15 refl (list-typed 𝓤 H A W SITES (ws .1 .1 .1 .1 .0) _ gl) $
         lets ! (agg ! (and-then ! (get ! 11 refl) (and-then ! (get ! 15 refl) (no-more !)))) 6 refl (result-typed (record { answer = r; list = ws .1 .1 .1 .1 .0 }) (subst (λ u. Is P.the-row r u) (answer-tells r (v ∷ []) is) is) gl) $
         returns ! (look ! 6 refl) $ forget ! 0 refl $ forget ! 6 refl $ forget ! 7 refl $ forget ! 8 refl $ forget ! 9 refl $ forget ! 10 refl $ forget ! 11 refl $ forget ! 12 refl $ forget ! 13 refl $ forget ! 14 refl $ forget ! 15 refl $
         move ! (1 ∷ 2 ∷ 3 ∷ 4 ∷ 5 ∷ 6 ∷ 7 ∷ 8 ∷ 9 ∷ 10 ∷ 0 ∷ []) $ releases ! 4 refl $

@@ -39,6 +39,7 @@ use denote.Triple.Clauses.{ensured, lasts}
 use denote.Triple.Table.{entered, cited}
 use denote.Triple.Walked.{says, Stays, gave-slice, stay-dropped, walkOf, goes-gave-slice, goes-dropped, Walks, ends-at, walked, walk-meets}
 use denote.Exit.{yes}
+use Rattle.network.specs.Limits.{SITES}
 use Rattle.network.specs.declared.Pair.{Pair}
 use Rattle.network.proofs.Pair as T
 use Rattle.network.proofs.Pair.Laws as T′
@@ -159,7 +160,7 @@ module _ {M : Type 1} (𝓤 : URA M) (H : Heap 𝓤) (A : Atoms 𝓤) (W : Given
     goes-store =
         qed W (‵ (flft κ₃ q₃) ∷ ‵ Lent ∷ []) ∵ nothing ! $ move ! (1 ∷ 0 ∷ []) $ join ! $ nothing ! $
         owned ! usize (Is usize) (uint-makes 𝓤 H A W w64) (w .count) _ (count-is w vs is) $ fjoin ! $
-        owned ! (Array T.the-row 256) (Is (Array T.the-row 256)) (array-makes 𝓤 H A W T.the-row (LL.makes T.the-type T′.the-plain 𝓤 H A) 256) (w .list) _ (list-is w vs is) $ fjoin ! $
+        owned ! (Array T.the-row SITES) (Is (Array T.the-row SITES)) (array-makes 𝓤 H A W T.the-row (LL.makes T.the-type T′.the-plain 𝓤 H A) SITES) (w .list) _ (list-is w vs is) $ fjoin ! $
         move ! (2 ∷ 0 ∷ []) $ fjoin ! $ move ! (1 ∷ 0 ∷ []) $ join ! $ frame ! $ done !
 
     exits : (zs : List Pair) → length zs ≡ length (lent .now) → zs ≡ stored (w .list) (w .count) (lent .now)

@@ -7,7 +7,7 @@ use lib.ListN.{length}
 use Rattle.network.specs.Numbers.{look}
 use Rattle.network.specs.Network.{leaf}
 use Rattle.network.specs.Trimming.{Balanced}
-use Rattle.network.specs.Edition.{edition1}
+use Rattle.network.specs.Edition.{largest}
 use Rattle.tree.specs.Offer.{links, offer}
 use Rattle.tree.specs.Links.{length-links}
 use Rattle.walk.specs.PairingTheorem.{pairs-are-sound}
@@ -22,24 +22,24 @@ use Rattle.pairing.proofs.work_out.Statement.{statement}
 use Rattle.pairing.proofs.work_out.Tie as tie
 
 -- what the tree test said
-accepted : (c : tie.After-enum-told3) → let a = c .before .before .before .before .before .before .args in offer edition1 (a .n) (a .one .now) (a .two .now) (a .capacity .now) ≡ Accepted
+accepted : (c : tie.After-enum-told3) → let a = c .before .before .before .before .before .before .args in offer largest (a .n) (a .one .now) (a .two .now) (a .capacity .now) ≡ Accepted
 accepted c = sym (c .before .before .test .ensures) ∙ c .enum-told3 .given .1
 
-within : (c : tie.After-enum-told3) → let a = c .before .before .before .before .before .before .args in TreeWithin edition1 (a .n) (a .one .now) (a .two .now) (a .capacity .now)
-within c = let a = c .before .before .before .before .before .before .args in accepted-is-a-tree-within-the-limits edition1 (a .n) (a .one .now) (a .two .now) (a .capacity .now) (accepted c)
+within : (c : tie.After-enum-told3) → let a = c .before .before .before .before .before .before .args in TreeWithin largest (a .n) (a .one .now) (a .two .now) (a .capacity .now)
+within c = let a = c .before .before .before .before .before .before .args in accepted-is-a-tree-within-the-limits largest (a .n) (a .one .now) (a .two .now) (a .capacity .now) (accepted c)
 
 no-tree : tie.Need-returns-3
 unfolding answer decide pairCount toStore
 no-tree c =
     let a = c .before .before .before .before .before .before .before .args in
-    let said : offer edition1 (a .n) (a .one .now) (a .two .now) (a .capacity .now) ≡ NoTree = sym (c .before .before .before .test .ensures) ∙ c .before .enum-told .given .1 in
+    let said : offer largest (a .n) (a .one .now) (a .two .now) (a .capacity .now) ≡ NoTree = sym (c .before .before .before .test .ensures) ∙ c .before .enum-told .given .1 in
     refusal-works (a .n) (a .one .now) (a .two .now) (a .capacity .now) (a .places) (c .refused .result) pairing.NoTree (c .refused .ensures) (rw said refl) refl (λ ps. refl)
 
 too-large : tie.Need-returns-4
 unfolding answer decide pairCount toStore
 too-large c =
     let a = c .before .before .before .before .before .before .before .args in
-    let said : offer edition1 (a .n) (a .one .now) (a .two .now) (a .capacity .now) ≡ TooLarge = sym (c .before .before .before .test .ensures) ∙ c .before .enum-told2 .given .1 in
+    let said : offer largest (a .n) (a .one .now) (a .two .now) (a .capacity .now) ≡ TooLarge = sym (c .before .before .before .test .ensures) ∙ c .before .enum-told2 .given .1 in
     refusal-works (a .n) (a .one .now) (a .two .now) (a .capacity .now) (a .places) (c .refused2 .result) pairing.TooLarge (c .refused2 .ensures) (rw said refl) refl (λ ps. refl)
 
 short : tie.Need-returns

@@ -3,6 +3,7 @@ use mathlib.Core.Path.{sym, ap, _∙_}
 use Prim.Native.Nat.{_≤_, _<_, _+_, _-_}
 use lib.ListN.{length}
 use borrow.Author.Tests.{not-true, not-false}
+use Rattle.network.specs.Limits.{PLACES, SITES}
 use Rattle.lines.specs.LineLaws.{line-stays-on-sheet}
 use Rattle.sheet.specs.Reading.{reading}
 use Rattle.sheet.proofs.Progress.{Progress, start, lengths, table-is, by-heading, site-fits, by-site, link-fits, by-link, by-refusal, by-parts, by-acceptance}
@@ -28,10 +29,10 @@ less : (c : tie.After-line Inv-loop μ-loop) → let s = c .before .before .befo
 less c = omega (arith, on-sheet c, c .before .loop-test .taken)
 
 -- there is room for a site, and for a link and its labels
-site-room : (c : tie.After-known-told2 Inv-loop μ-loop) → c .before .before .before .before .before .before .before .before .before .before .before .loop .net .sites < 256
+site-room : (c : tie.After-known-told2 Inv-loop μ-loop) → c .before .before .before .before .before .before .before .before .before .before .before .loop .net .sites < SITES
 site-room c = site-fits (c .before .before .before .before .before .before .before .before .before .before .before .loop .inv) (c .before .before .before .step-at .result) (c .before .before .before .before .before .before .before .before .before .before .loop-test .taken) (c .before .before .before .step-at .ensures) _ _ (c .before .step2 .given .1)
 
-link-room : (c : tie.After-known-told3 Inv-loop μ-loop) → (c .before .before .before .before .before .before .before .before .before .before .before .loop .net .links < 256) × (c .before .step3 .given .0 .0 < 257) × (c .before .step3 .given .0 .1 .0 < 257)
+link-room : (c : tie.After-known-told3 Inv-loop μ-loop) → (c .before .before .before .before .before .before .before .before .before .before .before .loop .net .links < SITES) × (c .before .step3 .given .0 .0 < PLACES) × (c .before .step3 .given .0 .1 .0 < PLACES)
 link-room c = link-fits (c .before .before .before .before .before .before .before .before .before .before .before .loop .inv) (c .before .before .before .step-at .result) (c .before .before .before .before .before .before .before .before .before .before .loop-test .taken) (c .before .before .before .step-at .ensures) _ _ _ (c .before .step3 .given .1)
 
 loop-holds : tie.Need-loop-holds Inv-loop μ-loop

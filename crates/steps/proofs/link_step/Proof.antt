@@ -4,16 +4,17 @@ use Prim.Native.Nat.{_<_}
 use native.Mathlib.Omega.{arith}
 use borrow.Author.Needs.{needs}
 use borrow.Author.Tests.{eq-eqb, ne-eqb}
+use Rattle.network.specs.Limits.{PLACES}
 use Rattle.steps.specs.Steps.{Labelled}
 use Rattle.steps.proofs.link_step.Statement.{statement}
 use Rattle.steps.proofs.link_step.Tie as tie
 
 -- the sites found have labels
-first-site : (c : tie.After-known-told) → c .before .first .given .0 .0 < 257
-first-site c = subst (Labelled 257) (c .before .first .given .1) (c .before .before .before .pre .0)
+first-site : (c : tie.After-known-told) → c .before .first .given .0 .0 < PLACES
+first-site c = subst (Labelled PLACES) (c .before .first .given .1) (c .before .before .before .pre .0)
 
-second-site : (c : tie.After-known-told2) → c .before .second .given .0 .0 < 257
-second-site c = subst (Labelled 257) (c .before .second .given .1) (c .before .before .before .before .before .before .pre .1)
+second-site : (c : tie.After-known-told2) → c .before .second .given .0 .0 < PLACES
+second-site c = subst (Labelled PLACES) (c .before .second .given .1) (c .before .before .before .before .before .before .pre .1)
 
 returns-3 : tie.Need-returns-3
 returns-3 c = rw (c .before .before .before .before .before .before .before .first .given .1, c .before .before .before .before .second .given .1, eq-eqb _ _ (c .if1 .taken))

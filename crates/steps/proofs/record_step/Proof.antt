@@ -4,6 +4,7 @@ use Prim.Native.Nat.{_<_}
 use native.Mathlib.Omega.{arith}
 use borrow.Author.Needs.{needs}
 use lib.ListN.{length}
+use Rattle.network.specs.Limits.{PLACES}
 use Rattle.lines.specs.Lines.{lineAt}
 use Rattle.line_kinds.specs.FormedLines.{Formed}
 use Rattle.line_kinds.specs.declared.Line.{Line}
@@ -22,8 +23,8 @@ link-step-requires : tie.Need-link-step-requires
 link-step-requires c κs =
     let a = c .before .before .before .before .before .before .args in
     let names = ranges (a .starts .now) (a .ends .now) 0 (a .sites) in
-    let few : length names < 257 = omega (arith, length-ranges (a .starts .now) (a .ends .now) 0 (a .sites)) in
-    (subst (Labelled 257) (sym (c .before .find2 .ensures)) (labelled (a .sheet .now) _ names 257 few), subst (Labelled 257) (sym (c .find3 .ensures)) (labelled (a .sheet .now) _ names 257 few))
+    let few : length names < PLACES = omega (arith, length-ranges (a .starts .now) (a .ends .now) 0 (a .sites)) in
+    (subst (Labelled PLACES) (sym (c .before .find2 .ensures)) (labelled (a .sheet .now) _ names PLACES few), subst (Labelled PLACES) (sym (c .find3 .ensures)) (labelled (a .sheet .now) _ names PLACES few))
 
 returns : tie.Need-returns
 unfolding recordStep

@@ -3,7 +3,7 @@ use mathlib.Core.Path.{_≡_, refl, sym, ap, _∙_}
 use mathlib.Core.List.{List}
 use Prim.Native.Nat.{ℕ}
 use lib.ListN.{length}
-use Rattle.network.specs.Edition.{edition1}
+use Rattle.network.specs.Edition.{largest}
 use Rattle.elimination.specs.Toward.{eliminationToward, orderIn}
 use Rattle.elimination.specs.declared.Order.{Order}
 use Rattle.tree.specs.declared.Elimination.{Elimination}
@@ -23,14 +23,14 @@ answered NoTree taken order h = refl
 answered TooLarge taken order h = refl
 answered Accepted taken order h = ap (λ l. record { offer = Accepted; sites = l }) (h refl)
 
-made : {n root : ℕ} {a b places : List ℕ} {o : Offer} (c : List ℕ) (r : Order) → Ordered n a b root r → o ≡ offerOf edition1 (r .all) (length a) c → places ≡ decide o (r .sites) .sites
+made : {n root : ℕ} {a b places : List ℕ} {o : Offer} (c : List ℕ) (r : Order) → Ordered n a b root r → o ≡ offerOf largest (r .all) (length a) c → places ≡ decide o (r .sites) .sites
     → _≡_ {A = Elimination} record { offer = o; sites = places } (eliminatedToward n a b c root)
 unfolding eliminatedToward offer
 made {n} {root} {a} {b} {places} {o} c r given said kept =
     let order = orderIn n (eliminationToward (links a b) n root) in
     ap (λ l. record { offer = o; sites = l }) kept
-    ∙ answered o (r .sites) order (λ e. given .order (accepted-tree edition1 (r .all) (length a) c (sym said ∙ e)))
-    ∙ ap (λ s. decide s order) (said ∙ ap (λ tree. offerOf edition1 tree (length a) c) (given .tree))
+    ∙ answered o (r .sites) order (λ e. given .order (accepted-tree largest (r .all) (length a) c (sym said ∙ e)))
+    ∙ ap (λ s. decide s order) (said ∙ ap (λ tree. offerOf largest tree (length a) c) (given .tree))
 
 returns : tie.Need-returns
 returns c = let o = c .before .before .before .order-of in

@@ -5,6 +5,7 @@ use mathlib.Core.List.{List}
 use Prim.Native.Nat.{ℕ}
 use native.Mathlib.Omega.{arith}
 use borrow.Author.Tests.{not-true, not-false}
+use Rattle.network.specs.Limits.{SITES}
 use Rattle.elimination.specs.Links.{links}
 use Rattle.elimination.specs.Toward.{eliminationToward, orderIn}
 use Rattle.elimination.specs.Steps.{Proper, Eliminated}
@@ -16,9 +17,9 @@ use Rattle.tree.proofs.order_of.Statement.{statement}
 use Rattle.tree.proofs.order_of.Tie as tie
 
 -- where the numbers are right, all sites are taken just if the links make a tree
-decided : {n root : ℕ} {a b order : List ℕ} (all : Bool) → Proper n a b → Eliminated n a b root order all → all ≡ isTree 256 n a b
-decided {n} {root} {a} {b} true p e = sym (a-tree-is-tree 256 n a b record { tree = e .tree refl; few = p .few; firsts = p .firsts; seconds = p .seconds })
-decided {n} {root} {a} {b} false p e = sym (is-false (isTree 256 n a b) (λ t. e .none refl (is-tree-is-a-tree 256 n a b t .tree)))
+decided : {n root : ℕ} {a b order : List ℕ} (all : Bool) → Proper n a b → Eliminated n a b root order all → all ≡ isTree SITES n a b
+decided {n} {root} {a} {b} true p e = sym (a-tree-is-tree SITES n a b record { tree = e .tree refl; few = p .few; firsts = p .firsts; seconds = p .seconds })
+decided {n} {root} {a} {b} false p e = sym (is-false (isTree SITES n a b) (λ t. e .none refl (is-tree-is-a-tree SITES n a b t .tree)))
 
 proper : (c : tie.Else1) → let a = c .before .before .before .before .args in Proper (a .n) (a .one .now) (a .two .now)
 proper c = told (c .before .is-proper .result) (c .before .is-proper .ensures) (not-false _ (c .if1 .left))
@@ -27,8 +28,8 @@ improper : tie.Need-returns
 improper c =
     let a = c .before .before .before .before .args in
     record {
-      tree = sym (is-false (isTree 256 (a .n) (a .one .now) (a .two .now))
-          (λ t. denied (c .before .is-proper .result) (c .before .is-proper .ensures) (not-true _ (c .if1 .taken)) (a-tree-is-proper (is-tree-is-a-tree 256 (a .n) (a .one .now) (a .two .now) t))));
+      tree = sym (is-false (isTree SITES (a .n) (a .one .now) (a .two .now))
+          (λ t. denied (c .before .is-proper .result) (c .before .is-proper .ensures) (not-true _ (c .if1 .taken)) (a-tree-is-proper (is-tree-is-a-tree SITES (a .n) (a .one .now) (a .two .now) t))));
       order = λ z. absurd (let e : _≡_ {A = ℕ} 0 1 = cc in omega arith);
     }
 

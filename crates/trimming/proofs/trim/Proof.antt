@@ -4,7 +4,7 @@ use native.Mathlib.Omega.{arith}
 use borrow.Author.Needs.{needs}
 use borrow.Author.Tests.{le-leb, lt-leb}
 use lib.ListN.{length, take}
-use Rattle.network.specs.Edition.{edition1}
+use Rattle.network.specs.Edition.{largest}
 use Rattle.network.specs.Trimming.{elimination}
 use Rattle.tree.specs.Offer.{links, offer}
 use Rattle.tree.specs.declared.Offer.the-variants.{Accepted}
@@ -30,13 +30,13 @@ too-large c =
 
 -- the offer was accepted
 accepted : (c : tie.After-enum-told3) → let a = c .before .before .before .before .before .before .before .before .args in
-    offer edition1 (a .n) (a .one .now) (a .two .now) (a .capacity .now) ≡ Accepted
+    offer largest (a .n) (a .one .now) (a .two .now) (a .capacity .now) ≡ Accepted
 accepted c = sym (eliminated-says _ _ _ _) ∙ sym (ap (λ r. r .offer) (c .before .before .before .eliminate .ensures)) ∙ c .enum-told3 .given .1
 
 tree : (c : tie.After-enum-told3) → let a = c .before .before .before .before .before .before .before .before .args in
-    TreeWithin edition1 (a .n) (a .one .now) (a .two .now) (a .capacity .now)
+    TreeWithin largest (a .n) (a .one .now) (a .two .now) (a .capacity .now)
 tree c = let a = c .before .before .before .before .before .before .before .before .args in
-    accepted-is-a-tree-within-the-limits edition1 (a .n) (a .one .now) (a .two .now) (a .capacity .now) (accepted c)
+    accepted-is-a-tree-within-the-limits largest (a .n) (a .one .now) (a .two .now) (a .capacity .now) (accepted c)
 
 order : (c : tie.After-enum-told3) → let a = c .before .before .before .before .before .before .before .before .args in
     take (a .n) (c .before .before .before .eliminate .result .sites) ≡ elimination (links (a .one .now) (a .two .now)) (a .n)

@@ -6,6 +6,7 @@ use Prim.Native.Nat.{ℕ}
 use native.Mathlib.Omega.{arith}
 use types.Run.{OneOf}
 use denote.Enum.Declared.{tagOf}
+use Rattle.network.specs.Limits.{SITES}
 use Rattle.pairlist.specs.PairList.{noPair}
 use Rattle.pairing.specs.Outcome.{noPairs, answer, paired}
 use Rattle.pairing.specs.declared.Pairing.the-variants.{Pairs}
@@ -51,9 +52,9 @@ unfolding noPairs
 returns-2 c =
     let s = c .before .before .before .before .before .before .before .before in
     let p = c .before .before .before .before .pair-list in
-    let told : Pairs (c .before .answer .given .0 .0) ≡ answer (s .args .n) (s .args .one .now) (s .args .two .now) (take (length (s .args .one .now)) (s .args .t4)) 256
+    let told : Pairs (c .before .answer .given .0 .0) ≡ answer (s .args .n) (s .args .one .now) (s .args .two .now) (take (length (s .args .one .now)) (s .args .t4)) SITES
     = sym (c .before .answer .given .1) ∙ p .ensures .0 in
-    let held : p .result .list ≡ paired (s .args .n) (s .args .one .now) (s .args .two .now) (take (length (s .args .one .now)) (s .args .t4)) (replicate 256 noPair) = p .ensures .1 in
+    let held : p .result .list ≡ paired (s .args .n) (s .args .one .now) (s .args .two .now) (take (length (s .args .one .now)) (s .args .t4)) (replicate SITES noPair) = p .ensures .1 in
     first-places (s .args .n) (s .args .one .now) (s .args .two .now) (s .args .t4) (s .pre) (p .result .list) (c .before .answer .given .0 .0) held told
 
 pub pairs-of-spec : {M : Type 1} → statement M

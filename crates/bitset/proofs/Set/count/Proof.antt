@@ -7,6 +7,7 @@ use lib.Count.{ones, ones-le}
 use lib.ListN.{getD}
 use mir.Syntax.{w64}
 use mir.Val.{Fits}
+use Rattle.network.specs.Limits.{SITES, WORDS}
 use Rattle.network.specs.Numbers.{sum}
 use Rattle.bitset.specs.Members.{member}
 use Rattle.bitset.proofs.Words.{count-word}
@@ -14,10 +15,10 @@ use Rattle.bitset.proofs.Set.count.Statement.{statement}
 use Rattle.bitset.proofs.Set.count.Tie as tie
 
 abbrev Inv-loop : tie.InvT-loop
-Inv-loop self total₀ i₀ total i = (i ≤ 4) × (total ≡ sum (i * 64) (member self)) × (total ≤ i * 64)
+Inv-loop self total₀ i₀ total i = (i ≤ WORDS) × (total ≡ sum (i * 64) (member self)) × (total ≤ i * 64)
 
 abbrev μ-loop : tie.MeasureT-loop
-μ-loop self total₀ i₀ total i = 4 - i
+μ-loop self total₀ i₀ total i = WORDS - i
 
 loop-holds : tie.Need-loop-holds Inv-loop μ-loop
 unfolding sum
@@ -46,7 +47,7 @@ add-total c = omega (arith, counted c)
 
 returns : tie.Need-returns Inv-loop μ-loop
 returns c =
-    let e : c .before .loop .i * 64 ≡ 256 = omega arith in
+    let e : c .before .loop .i * 64 ≡ SITES = omega arith in
     c .before .loop .inv .1 ∙ rw e refl
 
 pub count-spec : {M : Type 1} → statement M

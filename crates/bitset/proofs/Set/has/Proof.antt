@@ -5,6 +5,7 @@ use borrow.Author.Needs.{needs}
 use lib.Bits.{and-mask}
 use lib.Dec.{eqb}
 use lib.ListN.{length, getD}
+use Rattle.network.specs.Limits.{WORDS}
 use Rattle.bitset.specs.Members.{member}
 use Rattle.bitset.proofs.Words.{member-out}
 use Rattle.bitset.proofs.Set.has.Statement.{statement}
@@ -13,7 +14,7 @@ use Rattle.bitset.proofs.Set.has.Tie as tie
 returns : tie.Need-returns
 returns c =
     let s = c .before .args in
-    let l : length (s .t1 .words) ≡ 4 = search needs in
+    let l : length (s .t1 .words) ≡ WORDS = search needs in
     sym (ap (λ n. eqb n 1) (member-out (s .t1) (s .m) l (c .if1 .taken)))
 
 returns-2 : tie.Need-returns-2

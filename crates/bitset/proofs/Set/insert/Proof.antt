@@ -2,6 +2,7 @@
 use mathlib.Core.Path.{_≡_}
 use borrow.Author.Needs.{needs}
 use lib.ListN.{length}
+use Rattle.network.specs.Limits.{WORDS}
 use Rattle.bitset.proofs.Words.{insert-out, insert-in}
 use Rattle.bitset.proofs.Set.insert.Statement.{statement}
 use Rattle.bitset.proofs.Set.insert.Tie as tie
@@ -9,13 +10,13 @@ use Rattle.bitset.proofs.Set.insert.Tie as tie
 returns : tie.Need-returns
 returns c =
     let s = c .before .args in
-    let l : length (s .t1 .words) ≡ 4 = search needs in
+    let l : length (s .t1 .words) ≡ WORDS = search needs in
     λ j. insert-out (s .t1) (s .m) j l (c .if1 .taken)
 
 returns-2 : tie.Need-returns-2
 returns-2 c =
     let s = c .before .before .args in
-    let l : length (s .t1 .words) ≡ 4 = search needs in
+    let l : length (s .t1 .words) ≡ WORDS = search needs in
     λ j. insert-in (s .t1) (s .m) j l (c .before .if1 .left)
 
 pub insert-spec : {M : Type 1} → statement M

@@ -7,6 +7,7 @@ use lib.Count.{trailingZeros}
 use lib.ListN.{getD}
 use mir.Syntax.{w64}
 use mir.Val.{Fits}
+use Rattle.network.specs.Limits.{WORDS}
 use Rattle.bitset.specs.declared.Found.the-variants.{At}
 use Rattle.bitset.proofs.Words.{rest, rest-none, next-here, next-later}
 use Rattle.bitset.proofs.Set.next.Statement.{statement}
@@ -17,7 +18,7 @@ Inv-loop p self i₀ k₀ i k =
     (k < 64) × (rest self p ≡ rest self (i * 64 + k))
 
 abbrev μ-loop : tie.MeasureT-loop
-μ-loop p self i₀ k₀ i k = 4 - i
+μ-loop p self i₀ k₀ i k = WORDS - i
 
 loop-holds : tie.Need-loop-holds Inv-loop μ-loop
 loop-holds c =

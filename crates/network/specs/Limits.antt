@@ -1,0 +1,47 @@
+-- The limits of the planner, by the names that src/lib.rt gives them. Document 01, "The network sheet"; a number changes here and there.
+-- Nothing but these two files knows them.
+use Prim.Native.Nat.{ℕ, _+_, _-_, _*_, _/_}
+
+-- the largest number of sites of a tree
+abbrev pub SITES : ℕ
+SITES = 256
+
+-- the largest number of links
+abbrev pub LINKS : ℕ
+LINKS = SITES - 1
+
+-- places of a list with one for each site, place 0 unused
+abbrev pub PLACES : ℕ
+PLACES = SITES + 1
+
+-- places of the chains of links: two for each link
+abbrev pub CHAINS : ℕ
+CHAINS = 2 * SITES
+
+-- numbers that spell a list of halves: two for each entry
+abbrev pub HALVES : ℕ
+HALVES = 2 * SITES
+
+-- numbers that spell a pair list: three for each pair
+abbrev pub NUMBERS : ℕ
+NUMBERS = 3 * SITES
+
+-- words of 64 bits of a set of sites
+abbrev pub WORDS : ℕ
+WORDS = SITES / 64
+
+-- words of a set of sites for each label
+abbrev pub SETS : ℕ
+SETS = WORDS * PLACES
+
+-- the largest number of bytes of a sheet
+abbrev pub BYTES : ℕ
+BYTES = 16384
+
+-- the largest size of a link
+abbrev pub SIZE : ℕ
+SIZE = 1000000
+
+-- bytes that are enough for every report
+abbrev pub REPORT : ℕ
+REPORT = 65536
