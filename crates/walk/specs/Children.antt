@@ -203,12 +203,12 @@ tally-sum m g (e ∷ ks) p = omega (
   sum-eq m (λ i. (is (e .1) i + links i ks) * g i) (λ i. is (e .1) i * g i + links i ks * g i) (λ i l. omega arith),
 )
 
-over-none : (us : List ℕ) → over us (λ x. 0) ≡ 0
+pub over-none : (us : List ℕ) → over us (λ x. 0) ≡ 0
 unfolding over
 over-none [] = refl
 over-none (u ∷ us) = omega (arith, over-none us)
 
-over-tally : (us : List ℕ) (ks : List (ℕ × ℕ)) (h : ℕ × ℕ → ℕ → ℕ) → over us (λ x. tally (λ e. h e x) ks) ≡ tally (λ e. over us (h e)) ks
+pub over-tally : (us : List ℕ) (ks : List (ℕ × ℕ)) (h : ℕ × ℕ → ℕ → ℕ) → over us (λ x. tally (λ e. h e x) ks) ≡ tally (λ e. over us (h e)) ks
 unfolding tally
 over-tally us [] h = over-none us
 over-tally us (e ∷ ks) h = omega (arith, over-tally us ks h, over-add us (h e) (λ x. tally (λ e. h e x) ks))
@@ -240,7 +240,7 @@ module _ {ls : Links} {n : ℕ} (T : Tree ls n) (v j : ℕ) where
       (same? i j (λ e. simp (pick-same {A = ℕ} e) (omega arith)) (λ d. simp (pick-other {A = ℕ} d))))
 
   -- a subtree is its first site and the subtrees of the children
-  inside-children : (x : ℕ) → Entered ls j v → Site n v → Site n x → inside ls j v x ≡ is x v * 1 + tally (λ e. inside ls (e .1) (e .0) x) ks
+  pub inside-children : (x : ℕ) → Entered ls j v → Site n v → Site n x → inside ls j v x ≡ is x v * 1 + tally (λ e. inside ls (e .1) (e .0) x) ks
   unfolding inside
   inside-children x en p q = omega (
     arith,

@@ -7,7 +7,7 @@ use lib.ListN.{length}
 use native.Mathlib.Omega.{arith}
 use native.Mathlib.Decide.{decLe}
 use Rattle.network.specs.Numbers.{Each}
-use Rattle.network.specs.Network.{Links, Site, Ends, at, sumAt, leaf}
+use Rattle.network.specs.Network.{Links, Site, Ends, at, sumAt}
 use Rattle.network.specs.Pairing.{Halves, Part, put, takeHalves, dropHalves, halves, give, match, children, gather, alone, settle, walk, pairsFrom, lowestInner, pairs}
 use Rattle.network.specs.declared.Pair.{Pair}
 use Rattle.theory.specs.Sums.{cases, pick-cases, same?, sum-none, sum-eq}
@@ -127,10 +127,10 @@ even-everywhere ls n t terminal h s v d = cases (decLe 1 v)
     (λ p. cases (decLe v n) (λ q. s v (p, q) d) (λ q. (0, sum-nowhere ls n v t h (λ o. q (o .1)))))
     (λ p. (0, sum-nowhere ls n v t h (λ o. p (o .0))))
 
-pub pairs-even : (ls : Links) (n : ℕ) (t : ℕ → ℕ) → ((v : ℕ) → leaf ls v ≢ 1 → Even (sumAt ls v t)) → Each EvenPair (pairs ls n t)
+pub pairs-even : (ls : Links) (n : ℕ) (t terminal : ℕ → ℕ) → ((v : ℕ) → terminal v ≢ 1 → Even (sumAt ls v t)) → Each EvenPair (pairs ls n t terminal)
 unfolding pairs
-pairs-even ls n t sums =
-    let root = lowestInner (leaf ls) 1 n in
-    pick-cases (Each EvenPair) root 0 (give 1 (put 2 (2 * t 0) [])) (pairsFrom ls n t (leaf ls) root)
+pairs-even ls n t terminal sums =
+    let root = lowestInner terminal 1 n in
+    pick-cases (Each EvenPair) root 0 (give 1 (put 2 (2 * t 0) [])) (pairsFrom ls n t terminal root)
     (λ e. give-even 1 (put 2 (2 * t 0) []) (put-even 2 (2 * t 0) [] (t 0, refl) tt))
-    (λ d. root-even ls n t (leaf ls) sums root)
+    (λ d. root-even ls n t terminal sums root)

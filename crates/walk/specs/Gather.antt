@@ -18,7 +18,7 @@ use Rattle.walk.specs.Halves.{halvesAt, at-split, at-none, halves-append
 use Rattle.walk.specs.Subtrees.{LinkAt, Entered, Down, Child, Within, Branch, Joins, three, far, single, one-way, not-parent}
 use Rattle.walk.specs.Children.{joins-none, links, sizes, size}
 use Rattle.walk.specs.Handed.{Open, In, Reaching, Made, All, entries, loading, Good}
-use Rattle.walk.specs.Handed.{up-tally, down-tally, pair-tally, halves-additive, loading-additive, sends, visited, gather-all, gather-le, gather-eq}
+use Rattle.walk.specs.Handed.{up-tally, down-tally, pair-tally, halves-additive, loading-additive, sends, visited, gather-all, gather-le, gather-eq, Few, gather-entries}
 
 -- ---- the order of children
 
@@ -38,18 +38,6 @@ order-total a b (e ∷ ks) d = same? (e .1) a
 pub order-same : (k : ℕ) (ks : List (ℕ × ℕ)) → Order k k ks
 order-same k [] = tt
 order-same k (e ∷ ks) = λ d. (d, order-same k ks)
-
--- one child at most both sends up and gets down
-spare : (a r s : ℕ) → min a r ≡ s → min 1 s + min 1 (a - s) + min 1 (r - s) ≤ 1 + min 1 r
-spare a r s e = cases (decLe a r)
-    (λ l. let q : s ≡ a = omega arith in rw q (all a r l))
-    (λ l. let q : s ≡ r = omega arith in rw q (part a r (omega arith)))
-  where
-    all : (a r : ℕ) → a ≤ r → min 1 a + min 1 (a - a) + min 1 (r - a) ≤ 1 + min 1 r
-    all a r l = omega arith
-
-    part : (a r : ℕ) → r ≤ a → min 1 r + min 1 (a - r) + min 1 (r - r) ≤ 1 + min 1 r
-    part a r l = omega arith
 
 -- a site v below link j, and what visits its children
 pub record Node (ls : Links) (n : ℕ) : Type 0 where
@@ -91,20 +79,8 @@ module _ {ls : Links} {n : ℕ} (N : Node ls n) where
       (λ e r h. omega (arith, sent e r h .up-halves, sent e r h .down-halves))
 
   pub gather-few : (r : ℕ) (ks : List (ℕ × ℕ)) → Each Ready ks → entries (gather visit t r ks) ≤ sizes ls n ks + min 1 r
-  unfolding gather tally
-  gather-few r [] h = omega arith
-  gather-few r (e ∷ ks) h =
-      let s = sends t e r in
-      let a = visited visit t e r in
-      let g = gather visit t (r - s) ks in
-      add (length (a .pairs)) (length (g .pairs)) (length (a .ups)) (length (g .ups)) (length (a .downs)) (length (g .downs))
-      (size ls n (e .1) (e .0)) (sizes ls n ks) (2 * t (e .1)) r s refl
-      (length-append (a .pairs) (g .pairs)) (length-append (a .ups) (g .ups)) (length-append (a .downs) (g .downs))
-      (sent e r (h .0) .few) (gather-few (r - s) ks (h .1))
-    where
-      add : (p p′ u u′ d d′ z z′ a r s : ℕ) {P U D : ℕ} → min a r ≡ s → P ≡ p + p′ → U ≡ u + u′ → D ≡ d + d′
-          → p + u + d + 1 ≤ z + min 1 s + min 1 (a - s) → p′ + u′ + d′ ≤ z′ + min 1 (r - s) → P + U + D ≤ z + z′ + min 1 r
-      add p p′ u u′ d d′ z z′ a r s e ep eu ed f g = omega (arith, spare a r s e)
+  gather-few r ks h = gather-entries visit t (λ e. size ls n (e .1) (e .0)) r ks
+      (each-map Ready (Few visit t (λ e. size ls n (e .1) (e .0))) (λ e q s d o. q .good s d o .few) ks h)
 
   -- ---- every entry and every pair, seen from v
 

@@ -6,11 +6,12 @@ use mathlib.Core.List.{List, [], _∷_}
 use Prim.Native.Nat.{ℕ, _+_, _-_, _*_, _≤_, _<_, min}
 use lib.ListN.{length, length-append}
 use native.Mathlib.Omega.{arith}
+use native.Mathlib.Decide.{decLe}
 use Rattle.network.specs.Numbers.{is, Each}
 use Rattle.network.specs.Network.{Links, Site, separates, Route}
 use Rattle.network.specs.Pairing.{Halves, Part, nothing, join, takeHalves, dropHalves, halves, match, gather, settle}
 use Rattle.network.specs.declared.Pair.{Pair}
-use Rattle.theory.specs.Sums.{same?}
+use Rattle.theory.specs.Sums.{cases, same?}
 use Rattle.walk.specs.Lists.{tally, tally-append, each-append}
 use Rattle.walk.specs.Sound.{arises}
 use Rattle.walk.specs.Halves.{halvesAt, halves-append, halves-take, take-few, drop-few, take-thins, drop-thins, thinned-short, split-length}
@@ -137,6 +138,41 @@ module _ (visit : ℕ → ℕ → ℕ → ℕ → Part) (t : ℕ → ℕ) where
       unfolding gather tally
       gather-eq h r [] p = add .none
       gather-eq h r (e ∷ ks) p = omega (arith, add .both (visited e r) (gather visit t (r - sends t e r) ks), h e r (p .0), gather-eq h (r - sends t e r) ks (p .1))
+
+-- ---- how many entries the children hand back
+
+-- one child at most both sends up and gets down
+spare : (a r s : ℕ) → min a r ≡ s → min 1 s + min 1 (a - s) + min 1 (r - s) ≤ 1 + min 1 r
+spare a r s e = cases (decLe a r)
+    (λ l. let q : s ≡ a = omega arith in rw q (all a r l))
+    (λ l. let q : s ≡ r = omega arith in rw q (part a r (omega arith)))
+  where
+    all : (a r : ℕ) → a ≤ r → min 1 a + min 1 (a - a) + min 1 (r - a) ≤ 1 + min 1 r
+    all a r l = omega arith
+
+    part : (a r : ℕ) → r ≤ a → min 1 r + min 1 (a - r) + min 1 (r - r) ≤ 1 + min 1 r
+    part a r l = omega arith
+
+module _ (visit : ℕ → ℕ → ℕ → ℕ → Part) (t : ℕ → ℕ) (weight : ℕ × ℕ → ℕ) where
+  -- a child that hands back no more entries than its weight allows, however its amount is split
+  abbrev pub Few : ℕ × ℕ → Type 0
+  Few e = (s d : ℕ) → s + d ≡ 2 * t (e .1) → entries (visit (e .0) (e .1) s d) + 1 ≤ weight e + min 1 s + min 1 d
+
+  pub gather-entries : (r : ℕ) (ks : List (ℕ × ℕ)) → Each Few ks → entries (gather visit t r ks) ≤ tally weight ks + min 1 r
+  unfolding gather tally
+  gather-entries r [] h = omega arith
+  gather-entries r (e ∷ ks) h =
+      let s = sends t e r in
+      let a = visited visit t e r in
+      let g = gather visit t (r - s) ks in
+      add (length (a .pairs)) (length (g .pairs)) (length (a .ups)) (length (g .ups)) (length (a .downs)) (length (g .downs))
+      (weight e) (tally weight ks) (2 * t (e .1)) r s refl
+      (length-append (a .pairs) (g .pairs)) (length-append (a .ups) (g .ups)) (length-append (a .downs) (g .downs))
+      (h .0 s (2 * t (e .1) - s) (omega arith)) (gather-entries (r - s) ks (h .1))
+    where
+      add : (p p′ u u′ d d′ z z′ a r s : ℕ) {P U D : ℕ} → min a r ≡ s → P ≡ p + p′ → U ≡ u + u′ → D ≡ d + d′
+          → p + u + d + 1 ≤ z + min 1 s + min 1 (a - s) → p′ + u′ + d′ ≤ z′ + min 1 (r - s) → P + U + D ≤ z + z′ + min 1 r
+      add p p′ u u′ d d′ z z′ a r s e ep eu ed f g = omega (arith, spare a r s e)
 
 -- ---- how many entries and pairs there are once the lists are split and matched
 

@@ -7,7 +7,7 @@ use lib.ListN.{length}
 use native.Mathlib.Omega.{arith}
 use native.Mathlib.Decide.{decLt}
 use Rattle.network.specs.Numbers.{less, Each}
-use Rattle.network.specs.Network.{Links, leaf, separates, Tree, Route}
+use Rattle.network.specs.Network.{Links, separates, Tree, Route}
 use Rattle.network.specs.Pairing.{joins, lowerFirst, before, insert, ordered}
 use Rattle.network.specs.declared.Pair.{Pair}
 use Rattle.theory.specs.Sums.{pick-same, pick-other, pick-cases, same?, cases, less-one, less-lt}
@@ -31,7 +31,7 @@ pub data Same : List Pair → List Pair → Type 0 where
   chain : {es fs gs : List Pair} → Same es fs → Same fs gs → Same es gs
 
 -- sums over pairs that see no order of two sites see no order of pairs
-same-tally : (g : Pair → ℕ) → ((e : Pair) → g (turned e) ≡ g e) → {es fs : List Pair} → Same es fs → tally g fs ≡ tally g es
+pub same-tally : (g : Pair → ℕ) → ((e : Pair) → g (turned e) ≡ g e) → {es fs : List Pair} → Same es fs → tally g fs ≡ tally g es
 unfolding tally
 same-tally g h same = refl
 same-tally g h (skip s) = omega (arith, same-tally g h s)
@@ -39,7 +39,7 @@ same-tally g h swap = omega arith
 same-tally g h (turn {e = e}) = omega (arith, h e)
 same-tally g h (chain s r) = same-tally g h r ∙ same-tally g h s
 
-same-length : {es fs : List Pair} → Same es fs → length fs ≡ length es
+pub same-length : {es fs : List Pair} → Same es fs → length fs ≡ length es
 same-length same = refl
 same-length (skip s) = ap suc (same-length s)
 same-length swap = refl
@@ -54,11 +54,11 @@ same-each P h (turn {e = e}) p = (h e (p .0), p .1)
 same-each P h (chain s r) p = same-each P h r (same-each P h s p)
 
 -- nothing that document 01 says of the pairs sees an order
-pub sound-same : {ls : Links} {n : ℕ} → Tree ls n → (t : ℕ → ℕ) (es fs : List Pair) → Same es fs → Sound ls n t es → Sound ls n t fs
-sound-same {ls} {n} T t es fs s h = sound T t fs
+pub sound-same : {ls : Links} {n : ℕ} → Tree ls n → (terminal t : ℕ → ℕ) (es fs : List Pair) → Same es fs → Sound ls n terminal t es → Sound ls n terminal t fs
+sound-same {ls} {n} T terminal t es fs s h = sound T terminal t fs
     (λ j l. load-flow ls fs j ∙ same-tally (λ e. e .amount * separates ls j (e .first) (e .second))
     (λ e. ap (λ c. e .amount * c) (separates-comm ls j (e .second) (e .first))) s ∙ sym (load-flow ls es j) ∙ h .loads j l)
-    (same-each (Route ls n (leaf ls)) (λ e r. record {
+    (same-each (Route ls n terminal) (λ e r. record {
       first-site = r .second-site;
       second-site = r .first-site;
       first-terminal = r .second-terminal;

@@ -1,4 +1,4 @@
--- Document 01's pairs on a whole tree: terminals are the sites with one link, the root is the lowest other site;
+-- Document 01's pairs on a whole tree whose terminals have one link each: the root is the lowest inner site;
 -- a tree without one has two sites.
 use mathlib.Core.Path.{_≡_, refl, sym, _∙_}
 use mathlib.Core.Logic.{_≢_}
@@ -23,14 +23,14 @@ use Rattle.walk.specs.Walk.{root-loads, root-routes, root-positive, root
 
 -- ---- the lowest inner site
 
-lowest-none : (f : ℕ → ℕ) (c m : ℕ) → 1 ≤ c → lowestInner f c m ≡ 0 → (x : ℕ) → c ≤ x → x < c + m → f x ≡ 1
+pub lowest-none : (f : ℕ → ℕ) (c m : ℕ) → 1 ≤ c → lowestInner f c m ≡ 0 → (x : ℕ) → c ≤ x → x < c + m → f x ≡ 1
 unfolding lowestInner
 lowest-none f c zero p e x a b = absurd (omega arith)
 lowest-none f c (suc m) p e x a b = same? (f c) 1
     (λ o. same? x c (λ q. rw q o) (λ q. lowest-none f (suc c) m (omega arith) (sym (pick-same o (lowestInner f (suc c) m) c) ∙ e) x (omega arith) (omega arith)))
     (λ d. absurd (omega (arith, pick-other d (lowestInner f (suc c) m) c)))
 
-lowest-some : (f : ℕ → ℕ) (c m : ℕ) → lowestInner f c m ≢ 0 → (c ≤ lowestInner f c m) × (lowestInner f c m < c + m) × (f (lowestInner f c m) ≢ 1)
+pub lowest-some : (f : ℕ → ℕ) (c m : ℕ) → lowestInner f c m ≢ 0 → (c ≤ lowestInner f c m) × (lowestInner f c m < c + m) × (f (lowestInner f c m) ≢ 1)
 unfolding lowestInner
 lowest-some f c zero h = absurd (h refl)
 lowest-some f c (suc m) h = same? (f c) 1
@@ -39,6 +39,10 @@ lowest-some f c (suc m) h = same? (f c) 1
     (λ d. rw (pick-other d (lowestInner f (suc c) m) c) (omega arith, omega arith, d))
 
 -- ---- terminals with one link
+
+-- every terminal has just one link
+abbrev pub Outer : Links → ℕ → (ℕ → ℕ) → Type 0
+Outer ls n terminal = (v : ℕ) → Site n v → terminal v ≡ 1 → leaf ls v ≡ 1
 
 -- a leaf has one link
 leaf-link : (ls : Links) (v i k : ℕ) → leaf ls v ≡ 1 → LinkAt ls v i → LinkAt ls v k → i ≡ k
@@ -49,16 +53,17 @@ leaf-link ls v i k e ai ak =
     on i ai ∙ sym (on k ak)
 
 -- so seen from an inner site every link is open
-leaves-open : {ls : Links} {n : ℕ} → Tree ls n → (root : ℕ) → Site n root → leaf ls root ≢ 1 → (i : ℕ) → Open ls n (leaf ls) root i
-leaves-open {ls} T root pr tr i x m px tx am c b =
+all-open : {ls : Links} {n : ℕ} → Tree ls n → (terminal : ℕ → ℕ) → Outer ls n terminal → (root : ℕ) → Site n root → terminal root ≢ 1
+    → (i : ℕ) → Open ls n terminal root i
+all-open {ls} T terminal O root pr tr i x m px tx am c b =
     let r = local-one T x root px pr (λ e. tr (rw e tx)) in
-    omega (arith, rw (leaf-link ls x (r .0) m tx (record { bound = r .1; here = r .2 }) am) at (r .3))
+    omega (arith, rw (leaf-link ls x (r .0) m (O x px tx) (record { bound = r .1; here = r .2 }) am) at (r .3))
 
 -- ---- two sites
 
-module _ {ls : Links} {n : ℕ} (T : Tree ls n) (none : lowestInner (leaf ls) 1 n ≡ 0) where
-  leaves : (x : ℕ) → Site n x → leaf ls x ≡ 1
-  leaves x p = lowest-none (leaf ls) 1 n (omega arith) none x (p .0) (omega arith)
+module _ {ls : Links} {n : ℕ} (T : Tree ls n) (terminal : ℕ → ℕ) (O : Outer ls n terminal) (none : lowestInner terminal 1 n ≡ 0) where
+  terminals : (x : ℕ) → Site n x → terminal x ≡ 1
+  terminals x p = lowest-none terminal 1 n (omega arith) none x (p .0) (omega arith)
 
   -- the sites have one link each, and the links two sites each
   two-sites : n ≡ 2
@@ -71,7 +76,7 @@ module _ {ls : Links} {n : ℕ} (T : Tree ls n) (none : lowestInner (leaf ls) 1 
     sum-add (length ls) (λ i. 1 * 1) (λ i. 1 * 1),
     over-one (sites n),
     length-upfrom 1 n,
-    over-eq (sites n) (λ x. 1 * sumAt ls x (λ i. 1)) (λ x. 1) (λ x m. omega (arith, is-one (leaves x (sites-site n x m)))),
+    over-eq (sites n) (λ x. 1 * sumAt ls x (λ i. 1)) (λ x. 1) (λ x m. let p = sites-site n x m in omega (arith, is-one (O x p (terminals x p)))),
   )
 
   first : 0 < length ls
@@ -93,7 +98,7 @@ module _ {ls : Links} {n : ℕ} (T : Tree ls n) (none : lowestInner (leaf ls) 1 
       loaded zero = unfold give put load in refl
       loaded (suc a) = unfold give put load in (rw between-them (omega arith))
 
-  two-routes : (a : ℕ) → Multiflow ls n (leaf ls) (give 1 (put 2 a []))
+  two-routes : (a : ℕ) → Multiflow ls n terminal (give 1 (put 2 a []))
   unfolding give put
   two-routes zero = tt
   two-routes (suc a) =
@@ -102,8 +107,8 @@ module _ {ls : Links} {n : ℕ} (T : Tree ls n) (none : lowestInner (leaf ls) 1 
         record {
           first-site = one-in;
           second-site = two-in;
-          first-terminal = leaves 1 one-in;
-          second-terminal = leaves 2 two-in;
+          first-terminal = terminals 1 one-in;
+          second-terminal = terminals 2 two-in;
           different = λ z. omega arith;
           free = λ w j p tw d e l a. absurd (omega (arith, two-sites, p));
         },
@@ -127,18 +132,20 @@ two-once x y (suc a) = omega (arith, joins-one (1, 2) x y)
 
 -- ---- every tree
 
-pub pairs-sound : {ls : Links} {n : ℕ} → Tree ls n → (t : ℕ → ℕ) → Balanced ls (leaf ls) t → Sound ls n t (pairs ls n t)
+pub pairs-sound : {ls : Links} {n : ℕ} → Tree ls n → (terminal t : ℕ → ℕ) → Outer ls n terminal → Balanced ls terminal t
+    → Sound ls n terminal t (pairs ls n t terminal)
 unfolding pairs
-pairs-sound {ls} {n} T t B =
-    let root = lowestInner (leaf ls) 1 n in
+pairs-sound {ls} {n} T terminal t O B =
+    let root = lowestInner terminal 1 n in
     let a = 2 * t 0 in
-    pick-cases (Sound ls n t) root 0 (give 1 (put 2 a [])) (pairsFrom ls n t (leaf ls) root)
-    (λ z. sound T t (give 1 (put 2 a [])) (two-loads T z t) (two-routes T z a) (two-positive a) (λ x y. two-once x y a) (two-few T z a))
-    (λ d. let s = lowest-some (leaf ls) 1 n d in
+    pick-cases (Sound ls n terminal t) root 0 (give 1 (put 2 a [])) (pairsFrom ls n t terminal root)
+    (λ z. sound T terminal t (give 1 (put 2 a [])) (two-loads T terminal O z t) (two-routes T terminal O z a) (two-positive a)
+    (λ x y. two-once x y a) (two-few T terminal O z a))
+    (λ d. let s = lowest-some terminal 1 n d in
     let p : Site n root = (s .0, omega (arith, s .1)) in
-    sound T t (pairsFrom ls n t (leaf ls) root)
-    (λ j l. root-loads T t (leaf ls) B root p (s .2) j l (leaves-open T root p (s .2) j))
-    (root-routes T t (leaf ls) B root p (s .2))
-    (root-positive T t (leaf ls) B root p (s .2))
-    (root-once T t (leaf ls) B root p (s .2))
-    (root-few T t (leaf ls) B root p (s .2)))
+    sound T terminal t (pairsFrom ls n t terminal root)
+    (λ j l. root-loads T t terminal B root p (s .2) j l (all-open T terminal O root p (s .2) j))
+    (root-routes T t terminal B root p (s .2))
+    (root-positive T t terminal B root p (s .2))
+    (root-once T t terminal B root p (s .2))
+    (root-few T t terminal B root p (s .2)))

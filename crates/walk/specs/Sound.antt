@@ -4,7 +4,7 @@ use mathlib.Core.List.{List, [], _∷_}
 use Prim.Native.Nat.{ℕ, _*_, _≤_, _<_}
 use lib.ListN.{length}
 use Rattle.network.specs.Numbers.{Each}
-use Rattle.network.specs.Network.{Links, leaf, Multiflow, load, total, atTerminals}
+use Rattle.network.specs.Network.{Links, Multiflow, load, total, atTerminals}
 use Rattle.network.specs.Pairing.{joins, before}
 use Rattle.network.specs.declared.Pair.{Pair}
 use Rattle.walk.specs.Lists.{tally}
@@ -13,12 +13,12 @@ use Rattle.walk.specs.Lists.{tally}
 abbrev pub arises : List Pair → ℕ → ℕ → ℕ
 arises es x y = tally (λ e. joins (e .first, e .second) x y) es
 
--- pairs of a tree, amounts in halves; t: balanced capacities
-pub record Sound (ls : Links) (n : ℕ) (t : ℕ → ℕ) (es : List Pair) : Type 0 where
+-- pairs between the terminals of a tree, amounts in halves; t: balanced capacities
+pub record Sound (ls : Links) (n : ℕ) (terminal t : ℕ → ℕ) (es : List Pair) : Type 0 where
   -- the load of each link is twice its balanced capacity
   pub loads : (j : ℕ) → j < length ls → load ls es j ≡ 2 * t j
   -- every pair joins two different terminals, with no other terminal between them
-  pub routes : Multiflow ls n (leaf ls) es
+  pub routes : Multiflow ls n terminal es
   -- no amount is 0
   pub positive : Each (λ e. 1 ≤ e .amount) es
   -- every pair arises once only
@@ -26,7 +26,7 @@ pub record Sound (ls : Links) (n : ℕ) (t : ℕ → ℕ) (es : List Pair) : Typ
   -- there are at most as many pairs as links
   pub few : length es ≤ length ls
   -- the total is the sum of the balanced capacities at the terminals
-  pub sums : total es ≡ atTerminals ls n (leaf ls) t
+  pub sums : total es ≡ atTerminals ls n terminal t
 
 -- e comes before the first pair of a list
 abbrev pub Before : Pair → List Pair → Type 0

@@ -7,7 +7,7 @@ use Prim.Native.Nat.{ℕ, _+_, _*_, _≤_, _<_}
 use lib.ListN.{length}
 use native.Mathlib.Omega.{arith}
 use Rattle.network.specs.Numbers.{is, over, Each}
-use Rattle.network.specs.Network.{Links, Site, sites, at, sumAt, leaf, separates, Tree, Route, Multiflow, load, total, atTerminals}
+use Rattle.network.specs.Network.{Links, Site, sites, at, sumAt, separates, Tree, Route, Multiflow, load, total, atTerminals}
 use Rattle.network.specs.declared.Pair.{Pair}
 use Rattle.theory.specs.Sums.{same?, is-same, is-other}
 use Rattle.theory.specs.Trees.{separates-comm, sumAt-linear, local}
@@ -73,7 +73,7 @@ module _ {ls : Links} {n : ℕ} (T : Tree ls n) (terminal : ℕ → ℕ) where
       )
 
   -- with twice the capacities for loads, the total is the sum of the capacities at the terminals
-  total-loaded : (t : ℕ → ℕ) (es : List Pair) → Multiflow ls n terminal es → ((j : ℕ) → j < length ls → load ls es j ≡ 2 * t j)
+  pub total-loaded : (t : ℕ → ℕ) (es : List Pair) → Multiflow ls n terminal es → ((j : ℕ) → j < length ls → load ls es j ≡ 2 * t j)
       → total es ≡ atTerminals ls n terminal t
   total-loaded t es p h = omega (arith, twice-total es p, double)
     where
@@ -83,6 +83,6 @@ module _ {ls : Links} {n : ℕ} (T : Tree ls n) (terminal : ℕ → ℕ) where
           ∙ over-mul (sites n) 2 (λ x. is (terminal x) 1 * sumAt ls x t))
 
 -- what is sound but for the total is sound
-pub sound : {ls : Links} {n : ℕ} → Tree ls n → (t : ℕ → ℕ) (es : List Pair) → ((j : ℕ) → j < length ls → load ls es j ≡ 2 * t j) → Multiflow ls n (leaf ls) es
-    → Each (λ e. 1 ≤ e .amount) es → ((x y : ℕ) → arises es x y ≤ 1) → length es ≤ length ls → Sound ls n t es
-sound {ls} T t es l r p o f = record { loads = l; routes = r; positive = p; once = o; few = f; sums = total-loaded T (leaf ls) t es r l }
+pub sound : {ls : Links} {n : ℕ} → Tree ls n → (terminal t : ℕ → ℕ) (es : List Pair) → ((j : ℕ) → j < length ls → load ls es j ≡ 2 * t j) → Multiflow ls n terminal es
+    → Each (λ e. 1 ≤ e .amount) es → ((x y : ℕ) → arises es x y ≤ 1) → length es ≤ length ls → Sound ls n terminal t es
+sound T terminal t es l r p o f = record { loads = l; routes = r; positive = p; once = o; few = f; sums = total-loaded T terminal t es r l }

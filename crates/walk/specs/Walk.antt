@@ -31,7 +31,7 @@ pub start-entered : (ls : Links) (t terminal : ℕ → ℕ) (j v up down : ℕ) 
 start-entered ls t terminal j v up down (inl s) = inl (s .0)
 start-entered ls t terminal j v up down (inr s) = inr (s .0)
 
-put-each : (P : ℕ → Type 0) (x a : ℕ) → P x → Each (λ h. P (h .0)) (put x a [])
+pub put-each : (P : ℕ → Type 0) (x a : ℕ) → P x → Each (λ h. P (h .0)) (put x a [])
 unfolding put
 put-each P x zero p = tt
 put-each P x (suc a) p = (p, tt)
@@ -96,7 +96,7 @@ module _ {ls : Links} {n : ℕ} (T : Tree ls n) (t terminal : ℕ → ℕ) where
     amounts j v up down (inl s) = omega (arith, others-add ls v j t (s .0 .bound) (s .0 .here), s .1)
     amounts j v up down (inr s) = omega (arith, others-all ls v j t (omega (arith, s .0)), s .2)
 
-    room : (j v up down : ℕ) → terminal v ≢ 1 → Start ls t terminal j v up down → up + down ≤ sumAt ls v t
+    pub room : (j v up down : ℕ) → terminal v ≢ 1 → Start ls t terminal j v up down → up + down ≤ sumAt ls v t
     room j v up down tv (inl s) = omega (arith, B v tv j (s .0 .bound) (s .0 .here), s .1)
     room j v up down tv (inr s) = omega (arith, s .2)
 
