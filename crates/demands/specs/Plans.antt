@@ -4,19 +4,19 @@ use mathlib.Core.List.{List}
 use Prim.Native.Nat.{ℕ}
 use native.Mathlib.Omega.{arith}
 use Rattle.network.specs.Numbers.{look}
-use Rattle.network.specs.Network.{Links, Tree, Route, Multiflow, Fits, leaf}
+use Rattle.network.specs.Network.{Links, Tree, Route, Multiflow, Fits}
 use Rattle.network.specs.Trimming.{Greatest, balanced}
 use Rattle.network.specs.Pairing.{pairList}
 use Rattle.network.specs.declared.Pair.{Pair}
 use Rattle.theory.specs.Greatest.{balanced-is-greatest}
-use Rattle.theory.specs.Leaves.{leaf-route}
+use Rattle.theory.specs.Leaves.{Outer, outer-route}
 use Rattle.walk.specs.Lists.{each-map}
 use Rattle.walk.specs.PairingTheorem.{pair-list-is-sound}
 use Rattle.walk.specs.Sound.{Sound}
 use Rattle.demands.specs.Printed.{JoinsEnds, IsPlan}
 
-pub multiflow-is-plan : (ls : Links) (n : ℕ) (fs : List Pair) → Multiflow ls n (leaf ls) fs → IsPlan ls n fs
-multiflow-is-plan ls n = each-map (Route ls n (leaf ls)) (JoinsEnds ls n) (λ e r. record {
+pub multiflow-is-plan : (ls : Links) (n : ℕ) (terminal : ℕ → ℕ) (fs : List Pair) → Multiflow ls n terminal fs → IsPlan n terminal fs
+multiflow-is-plan ls n terminal = each-map (Route ls n terminal) (JoinsEnds n terminal) (λ e r. record {
   first-site = r .first-site;
   second-site = r .second-site;
   first-end = r .first-terminal;
@@ -24,24 +24,25 @@ multiflow-is-plan ls n = each-map (Route ls n (leaf ls)) (JoinsEnds ls n) (λ e 
   different = r .different;
 })
 
-module _ {ls : Links} {n : ℕ} (T : Tree ls n) where
-  pub plan-is-multiflow : (fs : List Pair) → IsPlan ls n fs → Multiflow ls n (leaf ls) fs
-  plan-is-multiflow = each-map (JoinsEnds ls n) (Route ls n (leaf ls))
-      (λ e h. leaf-route T e (h .first-site) (h .second-site) (h .first-end) (h .second-end) (h .different))
+-- a tree whose terminals have one link each
+module _ {ls : Links} {n : ℕ} (T : Tree ls n) (terminal : ℕ → ℕ) (O : Outer ls n terminal) where
+  pub plan-is-multiflow : (fs : List Pair) → IsPlan n terminal fs → Multiflow ls n terminal fs
+  plan-is-multiflow = each-map (JoinsEnds n terminal) (Route ls n terminal)
+      (λ e h. outer-route T terminal O e (h .first-site) (h .second-site) (h .first-end) (h .second-end) (h .different))
 
   -- the sizes c trimmed, and their pair list
   module _ (c : List ℕ) where
     abbrev pub trimmedTo : ℕ → ℕ
-    trimmedTo = look (balanced ls n (leaf ls) c)
+    trimmedTo = look (balanced ls n terminal c)
 
     abbrev pub fullPlan : List Pair
-    fullPlan = pairList ls n trimmedTo
+    fullPlan = pairList ls n trimmedTo terminal
 
-    pub trimmed-is-greatest : Greatest ls (leaf ls) (look c) trimmedTo
-    trimmed-is-greatest = balanced-is-greatest T (leaf ls) c
+    pub trimmed-is-greatest : Greatest ls terminal (look c) trimmedTo
+    trimmed-is-greatest = balanced-is-greatest T terminal c
 
-    pub full-plan-is-sound : Sound ls n trimmedTo fullPlan
-    full-plan-is-sound = pair-list-is-sound T trimmedTo (trimmed-is-greatest .balanced)
+    pub full-plan-is-sound : Sound ls n terminal trimmedTo fullPlan
+    full-plan-is-sound = pair-list-is-sound T terminal trimmedTo O (trimmed-is-greatest .balanced)
 
     pub full-plan-fits : Fits ls 2 (look c) fullPlan
     full-plan-fits j l = omega (arith, full-plan-is-sound .loads j l, trimmed-is-greatest .below j l)

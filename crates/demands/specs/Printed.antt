@@ -8,7 +8,7 @@ use Prim.Native.Nat.{ℕ, _+_, _-_, _*_}
 use lib.Dec.{eqb}
 use lib.ListN.{length, getD, take}
 use Rattle.network.specs.Numbers.{pick, is, differ, sum, look, Each}
-use Rattle.network.specs.Network.{Links, Site, one, two, leaf}
+use Rattle.network.specs.Network.{Links, Site, one, two, ends}
 use Rattle.network.specs.Text.{bytes}
 use Rattle.network.specs.declared.Pair.{Pair}
 use Rattle.line_kinds.specs.LineKinds.{push, fields, field, same, value}
@@ -19,17 +19,24 @@ use Rattle.planner.specs.Outcome.{Planned, lengthOf}
 
 -- ---- plans
 
--- an entry joins two different ends (01: each pair of different ends)
-pub record JoinsEnds (ls : Links) (n : ℕ) (e : Pair) : Type 0 where
+-- an entry joins two different ends (01: each pair of different ends); `end` is 1 at an end
+pub record JoinsEnds (n : ℕ) (end : ℕ → ℕ) (e : Pair) : Type 0 where
   pub first-site : Site n (e .first)
   pub second-site : Site n (e .second)
-  pub first-end : leaf ls (e .first) ≡ 1
-  pub second-end : leaf ls (e .second) ≡ 1
+  pub first-end : end (e .first) ≡ 1
+  pub second-end : end (e .second) ≡ 1
   pub different : e .first ≢ e .second
 
--- a plan of the tree with links ls and n sites: amounts for pairs of different ends; in which parts of a circuit is said beside it (01: plan)
-abbrev pub IsPlan : Links → ℕ → List Pair → Type 0
-IsPlan ls n fs = Each (JoinsEnds ls n) fs
+-- a plan of a tree with n sites: amounts for pairs of different ends; in which parts of a circuit is said beside it (01: plan)
+abbrev pub IsPlan : ℕ → (ℕ → ℕ) → List Pair → Type 0
+IsPlan n end fs = Each (JoinsEnds n end) fs
+
+-- the number of sites of a network, and its ends: 1 at an end
+abbrev pub siteCount : Network → ℕ
+siteCount net = length (net .names)
+
+abbrev pub isEnd : Network → ℕ → ℕ
+isEnd net = look (ends (net .links) (siteCount net))
 
 -- ---- lines and fields
 
@@ -58,9 +65,9 @@ lastField l = field l (length l - 1)
 -- ---- sites
 
 -- the ends among some sites, in their order (01: end)
-unfoldable pub endsAmong : Links → List ℕ → List ℕ
-endsAmong ls [] = []
-endsAmong ls (v ∷ vs) = pick (leaf ls v) 1 (v ∷ endsAmong ls vs) (endsAmong ls vs)
+unfoldable pub endsAmong : (ℕ → ℕ) → List ℕ → List ℕ
+endsAmong end [] = []
+endsAmong end (v ∷ vs) = pick (end v) 1 (v ∷ endsAmong end vs) (endsAmong end vs)
 
 -- the number of a site that is found, 0 where none is
 unfoldable pub siteFound : Found → ℕ

@@ -7,7 +7,7 @@ use Prim.Native.Nat.{ℕ, _+_, _-_, _*_}
 use native.Mathlib.Omega.{arith}
 use lib.ListN.{length}
 use Rattle.network.specs.Numbers.{is, differ, sum, over, count, look, Each}
-use Rattle.network.specs.Network.{Links, Site, Tree, sites, one, two, leaf, atTerminals}
+use Rattle.network.specs.Network.{Links, Site, Tree, sites, one, two, atTerminals}
 use Rattle.network.specs.Trimming.{Greatest}
 use Rattle.network.specs.Cuts.{group, inCut, cutSize, cutCount, owner}
 use Rattle.theory.specs.Sums.{same?, pick-same, pick-other, is-same, is-other, is-one, is-iff, sum-eq}
@@ -22,12 +22,12 @@ abbrev pub cutOf : Links → ℕ → (ℕ → ℕ) → (ℕ → ℕ) → ℕ →
 cutOf ls n c t a = record { end = a; size = cutSize ls c t a; count = cutCount ls c t n a }
 
 -- what holds of the ends among sites
-each-end : (ls : Links) (P : ℕ → Type 0) (us : List ℕ) → Each (λ a. leaf ls a ≡ 1 → P a) us → Each P (endsAmong ls us)
+each-end : (terminal : ℕ → ℕ) (P : ℕ → Type 0) (us : List ℕ) → Each (λ a. terminal a ≡ 1 → P a) us → Each P (endsAmong terminal us)
 unfolding endsAmong
-each-end ls P [] h = tt
-each-end ls P (u ∷ us) h = same? (leaf ls u) 1
-    (λ e. rw (pick-same e) (h .0 e, each-end ls P us (h .1)))
-    (λ d. rw (pick-other d) (each-end ls P us (h .1)))
+each-end terminal P [] h = tt
+each-end terminal P (u ∷ us) h = same? (terminal u) 1
+    (λ e. rw (pick-same e) (h .0 e, each-end terminal P us (h .1)))
+    (λ d. rw (pick-other d) (each-end terminal P us (h .1)))
 
 each-mapped : {A B : Type 0} (P : B → Type 0) (f : A → B) (l : List A) → Each (λ a. P (f a)) l → Each P (map f l)
 each-mapped P f [] h = tt
@@ -38,51 +38,51 @@ unfolding count over
 count-mapped f [] a = refl
 count-mapped f (u ∷ us) a = ap (λ y. is (f u) a + y) (count-mapped f us a)
 
-sizes-summed : (ls : Links) (f : ℕ → EndSet) (us : List ℕ) → sizeSum (map f (endsAmong ls us)) ≡ over us (λ a. is (leaf ls a) 1 * f a .size)
+sizes-summed : (terminal : ℕ → ℕ) (f : ℕ → EndSet) (us : List ℕ) → sizeSum (map f (endsAmong terminal us)) ≡ over us (λ a. is (terminal a) 1 * f a .size)
 unfolding sizeSum endsAmong over
-sizes-summed ls f [] = refl
-sizes-summed ls f (u ∷ us) = same? (leaf ls u) 1
-    (λ e. rw (pick-same {A = List ℕ} e, is-same e) (omega (arith, sizes-summed ls f us)))
-    (λ d. rw (pick-other {A = List ℕ} d, is-other d) (omega (arith, sizes-summed ls f us)))
+sizes-summed terminal f [] = refl
+sizes-summed terminal f (u ∷ us) = same? (terminal u) 1
+    (λ e. rw (pick-same {A = List ℕ} e, is-same e) (omega (arith, sizes-summed terminal f us)))
+    (λ d. rw (pick-other {A = List ℕ} d, is-other d) (omega (arith, sizes-summed terminal f us)))
 
-module _ {ls : Links} {n : ℕ} (T : Tree ls n) {c t : ℕ → ℕ} (g : Greatest ls (leaf ls) c t) where
+module _ {ls : Links} {n : ℕ} (T : Tree ls n) (terminal : ℕ → ℕ) {c t : ℕ → ℕ} (g : Greatest ls terminal c t) where
   -- an end owns just the sites of its cut
-  owned : (a x : ℕ) → Site n a → leaf ls a ≡ 1 → is (owner ls c t (leaf ls) n x) a ≡ inCut ls c t a x
+  owned : (a x : ℕ) → Site n a → terminal a ≡ 1 → is (owner ls c t terminal n x) a ≡ inCut ls c t a x
   unfolding inCut
   owned a x p e =
-      let w = owner-iff-in-cut T (leaf ls) g a p e x in
-      is-iff (owner ls c t (leaf ls) n x) a (group ls c t x) (group ls c t a) (λ o. is-one (w .0 o)) (λ i. w .1 (is-same i))
+      let w = owner-iff-in-cut T terminal g a p e x in
+      is-iff (owner ls c t terminal n x) a (group ls c t x) (group ls c t a) (λ o. is-one (w .0 o)) (λ i. w .1 (is-same i))
 
   abbrev owners : List ℕ
-  owners = map (owner ls c t (leaf ls) n) (sites n)
+  owners = map (owner ls c t terminal n) (sites n)
 
   -- so the owners told say what is in a cut
-  pub owners-tell-the-cuts : (a x : ℕ) → Site n a → leaf ls a ≡ 1 → Site n x → (look owners (x - 1) ≡ a) ↔ (inCut ls c t a x ≡ 1)
-  owners-tell-the-cuts a x p e q = rw (look-site (owner ls c t (leaf ls) n) n x q) (owner-iff-in-cut T (leaf ls) g a p e x)
+  pub owners-tell-the-cuts : (a x : ℕ) → Site n a → terminal a ≡ 1 → Site n x → (look owners (x - 1) ≡ a) ↔ (inCut ls c t a x ≡ 1)
+  owners-tell-the-cuts a x p e q = rw (look-site (owner ls c t terminal n) n x q) (owner-iff-in-cut T terminal g a p e x)
 
-  owned-at : (a v : ℕ) → Site n a → leaf ls a ≡ 1 → Site n v → is (look owners (v - 1)) a ≡ inCut ls c t a v
-  owned-at a v p e q = rw (look-site (owner ls c t (leaf ls) n) n v q) (owned a v p e)
+  owned-at : (a v : ℕ) → Site n a → terminal a ≡ 1 → Site n v → is (look owners (v - 1)) a ≡ inCut ls c t a v
+  owned-at a v p e q = rw (look-site (owner ls c t terminal n) n v q) (owned a v p e)
 
   -- the size and the count of the sites that an end owns are those of its cut
   abbrev sizeOwned : ℕ → ℕ
   sizeOwned a = sum (length ls) (λ j. differ (is (look owners (one ls j - 1)) a) (is (look owners (two ls j - 1)) a) * c j)
 
-  size-owned : (a : ℕ) → Site n a → leaf ls a ≡ 1 → sizeOwned a ≡ cutSize ls c t a
+  size-owned : (a : ℕ) → Site n a → terminal a ≡ 1 → sizeOwned a ≡ cutSize ls c t a
   unfolding cutSize
   size-owned a p e = sum-eq (length ls) (λ j. differ (is (look owners (one ls j - 1)) a) (is (look owners (two ls j - 1)) a) * c j)
       (λ j. differ (inCut ls c t a (one ls j)) (inCut ls c t a (two ls j)) * c j)
       (λ j l. rw (owned-at a (one ls j) p e (T .ends j l .0), owned-at a (two ls j) p e (T .ends j l .1)))
 
-  count-owned : (a : ℕ) → Site n a → leaf ls a ≡ 1 → count owners a ≡ cutCount ls c t n a
+  count-owned : (a : ℕ) → Site n a → terminal a ≡ 1 → count owners a ≡ cutCount ls c t n a
   unfolding cutCount
-  count-owned a p e = count-mapped (owner ls c t (leaf ls) n) (sites n) a
-      ∙ over-eq (sites n) (λ x. is (owner ls c t (leaf ls) n x) a) (λ x. inCut ls c t a x) (λ x q. owned a x p e)
+  count-owned a p e = count-mapped (owner ls c t terminal n) (sites n) a
+      ∙ over-eq (sites n) (λ x. is (owner ls c t terminal n x) a) (λ x. inCut ls c t a x) (λ x q. owned a x p e)
 
   -- so each set told is the set of the sites owned
-  pub told-sets-are-owned : Each (λ x. (x .size ≡ sizeOwned (x .end)) × (x .count ≡ count owners (x .end))) (map (cutOf ls n c t) (endsAmong ls (sites n)))
-  told-sets-are-owned = each-mapped _ (cutOf ls n c t) (endsAmong ls (sites n)) (each-end ls _ (sites n)
+  pub told-sets-are-owned : Each (λ x. (x .size ≡ sizeOwned (x .end)) × (x .count ≡ count owners (x .end))) (map (cutOf ls n c t) (endsAmong terminal (sites n)))
+  told-sets-are-owned = each-mapped _ (cutOf ls n c t) (endsAmong terminal (sites n)) (each-end terminal _ (sites n)
       (each-site _ n (λ a p e. (sym (size-owned a p e), sym (count-owned a p e)))))
 
   -- and the sizes sum to the balanced capacities at the ends
-  pub told-sizes-sum-to-the-terminals : sizeSum (map (cutOf ls n c t) (endsAmong ls (sites n))) ≡ atTerminals ls n (leaf ls) t
-  told-sizes-sum-to-the-terminals = sizes-summed ls (cutOf ls n c t) (sites n) ∙ cut-sizes-sum-to-the-terminals T (leaf ls) g
+  pub told-sizes-sum-to-the-terminals : sizeSum (map (cutOf ls n c t) (endsAmong terminal (sites n))) ≡ atTerminals ls n terminal t
+  told-sizes-sum-to-the-terminals = sizes-summed terminal (cutOf ls n c t) (sites n) ∙ cut-sizes-sum-to-the-terminals T terminal g

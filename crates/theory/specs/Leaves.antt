@@ -19,6 +19,10 @@ leaf-has-one-link ls w i j f l k a b = same? i j
     (λ e. e)
     (λ d. absurd (omega (arith, is-one f, rw (a, b) at (sum-two (length ls) i j (λ y. at ls w y * 1) l k d))))
 
+-- every terminal has just one link
+abbrev pub Outer : Links → ℕ → (ℕ → ℕ) → Type 0
+Outer ls n terminal = (v : ℕ) → Site n v → terminal v ≡ 1 → leaf ls v ≡ 1
+
 module _ {ls : Links} {n : ℕ} (T : Tree ls n) where
   -- it separates the leaf from every other site
   leaf-separates : (w x j : ℕ) → Site n w → Site n x → x ≢ w → leaf ls w ≡ 1 → j < length ls → at ls w j ≡ 1 → separates ls j w x ≡ 1
@@ -26,10 +30,10 @@ module _ {ls : Links} {n : ℕ} (T : Tree ls n) where
       let r = local-one T w x p q d in
       rw (leaf-has-one-link ls w (r .0) j f (r .1) l (r .2) a) at (r .3)
 
-  -- an entry between two different leaves is a route
-  pub leaf-route : (e : Pair) → Site n (e .first) → Site n (e .second) → leaf ls (e .first) ≡ 1 → leaf ls (e .second) ≡ 1 → e .first ≢ e .second
-      → Route ls n (leaf ls) e
-  leaf-route e p q f g d = record {
+  -- where every terminal is a leaf, an entry between two different terminals is a route
+  pub outer-route : (terminal : ℕ → ℕ) → Outer ls n terminal → (e : Pair) → Site n (e .first) → Site n (e .second)
+      → terminal (e .first) ≡ 1 → terminal (e .second) ≡ 1 → e .first ≢ e .second → Route ls n terminal e
+  outer-route terminal O e p q f g d = record {
     first-site = p;
     second-site = q;
     first-terminal = f;
@@ -37,8 +41,8 @@ module _ {ls : Links} {n : ℕ} (T : Tree ls n) where
     different = d;
     free = λ w j s m wa wb l a. omega (
       arith,
-      leaf-separates w (e .first) j s p (λ z. wa (sym z)) m l a,
-      leaf-separates w (e .second) j s q (λ z. wb (sym z)) m l a,
+      leaf-separates w (e .first) j s p (λ z. wa (sym z)) (O w s m) l a,
+      leaf-separates w (e .second) j s q (λ z. wb (sym z)) (O w s m) l a,
       separates-triple T j w (e .first) (e .second) l s p q,
     );
   }

@@ -15,7 +15,8 @@ use Rattle.walk.specs.Lists.{each-both}
 use Rattle.walk.specs.Sound.{Sound, Ascending}
 use Rattle.walk.specs.Subtrees.{Entered}
 use Rattle.walk.specs.Walk.{size-le, walk-fuel}
-use Rattle.walk.specs.Pairs.{Outer, pairs-sound}
+use Rattle.walk.specs.Pairs.{pairs-sound}
+use Rattle.theory.specs.Leaves.{Outer}
 use Rattle.walk.specs.Order.{sound-same, same-each, ordered-same, ordered-lower, ordered-ascending}
 use Rattle.walk.specs.Evens.{Even, even-everywhere, pairs-even}
 use Rattle.walk.specs.Bounds.{loads-bound-amounts}

@@ -11,6 +11,7 @@ use Rattle.network.specs.Network.{Links, Site, sites, one, two, at, sumAt, leaf
 use Rattle.network.specs.Trimming.{Balanced}
 use Rattle.network.specs.Pairing.{put, give, pairsFrom, lowestInner, pairs}
 use Rattle.theory.specs.Sums.{pick-same, pick-other, pick-cases, same?, is-one, sum-one, sum-add, sum-only}
+use Rattle.theory.specs.Leaves.{Outer, leaf-has-one-link}
 use Rattle.theory.specs.Trees.{separates-comm, separates-self, local-one}
 use Rattle.walk.specs.Lists.{tally}
 use Rattle.walk.specs.Sound.{arises, Sound}
@@ -40,24 +41,12 @@ lowest-some f c (suc m) h = same? (f c) 1
 
 -- ---- terminals with one link
 
--- every terminal has just one link
-abbrev pub Outer : Links → ℕ → (ℕ → ℕ) → Type 0
-Outer ls n terminal = (v : ℕ) → Site n v → terminal v ≡ 1 → leaf ls v ≡ 1
-
--- a leaf has one link
-leaf-link : (ls : Links) (v i k : ℕ) → leaf ls v ≡ 1 → LinkAt ls v i → LinkAt ls v k → i ≡ k
-unfolding leaf sumAt
-leaf-link ls v i k e ai ak =
-    let r = sum-only (length ls) (λ x. at ls v x * 1) (is-one e) in
-    let on : (x : ℕ) → LinkAt ls v x → x ≡ r .0 = λ x a. same? x (r .0) (λ q. q) (λ d. absurd (omega (arith, a .here, r .3 x (a .bound) d))) in
-    on i ai ∙ sym (on k ak)
-
--- so seen from an inner site every link is open
+-- a leaf has one link, so seen from an inner site every link is open
 all-open : {ls : Links} {n : ℕ} → Tree ls n → (terminal : ℕ → ℕ) → Outer ls n terminal → (root : ℕ) → Site n root → terminal root ≢ 1
     → (i : ℕ) → Open ls n terminal root i
 all-open {ls} T terminal O root pr tr i x m px tx am c b =
     let r = local-one T x root px pr (λ e. tr (rw e tx)) in
-    omega (arith, rw (leaf-link ls x (r .0) m (O x px tx) (record { bound = r .1; here = r .2 }) am) at (r .3))
+    omega (arith, rw (leaf-has-one-link ls x (r .0) m (O x px tx) (r .1) (am .bound) (r .2) (am .here)) at (r .3))
 
 -- ---- two sites
 
