@@ -10,7 +10,7 @@ use native.Mathlib.Decide.{decLe}
 use lib.ListN.{length, drop}
 use Rattle.network.specs.Edition.{edition1}
 use Rattle.network.specs.Numbers.{count, look, Each}
-use Rattle.network.specs.Network.{Links, Site, Tree, Fits, sites, leaf, load, total}
+use Rattle.network.specs.Network.{Links, Site, Tree, Fits, sites, load, total}
 use Rattle.network.specs.Trimming.{balanced}
 use Rattle.network.specs.Cuts.{inCut}
 use Rattle.network.specs.Text.{bytes}
@@ -18,14 +18,15 @@ use Rattle.network.specs.declared.Edition.{Edition}
 use Rattle.network.specs.declared.Pair.{Pair}
 use Rattle.theory.specs.Sums.{cases, same?}
 use Rattle.theory.specs.Greatest.{balanced-again}
+use Rattle.theory.specs.Leaves.{Outer}
 use Rattle.theory.specs.Bounds.{what-fits-fits-the-balanced, the-same-multiflows-fit-iff-the-balanced-agree, a-full-multiflow-has-the-greatest-total}
 use Rattle.walk.specs.Sound.{arises}
 use Rattle.sheet.specs.Sheet.{Network, Read, refused, accepted, readSheet}
 use Rattle.sheet.specs.SheetTheorem.{IsNetwork, an-accepted-sheet-is-a-tree}
 use Rattle.report.specs.Report.{report}
 use Rattle.planner.specs.Outcome.{Planned, number, lineOf, lengthOf, planned}
-use Rattle.demands.specs.Printed.{IsPlan, endsAmong, Printed, printedBy, printedOwner, setSize, sizeSum}
-use Rattle.demands.specs.Plans.{multiflow-is-plan, plan-is-multiflow, fullPlan, trimmed-is-greatest, full-plan-is-sound, full-plan-fits}
+use Rattle.demands.specs.Printed.{IsPlan, siteCount, isEnd, endsAmong, Printed, printedBy, printedOwner, setSize, sizeSum}
+use Rattle.demands.specs.Plans.{the-ends-have-one-link, multiflow-is-plan, plan-is-multiflow, fullPlan, trimmed-is-greatest, full-plan-is-sound, full-plan-fits}
 use Rattle.demands.specs.Lists.{map-map, map-own}
 use Rattle.demands.specs.ReadBack.{planSays}
 use Rattle.demands.specs.Sets.{owners-tell-the-cuts, told-sets-are-owned, told-sizes-sum-to-the-terminals}
@@ -108,15 +109,15 @@ pub record ShowsSheet (net : Network) (p : Printed) : Type 0 where
   pub heading : p .heading ≡ bytes "plan"
   pub links : p .links ≡ net .links
   pub sizes : p .sizes ≡ net .capacities
-  pub sites-shown : p .sites ≡ sites (length (net .names))
+  pub sites-shown : p .sites ≡ sites (siteCount net)
 
 -- the largest total
 pub record Demand2 (net : Network) (p : Printed) : Type 0 where
   -- no plan that fits the link sizes, k parts to a circuit, has a larger total: in circuits, total fs / k is at most the printed total / 2
-  pub largest : (fs : List Pair) → IsPlan (net .links) (length (net .names)) fs → (k : ℕ) → 1 ≤ k → Fits (net .links) k (look (net .capacities)) fs
+  pub largest : (fs : List Pair) → IsPlan (siteCount net) (isEnd net) fs → (k : ℕ) → 1 ≤ k → Fits (net .links) k (look (net .capacities)) fs
       → 2 * total fs ≤ k * p .total
   -- the printed pairs are a plan in halves, each pair once; it fits, and it reaches that total
-  pub printed-plan : IsPlan (net .links) (length (net .names)) (p .plan)
+  pub printed-plan : IsPlan (siteCount net) (isEnd net) (p .plan)
   pub once : (x y : ℕ) → arises (p .plan) x y ≤ 1
   pub printed-plan-fits : Fits (net .links) 2 (look (net .capacities)) (p .plan)
   pub reached : total (p .plan) ≡ p .total
@@ -124,10 +125,10 @@ pub record Demand2 (net : Network) (p : Printed) : Type 0 where
   pub few : length (p .plan) ≤ length (net .links)
   pub counted : p .pairCount ≡ length (p .plan)
   -- the printed set of an end a is what a reaches over links whose printed trimmed size is below the given one
-  pub set-members : (a x : ℕ) → Site (length (net .names)) a → leaf (net .links) a ≡ 1 → Site (length (net .names)) x
+  pub set-members : (a x : ℕ) → Site (siteCount net) a → isEnd net a ≡ 1 → Site (siteCount net) x
       → (printedOwner p x ≡ a) ↔ (inCut (net .links) (look (net .capacities)) (look (p .trimmed)) a x ≡ 1)
   -- the `X` lines are those of the ends, with the size and the count of the printed set
-  pub set-of-each-end : map (λ x. x .end) (p .sets) ≡ endsAmong (net .links) (sites (length (net .names)))
+  pub set-of-each-end : map (λ x. x .end) (p .sets) ≡ endsAmong (isEnd net) (sites (siteCount net))
   pub size-of-each-set : Each (λ x. (x .size ≡ setSize p (x .end)) × (x .count ≡ count (p .owners) (x .end))) (p .sets)
   -- the sizes sum to twice the total in circuits, that is to the printed total in halves
   pub sizes-sum : sizeSum (p .sets) ≡ p .total
@@ -135,35 +136,37 @@ pub record Demand2 (net : Network) (p : Printed) : Type 0 where
 -- the trimmed sizes
 pub record Demand3 (net : Network) (p : Printed) : Type 0 where
   -- whatever plan fits the link sizes, k parts to a circuit: its load on each link is at most that link's printed trimmed size
-  pub bounded : (fs : List Pair) → IsPlan (net .links) (length (net .names)) fs → (k : ℕ) → 1 ≤ k → Fits (net .links) k (look (net .capacities)) fs
+  pub bounded : (fs : List Pair) → IsPlan (siteCount net) (isEnd net) fs → (k : ℕ) → 1 ≤ k → Fits (net .links) k (look (net .capacities)) fs
       → (j : ℕ) → j < length (net .links) → load (net .links) fs j ≤ k * look (p .trimmed) j
   -- the printed plan fits too, and its load, in halves, is twice the printed trimmed size on every link at once
-  pub printed-plan : IsPlan (net .links) (length (net .names)) (p .plan)
+  pub printed-plan : IsPlan (siteCount net) (isEnd net) (p .plan)
   pub printed-plan-fits : Fits (net .links) 2 (look (net .capacities)) (p .plan)
   pub filled : (j : ℕ) → j < length (net .links) → load (net .links) (p .plan) j ≡ 2 * look (p .trimmed) j
   -- the printed trimmed sizes are those that trimming gives, of which the two theorems below speak
-  pub trimmed : p .trimmed ≡ balanced (net .links) (length (net .names)) (leaf (net .links)) (net .capacities)
+  pub trimmed : p .trimmed ≡ balanced (net .links) (siteCount net) (isEnd net) (net .capacities)
 
-module _ {ls : Links} {n : ℕ} (T : Tree ls n) where
+-- for any ends that have one link each
+module _ {ls : Links} {n : ℕ} (T : Tree ls n) (end : ℕ → ℕ) (O : Outer ls n end) where
   -- whichever two lists of sizes the links of one tree are given: the plans that fit the first are the plans that fit the second, in whatever
   -- fraction of a circuit, exactly if their trimmed sizes agree on every link
   pub the-same-plans-fit-exactly-if-the-trimmed-sizes-agree : (c d : List ℕ)
-      → ((fs : List Pair) → IsPlan ls n fs → (k : ℕ) → 1 ≤ k → Fits ls k (look c) fs ↔ Fits ls k (look d) fs)
-      ↔ ((j : ℕ) → j < length ls → look (balanced ls n (leaf ls) c) j ≡ look (balanced ls n (leaf ls) d) j)
+      → ((fs : List Pair) → IsPlan n end fs → (k : ℕ) → 1 ≤ k → Fits ls k (look c) fs ↔ Fits ls k (look d) fs)
+      ↔ ((j : ℕ) → j < length ls → look (balanced ls n end c) j ≡ look (balanced ls n end d) j)
   the-same-plans-fit-exactly-if-the-trimmed-sizes-agree c d =
-      let of-c = full-plan-is-sound T c in
-      let of-d = full-plan-is-sound T d in
-      let of-multiflows = the-same-multiflows-fit-iff-the-balanced-agree T (leaf ls) (trimmed-is-greatest T c) (trimmed-is-greatest T d) (fullPlan T c) (fullPlan T d)
-      (of-c .routes) (of-d .routes) 2 (omega arith) (of-c .loads) (of-d .loads) in (
+      let of-c = full-plan-is-sound T end O c in
+      let of-d = full-plan-is-sound T end O d in
+      let of-multiflows = the-same-multiflows-fit-iff-the-balanced-agree T end (trimmed-is-greatest T end O c) (trimmed-is-greatest T end O d)
+      (fullPlan T end O c) (fullPlan T end O d) (of-c .routes) (of-d .routes) 2 (omega arith) (of-c .loads) (of-d .loads) in (
         λ same. of-multiflows .0 (λ fs m k. same? k 0
             (λ z. rw z (λ f j l. omega (arith, f j l), λ f j l. omega (arith, f j l)))
-            (λ z. same fs (multiflow-is-plan ls n fs m) k (omega arith))),
-        λ agree fs h k _. of-multiflows .1 agree fs (plan-is-multiflow T fs h) k,
+            (λ z. same fs (multiflow-is-plan ls n end fs m) k (omega arith))),
+        λ agree fs h k _. of-multiflows .1 agree fs (plan-is-multiflow T end O fs h) k,
       )
 
-  -- trimming, handed its own answer as sizes, gives that answer back
-  pub trimming-gives-its-own-answer-back : (c : List ℕ) → balanced ls n (leaf ls) (balanced ls n (leaf ls) c) ≡ balanced ls n (leaf ls) c
-  trimming-gives-its-own-answer-back = balanced-again T (leaf ls)
+-- trimming, handed its own answer as sizes, gives that answer back; for any ends
+pub trimming-gives-its-own-answer-back : {ls : Links} {n : ℕ} → Tree ls n → (end : ℕ → ℕ) (c : List ℕ)
+    → balanced ls n end (balanced ls n end c) ≡ balanced ls n end c
+trimming-gives-its-own-answer-back = balanced-again
 
 -- ---- they hold of what is printed
 
@@ -172,39 +175,43 @@ unfolding planSays
 plan-shows-sheet net = record { heading = refl; links = refl; sizes = refl; sites-shown = refl }
 
 module _ {ed : Edition} {s : List ℕ} {net : Network} (N : IsNetwork ed s net) where
+  abbrev O : Outer (net .links) (siteCount net) (isEnd net)
+  O = the-ends-have-one-link (N .tree)
+
   plan-meets-demand-2 : Demand2 net (planSays net)
   unfolding planSays setSize
   plan-meets-demand-2 =
       let T = N .tree in
       let ls = net .links in
-      let n = length (net .names) in
-      let plan = fullPlan T (net .capacities) in
-      let greatest = trimmed-is-greatest T (net .capacities) in
-      let full = full-plan-is-sound T (net .capacities) in
+      let n = siteCount net in
+      let end = isEnd net in
+      let plan = fullPlan T end O (net .capacities) in
+      let greatest = trimmed-is-greatest T end O (net .capacities) in
+      let full = full-plan-is-sound T end O (net .capacities) in
       record {
-        largest = λ fs h k _ f. a-full-multiflow-has-the-greatest-total T (leaf ls) greatest plan (full .routes) 2 (full .loads) fs (plan-is-multiflow T fs h) k f;
-        printed-plan = multiflow-is-plan ls n plan (full .routes);
+        largest = λ fs h k _ f. a-full-multiflow-has-the-greatest-total T end greatest plan (full .routes) 2 (full .loads) fs (plan-is-multiflow T end O fs h) k f;
+        printed-plan = multiflow-is-plan ls n end plan (full .routes);
         once = full .once;
-        printed-plan-fits = full-plan-fits T (net .capacities);
+        printed-plan-fits = full-plan-fits T end O (net .capacities);
         reached = refl;
         few = full .few;
         counted = refl;
-        set-members = owners-tell-the-cuts T greatest;
-        set-of-each-end = map-map _ _ (endsAmong ls (sites n)) ∙ map-own (endsAmong ls (sites n));
-        size-of-each-set = told-sets-are-owned T greatest;
-        sizes-sum = told-sizes-sum-to-the-terminals T greatest ∙ sym (full .sums);
+        set-members = owners-tell-the-cuts T end greatest;
+        set-of-each-end = map-map _ _ (endsAmong end (sites n)) ∙ map-own (endsAmong end (sites n));
+        size-of-each-set = told-sets-are-owned T end greatest;
+        sizes-sum = told-sizes-sum-to-the-terminals T end greatest ∙ sym (full .sums);
       }
 
   plan-meets-demand-3 : Demand3 net (planSays net)
   unfolding planSays
   plan-meets-demand-3 =
       let T = N .tree in
-      let ls = net .links in
-      let full = full-plan-is-sound T (net .capacities) in
+      let end = isEnd net in
+      let full = full-plan-is-sound T end O (net .capacities) in
       record {
-        bounded = λ fs h k _ f. what-fits-fits-the-balanced T (leaf ls) (trimmed-is-greatest T (net .capacities)) fs (plan-is-multiflow T fs h) k f;
-        printed-plan = multiflow-is-plan ls (length (net .names)) (fullPlan T (net .capacities)) (full .routes);
-        printed-plan-fits = full-plan-fits T (net .capacities);
+        bounded = λ fs h k _ f. what-fits-fits-the-balanced T end (trimmed-is-greatest T end O (net .capacities)) fs (plan-is-multiflow T end O fs h) k f;
+        printed-plan = multiflow-is-plan (net .links) (siteCount net) end (fullPlan T end O (net .capacities)) (full .routes);
+        printed-plan-fits = full-plan-fits T end O (net .capacities);
         filled = full .loads;
         trimmed = refl;
       }

@@ -7,14 +7,14 @@ use Prim.Native.Nat.{ℕ, _-_, _<_}
 use native.Mathlib.Omega.{arith}
 use lib.ListN.{length, getD, length-map, List·getD-map}
 use Rattle.network.specs.Numbers.{look, upfrom, Each}
-use Rattle.network.specs.Network.{Links, Site, Route, sites, one, two, sumAt, leaf, total}
+use Rattle.network.specs.Network.{Links, Site, Route, sites, one, two, total}
 use Rattle.network.specs.Trimming.{balanced}
 use Rattle.network.specs.Cuts.{cutSize, cutCount, owner}
 use Rattle.network.specs.Pairing.{pairList}
 use Rattle.network.specs.Text.{bytes}
 use Rattle.network.specs.declared.Edition.{Edition}
 use Rattle.network.specs.declared.Pair.{Pair}
-use Rattle.theory.specs.Sums.{same?, pick-same, pick-other, pick-cases, is-same, is-other}
+use Rattle.theory.specs.Sums.{same?, pick-same, pick-other, pick-cases}
 use Rattle.theory.specs.Greatest.{balanced-has-each-link}
 use Rattle.theory.specs.Owners.{owner-or-none}
 use Rattle.walk.specs.Lists.{each-map}
@@ -23,8 +23,8 @@ use Rattle.sheet.specs.Sheet.{Network}
 use Rattle.names.specs.Names.{nameAt}
 use Rattle.sheet.specs.SheetTheorem.{IsNetwork}
 use Rattle.report.specs.Report.{decimal, ownerName, planOf, report}
-use Rattle.demands.specs.Printed.{Record, records, headed, lastField, siteNamed, endsAmong, EndSet, Printed, readRecords, readReport}
-use Rattle.demands.specs.Plans.{full-plan-is-sound}
+use Rattle.demands.specs.Printed.{Record, records, headed, lastField, siteNamed, isEnd, endsAmong, EndSet, Printed, readRecords, readReport}
+use Rattle.demands.specs.Plans.{the-ends-have-one-link, full-plan-is-sound}
 use Rattle.demands.specs.Parsing.{decimal-read-back}
 use Rattle.demands.specs.Records.{linkFields, siteFields, cutFields, cutLines, pairFields, first-line, link-lines, site-lines, cut-lines, pair-lines}
 use Rattle.demands.specs.Names.{name-read-back, dash-read-back, site-name-is-plain}
@@ -37,9 +37,10 @@ planSays net =
     let ls = net .links in
     let n = length (net .names) in
     let c = look (net .capacities) in
-    let trimmed = balanced ls n (leaf ls) (net .capacities) in
+    let end = isEnd net in
+    let trimmed = balanced ls n end (net .capacities) in
     let t = look trimmed in
-    let pairs = pairList ls n t in
+    let pairs = pairList ls n t end in
     record {
       heading = bytes "plan";
       total = total pairs;
@@ -48,8 +49,8 @@ planSays net =
       sizes = net .capacities;
       trimmed = trimmed;
       sites = sites n;
-      owners = map (owner ls c t (leaf ls) n) (sites n);
-      sets = map (cutOf ls n c t) (endsAmong ls (sites n));
+      owners = map (owner ls c t end n) (sites n);
+      sets = map (cutOf ls n c t) (endsAmong end (sites n));
       plan = pairs;
     }
 
@@ -63,17 +64,20 @@ module _ {ed : Edition} {s : List ℕ} {net : Network} (N : IsNetwork ed s net) 
   abbrev c : ℕ → ℕ
   c = look (net .capacities)
 
+  abbrev end : ℕ → ℕ
+  end = isEnd net
+
   abbrev trimmed : List ℕ
-  trimmed = balanced ls n (leaf ls) (net .capacities)
+  trimmed = balanced ls n end (net .capacities)
 
   abbrev t : ℕ → ℕ
   t = look trimmed
 
   abbrev ownerOf : ℕ → ℕ
-  ownerOf = owner ls c t (leaf ls) n
+  ownerOf = owner ls c t end n
 
   abbrev pairs : List Pair
-  pairs = pairList ls n t
+  pairs = pairList ls n t end
 
   abbrev site : List ℕ → ℕ
   site = siteNamed s net
@@ -103,7 +107,7 @@ module _ {ed : Edition} {s : List ℕ} {net : Network} (N : IsNetwork ed s net) 
   sizes-back = by-link (λ l. value (field l 3)) (net .capacities) 0 (sym (N .capacities)) (λ j k. decimal-read-back (c j))
 
   trimmed-back : map (λ l. value (lastField l)) (headed (bytes "L") (records (report s net))) ≡ trimmed
-  trimmed-back = by-link (λ l. value (lastField l)) trimmed 0 (sym (balanced-has-each-link (N .tree) (leaf ls) (net .capacities)))
+  trimmed-back = by-link (λ l. value (lastField l)) trimmed 0 (sym (balanced-has-each-link (N .tree) end (net .capacities)))
       (λ j k. decimal-read-back (t j))
 
   -- ---- the `N` lines
@@ -127,7 +131,7 @@ module _ {ed : Edition} {s : List ℕ} {net : Network} (N : IsNetwork ed s net) 
   owners-back = by-site (λ l. site (field l 2)) ownerOf
       (λ x q. let a = ownerOf x in
       pick-cases (λ f. site f ≡ a) a 0 (bytes "-") (name a) (λ e. dash-read-back N ∙ sym e)
-      (λ d. name-read-back N a (elim (owner-or-none ls c t (leaf ls) x n) [ inl r ↦ absurd (d (r .0)) | inr r ↦ r .0 ])))
+      (λ d. name-read-back N a (elim (owner-or-none ls c t end x n) [ inl r ↦ absurd (d (r .0)) | inr r ↦ r .0 ])))
 
   -- ---- the `X` lines
 
@@ -144,23 +148,21 @@ module _ {ed : Edition} {s : List ℕ} {net : Network} (N : IsNetwork ed s net) 
     decimal-read-back (cutCount ls c t n u),
   )
 
-  sets-among : (us : List ℕ) → Each (Site n) us → map setSaid (flatMap (cutLines (planOf s net)) us) ≡ map (cutOf ls n c t) (endsAmong ls us)
-  unfolding planOf flatMap endsAmong leaf
+  sets-among : (us : List ℕ) → Each (Site n) us → map setSaid (flatMap (cutLines (planOf s net)) us) ≡ map (cutOf ls n c t) (endsAmong end us)
+  unfolding planOf flatMap endsAmong
   sets-among [] q = refl
-  sets-among (u ∷ us) q =
-      let degree = look-site (λ v. sumAt ls v (λ j. 1)) n u (q .0) in
-      same? (sumAt ls u (λ j. 1)) 1
-      (λ e. rw (degree, pick-same {A = List Record} e, is-same e, pick-same {A = List ℕ} {u = 1} refl, set-back u (q .0), sets-among us (q .1)))
-      (λ d. rw (degree, pick-other {A = List Record} d, is-other d, pick-other {A = List ℕ} {u = 0} {v = 1} (λ z. omega arith), sets-among us (q .1)))
+  sets-among (u ∷ us) q = same? (end u) 1
+      (λ e. rw (pick-same {A = List Record} e, pick-same {A = List ℕ} e, set-back u (q .0), sets-among us (q .1)))
+      (λ d. rw (pick-other {A = List Record} d, pick-other {A = List ℕ} d, sets-among us (q .1)))
 
-  sets-back : map setSaid (headed (bytes "X") (records (report s net))) ≡ map (cutOf ls n c t) (endsAmong ls (sites n))
+  sets-back : map setSaid (headed (bytes "X") (records (report s net))) ≡ map (cutOf ls n c t) (endsAmong end (sites n))
   unfolding report planOf
   sets-back = ap (map setSaid) (cut-lines (planOf s net) (site-name-is-plain N)) ∙ sets-among (sites n) (each-site (Site n) n (λ x q. q))
 
   -- ---- the `P` lines
 
-  routes : Each (Route ls n (leaf ls)) pairs
-  routes = full-plan-is-sound (N .tree) (net .capacities) .routes
+  routes : Each (Route ls n end) pairs
+  routes = full-plan-is-sound (N .tree) end (the-ends-have-one-link (N .tree)) (net .capacities) .routes
 
   abbrev pairSaid : Record → Pair
   pairSaid l = record { first = site (field l 1); second = site (field l 2); amount = value (field l 3) }
@@ -172,7 +174,7 @@ module _ {ed : Edition} {s : List ℕ} {net : Network} (N : IsNetwork ed s net) 
       ap (map pairSaid) (pair-lines p (site-name-is-plain N))
       ∙ map-map pairSaid (pairFields p) pairs
       ∙ map-same (λ e. pairSaid (pairFields p e)) (λ e. e) pairs
-      (each-map (Route ls n (leaf ls)) (λ e. pairSaid (pairFields p e) ≡ e)
+      (each-map (Route ls n end) (λ e. pairSaid (pairFields p e) ≡ e)
       (λ e r. rw (name-read-back N (e .first) (r .first-site), name-read-back N (e .second) (r .second-site), decimal-read-back (e .amount))) pairs routes)
       ∙ map-own pairs
 
