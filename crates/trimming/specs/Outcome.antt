@@ -6,7 +6,8 @@ use Prim.Native.Nat.{ℕ}
 use lib.Dec.{leb}
 use lib.ListN.{length, drop}
 use Rattle.network.specs.Edition.{largest}
-use Rattle.network.specs.Network.{leaf}
+use Rattle.network.specs.Numbers.{look}
+use Rattle.network.specs.Network.{ends}
 use Rattle.network.specs.Trimming.{balanced}
 use Rattle.tree.specs.Offer.{links, offer}
 use Rattle.tree.specs.declared.Offer.{Offer}
@@ -25,9 +26,9 @@ decide offered.Accepted true = Balanced
 unfoldable pub answer : ℕ → List ℕ → List ℕ → List ℕ → List ℕ → Trimming
 answer n one two c lent = decide (offer largest n one two c) (leb (length one) (length lent))
 
--- the balanced capacities of the offered tree (01: trimmed sizes); the terminals are the sites with just one link
+-- the balanced capacities of the offered tree (01: trimmed sizes); the terminals are its ends
 unfoldable pub capacities : ℕ → List ℕ → List ℕ → List ℕ → List ℕ
-capacities n one two c = balanced (links one two) n (leaf (links one two)) c
+capacities n one two c = balanced (links one two) n (look (ends (links one two) n)) c
 
 -- the lent list after: t and then its own places past that, or its own places where something else is said
 unfoldable pub after : Trimming → List ℕ → List ℕ → List ℕ

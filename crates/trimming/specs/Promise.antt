@@ -11,7 +11,7 @@ use lib.Seq.{take-at, drop-at}
 use lib.ListN.{length, take, drop}
 use Rattle.network.specs.Numbers.{look}
 use Rattle.network.specs.Edition.{largest}
-use Rattle.network.specs.Network.{Tree, leaf}
+use Rattle.network.specs.Network.{Tree, ends}
 use Rattle.network.specs.Trimming.{Greatest}
 use Rattle.theory.specs.Greatest.{balanced-is-greatest, balanced-has-each-link, balanced-again}
 use Rattle.tree.specs.Offer.{links, offer}
@@ -27,7 +27,7 @@ use Rattle.trimming.specs.Outcome.{decide, answer, capacities, after, tr
 pub record Promise (n : ℕ) (one two c t : List ℕ) : Type 0 where
   pub tree : Tree (links one two) n
   pub each : length t ≡ length one
-  pub greatest : Greatest (links one two) (leaf (links one two)) (look c) (look t)
+  pub greatest : Greatest (links one two) (look (ends (links one two) n)) (look c) (look t)
 
 balanced-is-accepted : (o : Offer) (enough : Bool) → decide o enough ≡ Balanced → o ≡ offered.Accepted
 unfolding decide
@@ -40,8 +40,8 @@ module _ {n : ℕ} {one two c : List ℕ} (w : TreeWithin largest n one two c) w
   unfolding capacities
   capacities-keep-the-promise = record {
     tree = w .tree;
-    each = balanced-has-each-link (w .tree) (leaf (links one two)) c ∙ length-links one two (omega arith);
-    greatest = balanced-is-greatest (w .tree) (leaf (links one two)) c;
+    each = balanced-has-each-link (w .tree) (look (ends (links one two) n)) c ∙ length-links one two (omega arith);
+    greatest = balanced-is-greatest (w .tree) (look (ends (links one two) n)) c;
   }
 
   -- they are accepted as capacities, and balanced already
@@ -82,7 +82,7 @@ module _ (n : ℕ) (one two c lent : List ℕ) (e : answer n one two c lent ≡ 
 
   pub its-answer-is-given-back : capacities n one two (take (length one) (trimmed n one two c lent)) ≡ take (length one) (trimmed n one two c lent)
   unfolding capacities
-  its-answer-is-given-back = rw first-places (balanced-again (within .tree) (leaf (links one two)) c)
+  its-answer-is-given-back = rw first-places (balanced-again (within .tree) (look (ends (links one two) n)) c)
 
 -- ---- the other answers
 

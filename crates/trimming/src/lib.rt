@@ -1,15 +1,16 @@
-// Balanced capacities of a tree (01: trimming): cut at each site inward along the elimination order, then outward against it.
-use network::CHAINS;
-use network::PLACES;
+// Balanced capacities of an offered tree (01: trimming), with its ends as terminals.
 use network::SITES;
 use tree::Offer;
 ghost use mathlib.Core.Path.{_≡_};
-ghost use mathlib.Core.List.{[], _∷_, _++_};
-ghost use Prim.Native.Nat.{_-_, _*_, _≤_, _<_, min};
-ghost use Rattle.network.specs.Limits.{SITES};
+ghost use mathlib.Core.List.{_++_};
+ghost use Prim.Native.Nat.{_≤_};
 ghost use lib.ListN.{length, take, drop};
-ghost use Rattle.links.specs.Chains.{Placed, Chained, Limited};
-ghost use Rattle.trimming.specs.Steps.{UpTo256, bothWays, cutFirst};
+ghost use Rattle.network.specs.Limits.{SITES};
+ghost use Rattle.network.specs.Numbers.{look};
+ghost use Rattle.network.specs.Network.{ends};
+ghost use Rattle.tree.specs.Offer.{links};
+ghost use Rattle.links.specs.Chains.{Placed, Limited};
+ghost use Rattle.balancing.specs.Steps.{InPlaces, balancedFirst};
 ghost use Rattle.trimming.specs.Outcome.{answer, trimmed};
 
 // What is said of an offered tree whose capacities are to be balanced.
@@ -24,37 +25,6 @@ pub enum Trimming {
     Balanced,
 }
 
-// What a link of capacity t keeps at a site whose links have the sum: no more than the other links there have together.
-fn keep(t: u64, sum: u64) -> u64
-    requires { ⌜ t ≤ sum ⌝ }
-    ensures { λ r. ⌜ r ≡ min t (sum - t) ⌝ }
-{
-    if sum - t < t { sum - t } else { t }
-}
-
-// Cuts the capacities at site v: each link keeps no more than the other links there have together.
-fn cut(
-    v: usize,
-    last: &[usize; PLACES],
-    before: &[usize; CHAINS],
-    one: &[usize],
-    two: &[usize],
-    capacity: &mut [u64],
-)
-    requires { ⌜ (v ≤ SITES) × Chained (now one) (now two) (now last) (now before) × Limited (now one) (now capacity) ⌝ }
-    ensures { λ _. ⌜ now (capacity .exit) ≡ cutFirst (now (one .entry)) (now (two .entry)) (v ∷ []) (now (capacity .entry)) ⌝ }
-{
-    let site = links::at_site(v, last, before, one, two, capacity);
-    if site.links == 1 {
-        return;
-    }
-    let mut p = last[v];
-    while 0 < p {
-        capacity[p - 1] = keep(capacity[p - 1], site.capacity);
-        p = links::link_before(v, p - 1, one, two, before);
-    }
-}
-
 // Copies a list to the front of a lent one.
 fn copy(from: &[u64], to: &mut [u64])
     requires { ⌜ length (now from) ≤ length (now to) ⌝ }
@@ -65,41 +35,22 @@ fn copy(from: &[u64], to: &mut [u64])
     }
 }
 
-// The place that step i of a way along n places and back comes to.
-fn there_and_back(i: usize, n: usize) -> usize
-    requires { ⌜ (i < 2 * n) × (n ≤ SITES) ⌝ }
-    ensures { λ r. ⌜ r ≡ min i (2 * n - 1 - i) ⌝ }
-{
-    if i < n {
-        return i;
-    }
-    2 * n - 1 - i
-}
-
-// Cuts the capacities at each site of an order in turn, and back against it.
-fn cut_both_ways(
+// Balances the capacities of a tree along an order of its sites, with its ends as terminals.
+fn balance_by_ends(
     n: usize,
     order: [usize; SITES],
     one: &[usize],
     two: &[usize],
     capacity: &mut [u64],
 )
-    requires { ⌜ (n ≤ SITES) × UpTo256 (take n order) × Placed (now one) (now two) × Limited (now one) (now capacity) ⌝ }
-    ensures { λ _. ⌜ now (capacity .exit) ≡ cutFirst (now (one .entry)) (now (two .entry)) (bothWays (take n order)) (now (capacity .entry)) ⌝ }
+    requires { ⌜ (n ≤ SITES) × InPlaces n (take n order) × Placed (now one) (now two) × Limited (now one) (now capacity) ⌝ }
+    ensures { λ _. ⌜ now (capacity .exit) ≡ balancedFirst (now (one .entry)) (now (two .entry)) (look (ends (links (now (one .entry)) (now (two .entry))) n)) (take n order) (now (capacity .entry)) ⌝ }
 {
     let chains = links::chain(one, two);
     let last = chains.last;
     let before = chains.before;
-    for i in 0..2 * n {
-        cut(
-            order[there_and_back(i, n)],
-            &last,
-            &before,
-            one,
-            two,
-            capacity,
-        );
-    }
+    let ends = links::ends(n, &last, &before, one, two);
+    balancing::balance(n, &order, &ends, &last, &before, one, two, capacity);
 }
 
 // Balances the capacities of an offered tree into a lent list.
@@ -117,7 +68,7 @@ pub fn trim(n: usize, one: &[usize], two: &[usize], capacity: &[u64], lent: &mut
                 return Trimming::Short;
             }
             copy(capacity, lent);
-            cut_both_ways(n, order, one, two, lent);
+            balance_by_ends(n, order, one, two, lent);
             Trimming::Balanced
         }
     }

@@ -3,16 +3,23 @@ use mathlib.Core.Path.{_≡_, refl, sym, ap, ap₂, _∙_}
 use native.Mathlib.Omega.{arith}
 use borrow.Author.Needs.{needs}
 use borrow.Author.Tests.{le-leb, lt-leb}
-use lib.ListN.{length, take}
+use mathlib.Core.List.{_++_}
+use lib.ListN.{length, take, drop}
+use Rattle.network.specs.Numbers.{look}
+use Rattle.network.specs.Network.{ends}
 use Rattle.network.specs.Edition.{largest}
 use Rattle.network.specs.Trimming.{elimination}
+use Rattle.theory.specs.Orders.{elimination-is-inward}
+use Rattle.theory.specs.Greatest.{balanced-has-each-link}
 use Rattle.tree.specs.Offer.{links, offer}
+use Rattle.tree.specs.Links.{length-links}
 use Rattle.tree.specs.declared.Offer.the-variants.{Accepted}
 use Rattle.tree.specs.Accepted.{TreeWithin, accepted-is-a-tree-within-the-limits, eliminated-says, eliminated-in-order}
 use Rattle.links.specs.Chains.{offer-placed}
-use Rattle.trimming.specs.Steps.{bothWays, cutFirst}
-use Rattle.trimming.specs.Outcome.{decide, answer, after, trimmed}
-use Rattle.trimming.proofs.Laws.{order-up-to, copied-limited, both-ways-balance}
+use Rattle.balancing.specs.Steps.{balancedFirst}
+use Rattle.balancing.specs.Along.{elimination-in-places, balanced-in-place}
+use Rattle.trimming.specs.Outcome.{decide, answer, capacities, after, trimmed}
+use Rattle.trimming.proofs.Laws.{copied-limited}
 use Rattle.trimming.proofs.trim.Statement.{statement}
 use Rattle.trimming.proofs.trim.Tie as tie
 
@@ -43,6 +50,16 @@ order : (c : tie.After-enum-told3) → let a = c .before .before .before .before
 order c = let a = c .before .before .before .before .before .before .before .before .args in
     ap (λ r. take (a .n) (r .sites)) (c .before .before .before .eliminate .ensures) ∙ eliminated-in-order (a .n) (a .one .now) (a .two .now) (a .capacity .now) (accepted c)
 
+-- there are as many balanced capacities as given ones
+as-long : (c : tie.After-enum-told3) → let a = c .before .before .before .before .before .before .before .before .args in
+    length (a .capacity .now) ≡ length (capacities (a .n) (a .one .now) (a .two .now) (a .capacity .now))
+unfolding capacities
+as-long c =
+    let a = c .before .before .before .before .before .before .before .before .args in
+    let t = tree c in
+    let ls = links (a .one .now) (a .two .now) in
+    omega (arith, balanced-has-each-link (t .tree) (look (ends ls (a .n))) (a .capacity .now), length-links (a .one .now) (a .two .now) (omega arith))
+
 short : tie.Need-returns
 unfolding answer decide trimmed after
 short c =
@@ -50,27 +67,30 @@ short c =
     let few = lt-leb (length (a .one .now)) (length (a .lent .now)) (c .if1 .taken) in
     (rw (accepted (c .before), few) refl, rw (accepted (c .before), few) refl)
 
-limited : tie.Need-cut-both-ways-requires
+limited : tie.Need-balance-by-ends-requires
 limited c κs =
     let e = c .before .before .before .before .before .before in
     let t = tree e in (
       omega (arith, t .few),
-      rw (order e) (order-up-to t),
+      rw (order e) (elimination-in-places t),
       offer-placed t,
       rw (c .before .before .before .copy .ensures) (copied-limited t _ (c .before .before .before .before .before .if1 .left)),
     )
 
 balanced : tie.Need-returns-4
-unfolding answer decide trimmed after
+unfolding answer decide trimmed after capacities
 balanced c =
     let e = c .before .before .before .before .before .before .before .before .before in
     let a = e .before .before .before .before .before .before .before .before .args in
+    let ls = links (a .one .now) (a .two .now) in
+    let terminal = look (ends ls (a .n)) in
     let room = c .before .before .before .before .before .before .before .before .if1 .left in
     let enough = le-leb (length (a .one .now)) (length (a .lent .now)) room in (
       rw (accepted e, enough) refl,
-      rw (accepted e, enough) (c .before .before .cut-both-ways .ensures
-          ∙ ap₂ (λ o l. cutFirst (a .one .now) (a .two .now) (bothWays o) l) (order e) (c .before .before .before .before .before .before .copy .ensures)
-          ∙ both-ways-balance (tree e) (a .lent .now) room),
+      rw (accepted e, enough) (c .before .before .balance-by-ends .ensures
+          ∙ ap₂ (balancedFirst (a .one .now) (a .two .now) terminal) (order e) (c .before .before .before .before .before .before .copy .ensures)
+          ∙ balanced-in-place (tree e) terminal (elimination ls (a .n)) (elimination-is-inward (tree e .tree)) (drop (length (a .capacity .now)) (a .lent .now))
+          ∙ ap (λ k. capacities (a .n) (a .one .now) (a .two .now) (a .capacity .now) ++ drop k (a .lent .now)) (as-long e)),
     )
 
 pub trim-spec : {M : Type 1} → statement M
@@ -86,5 +106,5 @@ trim-spec =
     limited
     no-tree
     too-large
-    (λ c. c .before .before .cut-both-ways .kept .1 .1 .1 .1 .0 ∙ c .before .before .before .before .before .before .copy .kept .1 .0)
+    (λ c. c .before .before .balance-by-ends .kept .1 .1 .1 .1 .0 ∙ c .before .before .before .before .before .before .copy .kept .1 .0)
     balanced)

@@ -1,36 +1,34 @@
--- `trimming::cut` meets its contract: along the chain every link at v is cut, and no other link changes; at a terminal none does.
+-- `balancing::cut` meets its contract: along the chain every link at v is cut, and no other link changes; at a terminal none does.
 use mathlib.Core.Path.{_≡_, refl, sym, _∙_}
 use mathlib.Core.Logic.{_≢_}
 use Prim.Native.Nat.{_-_}
 use native.Mathlib.Omega.{arith}
 use lib.ListN.{length}
 use Rattle.network.specs.Numbers.{look}
-use Rattle.network.specs.Network.{at, sumAt, leaf}
+use Rattle.network.specs.Network.{sumAt}
 use Rattle.network.specs.Trimming.{cutAt}
-use Rattle.theory.specs.Sums.{is-same, is-one}
 use Rattle.theory.specs.Trees.{others-add}
 use Rattle.theory.specs.Cutting.{cutAt-away}
 use Rattle.tree.specs.Offer.{links}
 use Rattle.tree.specs.Links.{length-links}
 use Rattle.links.specs.Chains.{lastAt, On, on-last, last-le, last-none, walk-goes-on}
-use Rattle.trimming.proofs.Laws.{cut-inner, cut-filled, cut-none}
-use Rattle.trimming.proofs.Chaining.{CutFrom, cut-start, cut-next, cut-end}
-use Rattle.trimming.proofs.cut.Statement.{statement}
-use Rattle.trimming.proofs.cut.Tie as tie
+use Rattle.balancing.proofs.Laws.{cut-inner, cut-filled, cut-none}
+use Rattle.balancing.proofs.Chaining.{CutFrom, cut-start, cut-next, cut-end}
+use Rattle.balancing.proofs.cut.Statement.{statement}
+use Rattle.balancing.proofs.cut.Tie as tie
 
 abbrev Inv-loop : tie.InvT-loop
-Inv-loop v last before one two capacity₀ site p₀ capacity p =
-    On (links one two) v (length one) p × CutFrom (cutAt (links one two) (leaf (links one two)) v (look capacity₀)) (length one) p capacity₀ capacity
+Inv-loop v ends last before one two capacity₀ sum p₀ capacity p =
+    On (links one two) v (length one) p × CutFrom (cutAt (links one two) (look ends) v (look capacity₀)) (length one) p capacity₀ capacity
 
 abbrev μ-loop : tie.MeasureT-loop
-μ-loop v last before one two capacity₀ site p₀ capacity p = p
+μ-loop v ends last before one two capacity₀ sum p₀ capacity p = p
 
 terminal : tie.Need-returns Inv-loop μ-loop
-unfolding leaf
 terminal c =
-    let s = c .before .before .before .before .before .before .before in
-    cut-none (s .args .one .now) (s .args .two .now) (s .pre .1 .placed .seconds) (s .args .v) (s .args .capacity .now) (s .pre .2 .places)
-    (is-same (sym (c .before .before .at-site .ensures .0) ∙ c .if1 .taken))
+    let s = c .before .before .before .before .before in
+    let a = s .args in
+    cut-none (a .one .now) (a .two .now) (look (a .ends .now)) (s .pre .1 .placed .seconds) (a .v) (a .capacity .now) (s .pre .2 .places) (c .if1 .taken)
 
 start : tie.Need-loop-holds Inv-loop μ-loop
 start c =
@@ -40,16 +38,15 @@ start c =
     let m = length (a .one .now) in
     rw (s .pre .1 .lasts (a .v) (s .pre .0)) (
       on-last ls (a .v) m m (omega arith),
-      cut-start _ m _ (a .capacity .now) (λ i k l. cutAt-away ls (leaf ls) (a .v) (look (a .capacity .now)) i (last-none ls (a .v) m i k l)),
+      cut-start _ m _ (a .capacity .now) (λ i k l. cutAt-away ls (look (a .ends .now)) (a .v) (look (a .capacity .now)) i (last-none ls (a .v) m i k l)),
     )
 
 -- what is known from before the loop: v is no terminal, and the sum is that of the links at v
 known : (t : tie.At-loop Inv-loop μ-loop) →
     let a = t .before .before .before .before .before .before .before .before .before .args in
     let ls = links (a .one .now) (a .two .now) in
-    (leaf ls (a .v) ≢ 1) × (t .before .before .before .before .at-site .result .capacity ≡ sumAt ls (a .v) (look (a .capacity .now)))
-unfolding leaf
-known t = (λ e. t .before .before .if1 .left (t .before .before .before .before .at-site .ensures .0 ∙ is-one e), t .before .before .before .before .at-site .ensures .1)
+    (look (a .ends .now) (a .v) ≢ 1) × (t .before .before .sum-at .result ≡ sumAt ls (a .v) (look (a .capacity .now)))
+known t = (t .before .before .before .before .if1 .left, t .before .before .sum-at .ensures)
 
 -- a link at v has no more than the sum
 fits : tie.Need-keep-requires Inv-loop μ-loop
@@ -94,9 +91,9 @@ next c =
     rw (back c) (
       on-last ls (a .v) (length (a .one .now)) j (omega arith),
       cut-next (t .loop .inv .1) (omega arith) (omega arith) (s .pre .2 .places)
-          (c .before .keep .ensures ∙ cut-inner ls (a .v) (look (a .capacity .now)) j (k .0) here (t .loop .inv .1 .ahead j (omega arith)) (k .1))
+          (c .before .keep .ensures ∙ cut-inner ls (look (a .ends .now)) (a .v) (look (a .capacity .now)) j (k .0) here (t .loop .inv .1 .ahead j (omega arith)) (k .1))
           (omega arith)
-          (λ i h l. cutAt-away ls (leaf ls) (a .v) (look (a .capacity .now)) i (last-none ls (a .v) j i h l)),
+          (λ i h l. cutAt-away ls (look (a .ends .now)) (a .v) (look (a .capacity .now)) i (last-none ls (a .v) j i h l)),
     )
 
 at-end : tie.Need-returns-2 Inv-loop μ-loop
@@ -106,8 +103,8 @@ at-end c =
     let a = s .args in
     let ls = links (a .one .now) (a .two .now) in
     let none : t .loop .p ≡ 0 = omega arith in
-    cut-end (cutAt ls (leaf ls) (a .v) (look (a .capacity .now))) (length (a .one .now)) (a .capacity .now) (t .loop .capacity) (s .pre .2 .places) (rw none at (t .loop .inv .1))
-    ∙ cut-filled (a .one .now) (a .two .now) (s .pre .1 .placed .seconds) (a .v) (a .capacity .now)
+    cut-end (cutAt ls (look (a .ends .now)) (a .v) (look (a .capacity .now))) (length (a .one .now)) (a .capacity .now) (t .loop .capacity) (s .pre .2 .places) (rw none at (t .loop .inv .1))
+    ∙ cut-filled (a .one .now) (a .two .now) (look (a .ends .now)) (s .pre .1 .placed .seconds) (a .v) (a .capacity .now)
 
 pub cut-spec : {M : Type 1} → statement M
 cut-spec =
@@ -115,9 +112,9 @@ cut-spec =
     (tie.spec
     Inv-loop
     μ-loop
-    (λ c κs. c .before .before .before .before .pre)
-    (λ c. refl)
+    (λ c. omega arith)
     terminal
+    (λ c κs. c .before .before .before .before .before .before .pre)
     (λ c. omega arith)
     (λ c. omega arith)
     start
