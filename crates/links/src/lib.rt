@@ -87,3 +87,24 @@ pub fn at_site(
         capacity: total,
     }
 }
+
+// What the links at v can carry together. Only the planner's own crates call it, of links that are chained.
+pub fn sum_at(
+    v: usize,
+    last: &[usize; PLACES],
+    before: &[usize; CHAINS],
+    one: &[usize],
+    two: &[usize],
+    capacity: &[u64],
+) -> u64
+    requires { ⌜ (v ≤ SITES) × Chained (now one) (now two) (now last) (now before) × Limited (now one) (now capacity) ⌝ }
+    ensures { λ r. ⌜ r ≡ sumAt (links (now (one .entry)) (now (two .entry))) v (look (now (capacity .entry))) ⌝ }
+{
+    let mut total: u64 = 0;
+    let mut p = last[v];
+    while 0 < p {
+        total += capacity[p - 1];
+        p = link_before(v, p - 1, one, two, before);
+    }
+    total
+}
