@@ -12,6 +12,7 @@ use Rattle.theory.specs.Sums.{pick-same, pick-other}
 use Rattle.tree.specs.Offer.{links}
 use Rattle.tree.specs.Links.{length-links}
 use Rattle.walk.specs.Walk.{size-le}
+use Rattle.walk.specs.Pairs.{lowest-some}
 use Rattle.walk.specs.PairingTheorem.{pairs-are-sound}
 use Rattle.halves.specs.declared.Tops.{Tops}
 use Rattle.halves.specs.Arrays.{flatPairs, Added}
@@ -50,6 +51,13 @@ module _ {n : ℕ} {ends last before a b c : List ℕ} (w : Walkable n ends last
 
   abbrev root : ℕ
   root = lowestInner (look ends) 1 n
+
+  -- the lowest inner site is one
+  pub lowest-root : {r : ℕ} → r ≡ root → r ≢ 0 → Root r ends last before a b c
+  lowest-root {r} e d =
+      let s = lowest-some (look ends) 1 n (λ z. d (e ∙ z)) in
+      let o = rw (← e) at s in
+      record { walkable = rw (w .tree .firsts) at w; site = (o .0, omega (arith, o .1, w .tree .firsts)); inner = o .2 }
 
   -- with an inner site the walk starts at the lowest
   module _ (some : root ≢ 0) where
