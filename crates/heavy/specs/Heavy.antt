@@ -10,7 +10,7 @@ use borrow.Author.Tests.{eq-eqb, ne-eqb, le-ltb, ltb-false}
 use lib.Dec.{eqb, ltb}
 use lib.ListN.{length}
 use Rattle.network.specs.Numbers.{upfrom}
-use Rattle.network.specs.Network.{Links, sites, at, sumAt, others, leaf, Tree}
+use Rattle.network.specs.Network.{Links, sites, at, sumAt, others, Tree}
 use Rattle.network.specs.Trimming.{Light, Balanced}
 use Rattle.theory.specs.Sums.{same?}
 use Rattle.theory.specs.Sites.{at-site}
@@ -26,12 +26,12 @@ unfoldable pub isHeavy : Links → (ℕ → ℕ) → ℕ → ℕ → Bool
 isHeavy ls t v j = eqb (at ls v j) 1 && ltb (others ls v j t) (t j)
 
 -- v is an inner site with a heavy link
-unfoldable pub heavyAt : Links → (ℕ → ℕ) → ℕ → Bool
-heavyAt ls t v = cond (eqb (leaf ls v) 1) false (any (isHeavy ls t v) (upfrom 0 (length ls)))
+unfoldable pub heavyAt : Links → (ℕ → ℕ) → (ℕ → ℕ) → ℕ → Bool
+heavyAt ls terminal t v = cond (eqb (terminal v) 1) false (any (isHeavy ls t v) (upfrom 0 (length ls)))
 
 -- some inner site has a heavy link (01: a link heavy at some joint)
-unfoldable pub heavySomewhere : Links → ℕ → (ℕ → ℕ) → Bool
-heavySomewhere ls n t = any (heavyAt ls t) (sites n)
+unfoldable pub heavySomewhere : Links → ℕ → (ℕ → ℕ) → (ℕ → ℕ) → Bool
+heavySomewhere ls n terminal t = any (heavyAt ls terminal t) (sites n)
 
 -- ---- tests of the numbers of an interval
 
@@ -85,44 +85,45 @@ module _ (ls : Links) (t : ℕ → ℕ) where
   is-light : (v j : ℕ) → j < length ls → at ls v j ≡ 1 → isHeavy ls t v j ≡ false → t j + t j ≤ sumAt ls v t
   is-light v j l a e = omega (arith, others-add ls v j t l a, ltb-false (sumAt ls v t - t j) (t j) (rw (heavy-by-sum v j l a) at e))
 
+module _ (ls : Links) (terminal t : ℕ → ℕ) where
   -- ---- all links at one site
 
-  pub terminal-has-no-heavy-link : (v : ℕ) → leaf ls v ≡ 1 → heavyAt ls t v ≡ false
+  pub terminal-has-no-heavy-link : (v : ℕ) → terminal v ≡ 1 → heavyAt ls terminal t v ≡ false
   unfolding heavyAt
-  terminal-has-no-heavy-link v e = rw (eq-eqb (leaf ls v) 1 e) refl
+  terminal-has-no-heavy-link v e = rw (eq-eqb (terminal v) 1 e) refl
 
-  inner : (v : ℕ) → leaf ls v ≢ 1 → heavyAt ls t v ≡ any (isHeavy ls t v) (upfrom 0 (length ls))
+  inner : (v : ℕ) → terminal v ≢ 1 → heavyAt ls terminal t v ≡ any (isHeavy ls t v) (upfrom 0 (length ls))
   unfolding heavyAt
-  inner v d = rw (ne-eqb (leaf ls v) 1 d) refl
+  inner v d = rw (ne-eqb (terminal v) 1 d) refl
 
-  pub one-is-heavy : (v j : ℕ) → leaf ls v ≢ 1 → j < length ls → isHeavy ls t v j ≡ true → heavyAt ls t v ≡ true
+  pub one-is-heavy : (v j : ℕ) → terminal v ≢ 1 → j < length ls → isHeavy ls t v j ≡ true → heavyAt ls terminal t v ≡ true
   one-is-heavy v j d l e = rw (inner v d) (one-passes (isHeavy ls t v) 0 (length ls) j (omega arith) (omega arith) e)
 
-  pub none-is-heavy : (v : ℕ) → leaf ls v ≢ 1 → ((j : ℕ) → j < length ls → isHeavy ls t v j ≡ false) → heavyAt ls t v ≡ false
+  pub none-is-heavy : (v : ℕ) → terminal v ≢ 1 → ((j : ℕ) → j < length ls → isHeavy ls t v j ≡ false) → heavyAt ls terminal t v ≡ false
   none-is-heavy v d h = rw (inner v d) (all-fail (isHeavy ls t v) 0 (length ls) (λ j l k. h j (omega arith)))
 
-  light-there : (v : ℕ) → leaf ls v ≢ 1 → heavyAt ls t v ≡ false → Light ls v t
-  light-there v d e j l a = is-light v j l a (each-fails (isHeavy ls t v) 0 (length ls) (rw (inner v d) at e) j (omega arith) (omega arith))
+  light-there : (v : ℕ) → terminal v ≢ 1 → heavyAt ls terminal t v ≡ false → Light ls v t
+  light-there v d e j l a = is-light ls t v j l a (each-fails (isHeavy ls t v) 0 (length ls) (rw (inner v d) at e) j (omega arith) (omega arith))
 
   -- ---- all sites
 
-  pub heavy-there : (n v : ℕ) → 1 ≤ v → v ≤ n → heavyAt ls t v ≡ true → heavySomewhere ls n t ≡ true
+  pub heavy-there : (n v : ℕ) → 1 ≤ v → v ≤ n → heavyAt ls terminal t v ≡ true → heavySomewhere ls n terminal t ≡ true
   unfolding heavySomewhere
-  heavy-there n v l h e = one-passes (heavyAt ls t) 1 n v l (omega arith) e
+  heavy-there n v l h e = one-passes (heavyAt ls terminal t) 1 n v l (omega arith) e
 
-  pub heavy-nowhere : (n : ℕ) → ((v : ℕ) → 1 ≤ v → v ≤ n → heavyAt ls t v ≡ false) → heavySomewhere ls n t ≡ false
+  pub heavy-nowhere : (n : ℕ) → ((v : ℕ) → 1 ≤ v → v ≤ n → heavyAt ls terminal t v ≡ false) → heavySomewhere ls n terminal t ≡ false
   unfolding heavySomewhere
-  heavy-nowhere n h = all-fail (heavyAt ls t) 1 n (λ v l k. h v l (omega arith))
+  heavy-nowhere n h = all-fail (heavyAt ls terminal t) 1 n (λ v l k. h v l (omega arith))
 
   -- told of no balanced capacities
-  pub balanced-has-no-heavy-link : (n : ℕ) → Balanced ls (leaf ls) t → heavySomewhere ls n t ≡ false
-  balanced-has-no-heavy-link n b = heavy-nowhere n (λ v l k. same? (leaf ls v) 1
+  pub balanced-has-no-heavy-link : (n : ℕ) → Balanced ls terminal t → heavySomewhere ls n terminal t ≡ false
+  balanced-has-no-heavy-link n b = heavy-nowhere n (λ v l k. same? (terminal v) 1
       (terminal-has-no-heavy-link v)
-      (λ d. none-is-heavy v d (λ j h. not-heavy v j h (b v d j h))))
+      (λ d. none-is-heavy v d (λ j h. not-heavy ls t v j h (b v d j h))))
 
   -- and of all others: a site with a link is a site of the network
-  pub no-heavy-link-is-balanced : {n : ℕ} → Tree ls n → heavySomewhere ls n t ≡ false → Balanced ls (leaf ls) t
+  pub no-heavy-link-is-balanced : {n : ℕ} → Tree ls n → heavySomewhere ls n terminal t ≡ false → Balanced ls terminal t
   unfolding heavySomewhere
   no-heavy-link-is-balanced {n} T e v d j l a =
       let s = at-site ls (T .ends) j l a in
-      light-there v d (each-fails (heavyAt ls t) 1 n e v (s .0) (omega arith)) j l a
+      light-there v d (each-fails (heavyAt ls terminal t) 1 n e v (s .0) (omega arith)) j l a

@@ -1,12 +1,10 @@
-// Whether the capacities of a tree have a heavy link (01: a link heavy at some joint), tested along the links at each site.
+// Inner: whether the capacities of a tree have a heavy link (01: a link heavy at some joint). Only the planner's own crates call it.
 ghost use mathlib.Core.Path.{_≡_};
 ghost use Prim.Native.Nat.{_-_, _≤_};
 ghost use lib.Dec.{ltb};
 ghost use Rattle.network.specs.Limits.{SITES};
 ghost use Rattle.network.specs.Numbers.{look};
-ghost use Rattle.network.specs.Edition.{largest};
 ghost use Rattle.tree.specs.Offer.{links};
-ghost use Rattle.tree.specs.Accepted.{TreeWithin};
 ghost use Rattle.links.specs.Chains.{Chained, Limited};
 ghost use Rattle.heavy.specs.Heavy.{heavyAt, heavySomewhere};
 use network::CHAINS;
@@ -23,6 +21,7 @@ fn is_heavy(t: u64, sum: u64) -> bool
 // Whether v is an inner site with a heavy link.
 fn heavy_at(
     v: usize,
+    ends: &[u8; PLACES],
     last: &[usize; PLACES],
     before: &[usize; CHAINS],
     one: &[usize],
@@ -30,15 +29,15 @@ fn heavy_at(
     capacity: &[u64],
 ) -> bool
     requires { ⌜ (v ≤ SITES) × Chained (now one) (now two) (now last) (now before) × Limited (now one) (now capacity) ⌝ }
-    ensures { λ r. ⌜ r ≡ heavyAt (links (now (one .entry)) (now (two .entry))) (look (now (capacity .entry))) v ⌝ }
+    ensures { λ r. ⌜ r ≡ heavyAt (links (now (one .entry)) (now (two .entry))) (look (now (ends .entry))) (look (now (capacity .entry))) v ⌝ }
 {
-    let site = links::at_site(v, last, before, one, two, capacity);
-    if site.links == 1 {
+    if ends[v] == 1 {
         return false;
     }
+    let sum = links::sum_at(v, last, before, one, two, capacity);
     let mut p = last[v];
     while 0 < p {
-        if is_heavy(capacity[p - 1], site.capacity) {
+        if is_heavy(capacity[p - 1], sum) {
             return true;
         }
         p = links::link_before(v, p - 1, one, two, before);
@@ -46,16 +45,21 @@ fn heavy_at(
     false
 }
 
-// Whether some inner site has a heavy link. Only the planner's own crates call it, of a tree that is accepted.
-pub fn heavy(n: usize, one: &[usize], two: &[usize], capacity: &[u64]) -> bool
-    requires { ⌜ TreeWithin largest n (now one) (now two) (now capacity) ⌝ }
-    ensures { λ r. ⌜ r ≡ heavySomewhere (links (now (one .entry)) (now (two .entry))) n (look (now (capacity .entry))) ⌝ }
+// Whether some inner site has a heavy link.
+pub fn heavy(
+    n: usize,
+    ends: &[u8; PLACES],
+    last: &[usize; PLACES],
+    before: &[usize; CHAINS],
+    one: &[usize],
+    two: &[usize],
+    capacity: &[u64],
+) -> bool
+    requires { ⌜ (n ≤ SITES) × Chained (now one) (now two) (now last) (now before) × Limited (now one) (now capacity) ⌝ }
+    ensures { λ r. ⌜ r ≡ heavySomewhere (links (now (one .entry)) (now (two .entry))) n (look (now (ends .entry))) (look (now (capacity .entry))) ⌝ }
 {
-    let chains = links::chain(one, two);
-    let last = chains.last;
-    let before = chains.before;
     for v in 1..n + 1 {
-        if heavy_at(v, &last, &before, one, two, capacity) {
+        if heavy_at(v, ends, last, before, one, two, capacity) {
             return true;
         }
     }

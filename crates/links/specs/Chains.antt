@@ -9,9 +9,9 @@ use native.Mathlib.Nat.{mul-le-mul-right}
 use lib.ListN.{length}
 use Rattle.network.specs.Limits.{LINKS, SITES, SIZE}
 use Rattle.network.specs.Numbers.{pick, is, sum, look}
-use Rattle.network.specs.Network.{Links, at}
+use Rattle.network.specs.Network.{Links, at, sumAt, leaf}
 use Rattle.network.specs.Edition.{largest}
-use Rattle.theory.specs.Sums.{pick-same, pick-other, same?, is-one}
+use Rattle.theory.specs.Sums.{pick-same, pick-other, same?, is-one, is-same, is-other}
 use Rattle.theory.specs.Trees.{at-le}
 use Rattle.tree.specs.Offer.{links}
 use Rattle.tree.specs.Accepted.{TreeWithin}
@@ -107,6 +107,21 @@ module _ (ls : Links) (v : ℕ) where
   sum-limit f k zero h = omega arith
   sum-limit f k (suc m) h = omega (arith, sum-limit f k m (λ i l. h i (omega arith)), mul-le-mul-right (f m) (at-le ls v m), h m (omega arith))
 
+  -- v has just one link where there is a last link and none before it
+  no-link : (m : ℕ) → lastAt ls m v ≡ 0 → sum m (λ i. at ls v i * 1) ≡ 0
+  unfolding sum
+  no-link m e = last-sum (λ i. 1) m ∙ rw e refl
+
+  -- what is at v is the last link there and what is before it
+  at-last : (m : ℕ) → 0 < lastAt ls m v → sum m (λ i. at ls v i * 1) ≡ 1 + sum (lastAt ls (lastAt ls m v - 1) v) (λ i. at ls v i * 1)
+  at-last m h = last-sum (λ i. 1) m ∙ sum-back (λ i. 1) (lastAt ls m v) h (on-last m m (omega arith) .1 h)
+
+  one-link : (m : ℕ) → 0 < lastAt ls m v → lastAt ls (lastAt ls m v - 1) v ≡ 0 → sum m (λ i. at ls v i * 1) ≡ 1
+  one-link m h e = omega (arith, at-last m h, last-sum (λ i. 1) (lastAt ls m v - 1), no-link (lastAt ls m v - 1) e)
+
+  more-links : (m : ℕ) → 0 < lastAt ls m v → 0 < lastAt ls (lastAt ls m v - 1) v → 2 ≤ sum m (λ i. at ls v i * 1)
+  more-links m h k = omega (arith, at-last m h, last-sum (λ i. 1) (lastAt ls m v - 1), at-last (lastAt ls m v - 1) k)
+
 -- ---- along the chain
 
 module _ {a b last before : List ℕ} (c : Chained a b last before) where
@@ -120,3 +135,22 @@ module _ {a b last before : List ℕ} (c : Chained a b last before) where
       (λ f. pick-same f _ _ ∙ c .firsts j h ∙ ap (lastAt (links a b) j) f)
       (λ d. let f : look b j ≡ v = is-one (sym (pick-other d 1 (is (look b j) v)) ∙ sym site ∙ at-v) in
       pick-other d _ _ ∙ pick-same f _ _ ∙ c .others j h ∙ ap (lastAt (links a b) j) f)
+
+  -- ---- an end, by the last link at v and the link before it
+
+  module _ (v : ℕ) (site : v ≤ SITES) where
+    number : sumAt (links a b) v (λ i. 1) ≡ sum (length a) (λ i. at (links a b) v i * 1)
+    unfolding sumAt
+    number = rw (length-links a b (sym (c .placed .seconds))) refl
+
+    pub no-link-is-no-end : look last v ≡ 0 → leaf (links a b) v ≡ 0
+    unfolding leaf
+    no-link-is-no-end e = is-other (λ f. omega (arith, number, no-link (links a b) v (length a) (sym (c .lasts v site) ∙ e)))
+
+    pub one-link-is-an-end : 0 < look last v → lastAt (links a b) (look last v - 1) v ≡ 0 → leaf (links a b) v ≡ 1
+    unfolding leaf
+    one-link-is-an-end = rw (c .lasts v site) (λ h e. is-same (number ∙ one-link (links a b) v (length a) h e))
+
+    pub more-links-are-no-end : 0 < look last v → 0 < lastAt (links a b) (look last v - 1) v → leaf (links a b) v ≡ 0
+    unfolding leaf
+    more-links-are-no-end = rw (c .lasts v site) (λ h k. is-other (λ f. omega (arith, number, more-links (links a b) v (length a) h k)))

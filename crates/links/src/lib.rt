@@ -1,10 +1,10 @@
-// The links at each site of a tree as chains, and what is summed along them: for the crates that walk from site to site.
+// Inner: the links at each site of a tree as chains, the sums along them, and the ends. Only the planner's own crates call it.
 ghost use mathlib.Core.Path.{_≡_};
 ghost use Prim.Native.Nat.{_+_, _*_, _≤_, _<_};
 ghost use lib.ListN.{length};
 ghost use Rattle.network.specs.Limits.{SITES};
 ghost use Rattle.network.specs.Numbers.{pick, look};
-ghost use Rattle.network.specs.Network.{sumAt};
+ghost use Rattle.network.specs.Network.{sumAt, leaf, ends};
 ghost use Rattle.tree.specs.Offer.{links};
 ghost use Rattle.links.specs.Chains.{Placed, Chained, Limited};
 use network::CHAINS;
@@ -56,38 +56,6 @@ pub fn link_before(
     0
 }
 
-// The links at a site: how many, and their capacities summed.
-pub struct AtSite {
-    pub links: u64,
-    pub capacity: u64,
-}
-
-// How many links are at v, and what they can carry together. Only the planner's own crates call it, of links that are chained.
-pub fn at_site(
-    v: usize,
-    last: &[usize; PLACES],
-    before: &[usize; CHAINS],
-    one: &[usize],
-    two: &[usize],
-    capacity: &[u64],
-) -> AtSite
-    requires { ⌜ (v ≤ SITES) × Chained (now one) (now two) (now last) (now before) × Limited (now one) (now capacity) ⌝ }
-    ensures { λ r. ⌜ (r .links ≡ sumAt (links (now (one .entry)) (now (two .entry))) v (λ i. 1)) × (r .capacity ≡ sumAt (links (now (one .entry)) (now (two .entry))) v (look (now (capacity .entry)))) ⌝ }
-{
-    let mut links: u64 = 0;
-    let mut total: u64 = 0;
-    let mut p = last[v];
-    while 0 < p {
-        links += 1;
-        total += capacity[p - 1];
-        p = link_before(v, p - 1, one, two, before);
-    }
-    AtSite {
-        links,
-        capacity: total,
-    }
-}
-
 // What the links at v can carry together. Only the planner's own crates call it, of links that are chained.
 pub fn sum_at(
     v: usize,
@@ -107,4 +75,43 @@ pub fn sum_at(
         p = link_before(v, p - 1, one, two, before);
     }
     total
+}
+
+// 1 if v has just one link, 0 if not: its last link is one, and there is none before it.
+fn end_at(
+    v: usize,
+    last: &[usize; PLACES],
+    before: &[usize; CHAINS],
+    one: &[usize],
+    two: &[usize],
+) -> u8
+    requires { ⌜ (v ≤ SITES) × Chained (now one) (now two) (now last) (now before) ⌝ }
+    ensures { λ r. ⌜ r ≡ leaf (links (now (one .entry)) (now (two .entry))) v ⌝ }
+{
+    let p = last[v];
+    if p == 0 {
+        return 0;
+    }
+    if link_before(v, p - 1, one, two, before) == 0 {
+        return 1;
+    }
+    0
+}
+
+// The ends of n sites: place v holds 1 where site v is an end, 0 elsewhere. Only the planner's own crates call it, of links that are chained.
+pub fn ends(
+    n: usize,
+    last: &[usize; PLACES],
+    before: &[usize; CHAINS],
+    one: &[usize],
+    two: &[usize],
+) -> [u8; PLACES]
+    requires { ⌜ (n ≤ SITES) × Chained (now one) (now two) (now last) (now before) ⌝ }
+    ensures { λ r. ⌜ look r ≡ look (ends (links (now (one .entry)) (now (two .entry))) n) ⌝ }
+{
+    let mut list = [0u8; PLACES];
+    for v in 0..n + 1 {
+        list[v] = end_at(v, last, before, one, two);
+    }
+    list
 }

@@ -1,6 +1,6 @@
 // A tree that is offered as lists: whether it is one within the limits of the edition, and the elimination order of its sites.
 use elimination::Order;
-use network::Edition;
+use network::SIZE;
 use network::SITES;
 ghost use mathlib.Core.Path.{_≡_};
 ghost use Prim.Native.Nat.{ℕ, _<_};
@@ -76,7 +76,7 @@ fn is_proper(n: usize, one: &[usize], two: &[usize]) -> bool
     if n < 2 {
         return false;
     }
-    if Edition::SITES < n {
+    if SITES < n {
         return false;
     }
     if one.len() != n - 1 {
@@ -114,7 +114,7 @@ fn offer_of(tree: bool, links: usize, capacity: &[u64]) -> Offer
     if capacity.len() != links {
         return Offer::NoTree;
     }
-    if !capacities_within(Edition::SIZE, capacity) {
+    if !capacities_within(SIZE, capacity) {
         return Offer::TooLarge;
     }
     Offer::Accepted

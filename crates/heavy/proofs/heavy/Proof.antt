@@ -7,17 +7,16 @@ use Rattle.network.specs.Numbers.{look}
 use Rattle.network.specs.Network.{Links}
 use Rattle.theory.specs.Sums.{same?}
 use Rattle.tree.specs.Offer.{links}
-use Rattle.links.specs.Chains.{offer-placed, offer-limited}
 use Rattle.heavy.specs.Heavy.{heavyAt, heavy-there, heavy-nowhere}
 use Rattle.heavy.proofs.heavy.Statement.{statement}
 use Rattle.heavy.proofs.heavy.Tie as tie
 
 abbrev Inv-loop : tie.InvT-loop
-Inv-loop n one two capacity last before v₀ v-end v =
-    (1 ≤ v) × (v ≤ n + 1) × ((x : ℕ) → 1 ≤ x → x < v → heavyAt (links one two) (look capacity) x ≡ false)
+Inv-loop n ends last before one two capacity v₀ v-end v =
+    (1 ≤ v) × (v ≤ n + 1) × ((x : ℕ) → 1 ≤ x → x < v → heavyAt (links one two) (look ends) (look capacity) x ≡ false)
 
 abbrev μ-loop : tie.MeasureT-loop
-μ-loop n one two capacity last before v₀ v-end v = n + 1 - v
+μ-loop n ends last before one two capacity v₀ v-end v = n + 1 - v
 
 -- the tree's links
 abbrev ls : tie.Start Inv-loop μ-loop → Links
@@ -25,13 +24,13 @@ ls s = links (s .args .one .now) (s .args .two .now)
 
 found : tie.Need-returns Inv-loop μ-loop
 found c =
-    let t = c .before .before .before .before .before in
-    let s = t .before .before .before .before .before .before .before in
-    sym (heavy-there (ls s) (look (s .args .capacity .now)) (s .args .n) (t .loop .v) (omega arith) (omega arith) (sym (c .before .heavy-at .ensures) ∙ c .if1 .taken))
+    let t = c .before .before .before in
+    let s = t .before .before .before .before in
+    sym (heavy-there (ls s) (look (s .args .ends .now)) (look (s .args .capacity .now)) (s .args .n) (t .loop .v) (omega arith) (omega arith) (sym (c .before .heavy-at .ensures) ∙ c .if1 .taken))
 
 next : tie.Need-loop-again Inv-loop μ-loop
 next c =
-    let t = c .before .before .before .before .before in (
+    let t = c .before .before .before in (
       omega arith,
       omega arith,
       λ x l h. same? x (t .loop .v) (λ e. rw e (sym (c .before .heavy-at .ensures) ∙ c .if1 .left)) (λ d. t .loop .inv .2 x l (omega arith)),
@@ -39,8 +38,8 @@ next c =
 
 none : tie.Need-returns-2 Inv-loop μ-loop
 none c =
-    let s = c .before .before .before .before .before .before .before .before in
-    sym (heavy-nowhere (ls s) (look (s .args .capacity .now)) (s .args .n) (λ v l h. c .before .loop .inv .2 v l (omega arith)))
+    let s = c .before .before .before .before .before in
+    sym (heavy-nowhere (ls s) (look (s .args .ends .now)) (look (s .args .capacity .now)) (s .args .n) (λ v l h. c .before .loop .inv .2 v l (omega arith)))
 
 pub heavy-spec : {M : Type 1} → statement M
 heavy-spec =
@@ -48,11 +47,9 @@ heavy-spec =
     (tie.spec
     Inv-loop
     μ-loop
-    (λ c κs. offer-placed (c .before .before .before .pre))
     (λ c. omega arith)
     (λ c. (omega arith, omega arith, λ x l h. absurd (omega arith)))
-    (λ c κs. let w = c .before .before .before .before .before .before .before .before .before .before .pre in
-    (omega (arith, w .few), c .before .before .before .before .before .before .chain .ensures, offer-limited w))
+    (λ c κs. let p = c .before .before .before .before .before .pre in (omega arith, p .1, p .2))
     found
     (λ c. omega arith)
     (λ c. omega arith)

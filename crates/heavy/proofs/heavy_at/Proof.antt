@@ -7,8 +7,8 @@ use native.Mathlib.Omega.{arith}
 use native.Mathlib.Decide.{decLt}
 use lib.ListN.{length}
 use Rattle.network.specs.Numbers.{look}
-use Rattle.network.specs.Network.{Links, sumAt, leaf}
-use Rattle.theory.specs.Sums.{cases, same?, is-same, is-one}
+use Rattle.network.specs.Network.{Links, sumAt}
+use Rattle.theory.specs.Sums.{cases, same?}
 use Rattle.theory.specs.Trees.{others-add}
 use Rattle.tree.specs.Offer.{links}
 use Rattle.tree.specs.Links.{length-links}
@@ -18,11 +18,11 @@ use Rattle.heavy.proofs.heavy_at.Statement.{statement}
 use Rattle.heavy.proofs.heavy_at.Tie as tie
 
 abbrev Inv-loop : tie.InvT-loop
-Inv-loop v last before one two capacity site p₀ p =
+Inv-loop v ends last before one two capacity sum p₀ p =
     On (links one two) v (length one) p × ((j : ℕ) → p ≤ j → j < length one → isHeavy (links one two) (look capacity) v j ≡ false)
 
 abbrev μ-loop : tie.MeasureT-loop
-μ-loop v last before one two capacity site p₀ p = p
+μ-loop v ends last before one two capacity sum p₀ p = p
 
 -- the tree's links
 abbrev ls : tie.Start Inv-loop μ-loop → Links
@@ -32,10 +32,10 @@ number : (s : tie.Start Inv-loop μ-loop) → length (ls s) ≡ length (s .args 
 number s = length-links (s .args .one .now) (s .args .two .now) (sym (s .pre .1 .placed .seconds))
 
 terminal : tie.Need-returns Inv-loop μ-loop
-unfolding leaf
 terminal c =
-    let s = c .before .before .before .before .before .before in
-    sym (terminal-has-no-heavy-link (ls s) (look (s .args .capacity .now)) (s .args .v) (is-same (sym (c .before .before .at-site .ensures .0) ∙ c .if1 .taken)))
+    let s = c .before .before .before .before .before in
+    let a = s .args in
+    sym (terminal-has-no-heavy-link (ls s) (look (a .ends .now)) (look (a .capacity .now)) (a .v) (c .if1 .taken))
 
 start : tie.Need-loop-holds Inv-loop μ-loop
 start c =
@@ -49,9 +49,8 @@ start c =
 
 -- what is known from before the loop: v is no terminal, and the sum is that of the links at v
 known : (t : tie.At-loop Inv-loop μ-loop) → let s = t .before .before .before .before .before .before .before .before in
-    (leaf (ls s) (s .args .v) ≢ 1) × (t .before .before .before .before .at-site .result .capacity ≡ sumAt (ls s) (s .args .v) (look (s .args .capacity .now)))
-unfolding leaf
-known t = (λ e. t .before .before .if1 .left (t .before .before .before .before .at-site .ensures .0 ∙ is-one e), t .before .before .before .before .at-site .ensures .1)
+    (look (s .args .ends .now) (s .args .v) ≢ 1) × (t .before .before .sum-at .result ≡ sumAt (ls s) (s .args .v) (look (s .args .capacity .now)))
+known t = (t .before .before .before .if1 .left, t .before .before .sum-at .ensures)
 
 -- a link at v has no more than the sum
 fits : tie.Need-is-heavy-requires Inv-loop μ-loop
@@ -73,7 +72,7 @@ found : tie.Need-returns-2 Inv-loop μ-loop
 found c =
     let t = c .before .before .before .before in
     let s = t .before .before .before .before .before .before .before .before in
-    sym (one-is-heavy (ls s) (look (s .args .capacity .now)) (s .args .v) (t .loop .p - 1) (known t .0) (omega (arith, number s)) (sym (tested (c .before)) ∙ c .if2 .taken))
+    sym (one-is-heavy (ls s) (look (s .args .ends .now)) (look (s .args .capacity .now)) (s .args .v) (t .loop .p - 1) (known t .0) (omega (arith, number s)) (sym (tested (c .before)) ∙ c .if2 .taken))
 
 -- the link before
 back : (c : tie.After-link-before Inv-loop μ-loop) → let t = c .before .before .before .before .before in let s = t .before .before .before .before .before .before .before .before in
@@ -108,7 +107,7 @@ none : tie.Need-returns-3 Inv-loop μ-loop
 none c =
     let t = c .before in
     let s = t .before .before .before .before .before .before .before .before in
-    sym (none-is-heavy (ls s) (look (s .args .capacity .now)) (s .args .v) (known t .0) (λ j l. t .loop .inv .1 j (omega arith) (omega (arith, number s))))
+    sym (none-is-heavy (ls s) (look (s .args .ends .now)) (look (s .args .capacity .now)) (s .args .v) (known t .0) (λ j l. t .loop .inv .1 j (omega arith) (omega (arith, number s))))
 
 pub heavy-at-spec : {M : Type 1} → statement M
 heavy-at-spec =
@@ -116,8 +115,9 @@ heavy-at-spec =
     (tie.spec
     Inv-loop
     μ-loop
-    (λ c κs. c .before .before .before .pre)
+    (λ c. omega arith)
     terminal
+    (λ c κs. c .before .before .before .before .before .pre)
     (λ c. omega arith)
     (λ c. omega arith)
     start

@@ -29,7 +29,7 @@ start c =
     let m = length (a .one .now) in
     rw (s .pre .1 .lasts (a .v) (s .pre .0)) (on-last ls (a .v) m m (omega arith), zero-add _ ∙ sym (last-sum ls (a .v) (look (a .capacity .now)) m))
 
--- the sums stay small
+-- the sum stays small
 room : (c : tie.In-loop Inv-loop μ-loop) → let t = c .before in let a = t .before .before .before .before .before .args in
     t .loop .total + look (a .capacity .now) (t .loop .p - 1) ≤ LINKS * SIZE
 room c =
