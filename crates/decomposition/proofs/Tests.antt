@@ -4,9 +4,8 @@ use mathlib.Core.Logic.{_≢_}
 use Prim.Native.Nat.{ℕ, suc, _+_, _-_, _≤_, _<_}
 use native.Mathlib.Omega.{arith}
 use native.Mathlib.Numerals.{add-one}
-use Rattle.network.specs.Network.{Links, sumAt, leaf}
 use Rattle.network.specs.Pairing.{lowestInner}
-use Rattle.theory.specs.Sums.{pick-same, pick-other, is-same, is-one}
+use Rattle.theory.specs.Sums.{pick-same, pick-other}
 
 -- as many numbers as there are from i up to e
 one-more : (i e : ℕ) → i < e → e - i ≡ suc (e - (i + 1))
@@ -27,13 +26,3 @@ module _ (f : ℕ → ℕ) (i e : ℕ) where
   pub lowest-end : e ≤ i → lowestInner f i (e - i) ≡ 0
   unfolding lowestInner
   lowest-end h = rw (none-left i e h)
-
--- a site with one link is a terminal
-module _ (ls : Links) (v : ℕ) where
-  pub one-link : sumAt ls v (λ i. 1) ≡ 1 → leaf ls v ≡ 1
-  unfolding leaf
-  one-link e = is-same e
-
-  pub not-one-link : sumAt ls v (λ i. 1) ≢ 1 → leaf ls v ≢ 1
-  unfolding leaf
-  not-one-link d e = d (is-one e)

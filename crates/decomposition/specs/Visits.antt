@@ -7,23 +7,24 @@ use Prim.Native.Nat.{ℕ, suc, _+_, _*_, _≤_}
 use lib.ListN.{length, take}
 use Rattle.network.specs.Limits.{NUMBERS, SITES}
 use Rattle.network.specs.Numbers.{look}
-use Rattle.network.specs.Network.{Site, leaf}
+use Rattle.network.specs.Network.{Site}
 use Rattle.network.specs.Trimming.{Balanced}
 use Rattle.network.specs.Pairing.{Part, walk, pairs}
 use Rattle.network.specs.declared.Pair.{Pair}
+use Rattle.network.specs.declared.Pairs.{Pairs}
 use Rattle.network.specs.Edition.{largest}
 use Rattle.tree.specs.Offer.{links}
 use Rattle.tree.specs.Accepted.{TreeWithin}
 use Rattle.links.specs.Chains.{Chained}
 use Rattle.walk.specs.Children.{size}
 use Rattle.walk.specs.Walk.{Start}
+use Rattle.walk.specs.Pairs.{Outer}
 use Rattle.halves.specs.declared.Tops.{Tops}
-use Rattle.decomposition.specs.declared.Decomposed.{Decomposed}
 use Rattle.halves.specs.Arrays.{flat, flatPairs, Added}
 
--- the walk over a tree that is offered as lists, whose terminals are the sites with one link
-abbrev pub walkOf : ℕ → List ℕ → List ℕ → List ℕ → ℕ → ℕ → ℕ → ℕ → ℕ → Part
-walkOf n one two c fuel v j up down = walk (links one two) n (look c) (leaf (links one two)) fuel v j up down
+-- the walk over a tree that is lent as lists, with its terminals
+abbrev pub walkOf : ℕ → List ℕ → List ℕ → List ℕ → List ℕ → ℕ → ℕ → ℕ → ℕ → ℕ → Part
+walkOf n ends one two c fuel v j up down = walk (links one two) n (look c) (look ends) fuel v j up down
 
 -- the lists of a part are added to the three arrays
 pub record Visited (w : Part) (u d p : List ℕ) (b : Tops) (x y z : List ℕ) (r : Tops) : Type 0 where
@@ -32,12 +33,12 @@ pub record Visited (w : Part) (u d p : List ℕ) (b : Tops) (x y z : List ℕ) (
   pub pairs : Added p (b .pairs) z (r .pairs) (flatPairs (w .pairs))
 
 -- site v of a tree with balanced capacities and chained links, as the walk comes to it, with fuel and room in the arrays for all the sites below it
-pub record Visit (n : ℕ) (last before one two c : List ℕ) (fuel v j up down : ℕ) (u d p : List ℕ) (b : Tops) : Type 0 where
+pub record Visit (n : ℕ) (ends last before one two c : List ℕ) (fuel v j up down : ℕ) (u d p : List ℕ) (b : Tops) : Type 0 where
   pub tree : TreeWithin largest n one two c
-  pub balanced : Balanced (links one two) (leaf (links one two)) (look c)
+  pub balanced : Balanced (links one two) (look ends) (look c)
   pub chained : Chained one two last before
   pub site : Site n v
-  pub start : Start (links one two) (look c) (leaf (links one two)) j v up down
+  pub start : Start (links one two) (look c) (look ends) j v up down
   pub fuelled : size (links one two) n j v ≤ fuel
   pub ups-room : b .ups + 2 * size (links one two) n j v ≤ length u
   pub downs-room : b .downs + 2 * size (links one two) n j v ≤ length d
@@ -45,25 +46,26 @@ pub record Visit (n : ℕ) (last before one two c : List ℕ) (fuel v j up down 
 
 -- ---- the whole walk
 
--- a tree within the limits, with balanced capacities
-pub record Walkable (n : ℕ) (one two c : List ℕ) : Type 0 where
+-- a tree within the limits, its links chained, its terminals of one link each, with balanced capacities
+pub record Walkable (n : ℕ) (ends last before one two c : List ℕ) : Type 0 where
   pub tree : TreeWithin largest n one two c
-  pub balanced : Balanced (links one two) (leaf (links one two)) (look c)
-
--- an inner site of such a tree, whose links are chained
-pub record Root (root : ℕ) (last before one two c : List ℕ) : Type 0 where
-  pub walkable : Walkable (suc (length one)) one two c
   pub chained : Chained one two last before
+  pub outer : Outer (links one two) n (look ends)
+  pub balanced : Balanced (links one two) (look ends) (look c)
+
+-- an inner site of such a tree
+pub record Root (root : ℕ) (ends last before one two c : List ℕ) : Type 0 where
+  pub walkable : Walkable (suc (length one)) ends last before one two c
   pub site : Site (suc (length one)) root
-  pub inner : leaf (links one two) root ≢ 1
+  pub inner : look ends root ≢ 1
 
 -- the pairs of the walk from a root
-abbrev pub pairsBelow : ℕ → List ℕ → List ℕ → List ℕ → List Pair
-pairsBelow root one two c = walkOf (suc (length one)) one two c (suc (length one)) root (length one) 0 0 .pairs
+abbrev pub pairsBelow : ℕ → List ℕ → List ℕ → List ℕ → List ℕ → List Pair
+pairsBelow root ends one two c = walkOf (suc (length one)) ends one two c (suc (length one)) root (length one) 0 0 .pairs
 
--- the pairs of a tree that is offered as lists, in the order in which the walk makes them
-abbrev pub pairsOf : ℕ → List ℕ → List ℕ → List ℕ → List Pair
-pairsOf n one two c = pairs (links one two) n (look c)
+-- the pairs of a tree that is lent as lists, in the order in which the walk makes them
+abbrev pub pairsOf : ℕ → List ℕ → List ℕ → List ℕ → List ℕ → List Pair
+pairsOf n ends one two c = pairs (links one two) n (look c) (look ends)
 
 -- the pair that three numbers from a place on spell
 abbrev pub spelledAt : List ℕ → ℕ → Pair
@@ -83,7 +85,7 @@ pub record Spells (l : List ℕ) (e : ℕ) : Type 0 where
   pub whole : take e l ≡ flatPairs (spelled (take e l))
 
 -- the pairs es stand in the first places of a list of SITES
-pub record Listing (es : List Pair) (r : Decomposed) : Type 0 where
+pub record Listing (es : List Pair) (r : Pairs) : Type 0 where
   pub counted : r .count ≡ length es
   pub places : length (r .list) ≡ SITES
   pub held : take (r .count) (r .list) ≡ es

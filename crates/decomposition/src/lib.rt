@@ -1,40 +1,29 @@
-// The decomposition of balanced capacities into pairs (01: pairing), by the walk from the root.
+// Inner: the decomposition of balanced capacities into pairs (01: pairing), by the walk from the root. Only the planner's own crates call it.
 use halves::Tops;
 use network::CHAINS;
 use network::HALVES;
 use network::NUMBERS;
 use network::PLACES;
 use network::Pair;
+use network::Pairs;
 use network::SITES;
 ghost use mathlib.Core.Path.{_≡_};
 ghost use mathlib.Core.List.{[]};
-ghost use mathlib.Core.Logic.{_≢_};
 ghost use Prim.Native.Nat.{suc, _+_, _-_, _*_, _≤_, _<_, min};
-ghost use Rattle.network.specs.Limits.{NUMBERS, SIZE};
+ghost use Rattle.network.specs.Limits.{NUMBERS, SITES, SIZE};
 ghost use lib.ListN.{length, take};
 ghost use Rattle.network.specs.Numbers.{look};
-ghost use Rattle.network.specs.Network.{Site, leaf};
 ghost use Rattle.network.specs.Pairing.{put, give, lowestInner};
-ghost use Rattle.tree.specs.Offer.{links};
-ghost use Rattle.links.specs.Chains.{Chained, Limited};
 ghost use Rattle.halves.specs.Arrays.{flatPairs, Added};
 ghost use Rattle.decomposition.specs.Visits.{walkOf, Visit, Visited, Walkable, Root, pairsOf, pairsBelow, spelledAt, spelled, Spells, Listing};
 
 // The site of lowest number that is no terminal, 0 where there is none.
-fn lowest_inner(
-    last: &[usize; PLACES],
-    before: &[usize; CHAINS],
-    one: &[usize],
-    two: &[usize],
-    capacity: &[u64],
-) -> usize
-    requires { ⌜ Chained (now one) (now two) (now last) (now before) × Limited (now one) (now capacity) ⌝ }
-    ensures lowest { λ r. ⌜ r ≡ lowestInner (leaf (links (now (one .entry)) (now (two .entry)))) 1 (suc (length (now (one .entry)))) ⌝ }
-    ensures inner { λ r. ⌜ (r ≢ 0 → Site (suc (length (now (one .entry)))) r × (leaf (links (now (one .entry)) (now (two .entry))) r ≢ 1)) ⌝ }
+fn lowest_inner(n: usize, ends: &[u8; PLACES]) -> usize
+    requires { ⌜ n ≤ SITES ⌝ }
+    ensures { λ r. ⌜ r ≡ lowestInner (look (now (ends .entry))) 1 n ⌝ }
 {
-    for v in 1..one.len() + 2 {
-        let site = links::at_site(v, last, before, one, two, capacity);
-        if site.links != 1 {
+    for v in 1..n + 1 {
+        if ends[v] != 1 {
             return v;
         }
     }
@@ -63,6 +52,7 @@ fn halves_up(capacity: &[u64], k: usize, rest: u64) -> u64
 // The walk below site v, entered over a link with `up` halves to send up, the others coming down:
 // what it hands to the parent, and the pairs made below v, are added to the three lists. There is fuel for each site below.
 fn visit(
+    ends: &[u8; PLACES],
     last: &[usize; PLACES],
     before: &[usize; CHAINS],
     one: &[usize],
@@ -77,16 +67,16 @@ fn visit(
     pairs: &mut [u64],
     base: Tops,
 ) -> Tops
-    requires { ⌜ Visit (suc (length (now one))) (now last) (now before) (now one) (now two) (now capacity) fuel v link up (2 * look (now capacity) link - up) (now ups) (now downs) (now pairs) base ⌝ }
-    ensures { λ r. ⌜ Visited (walkOf (suc (length (now (one .entry)))) (now (one .entry)) (now (two .entry)) (now (capacity .entry)) fuel v link up (2 * look (now (capacity .entry)) link - up)) (now (ups .entry)) (now (downs .entry)) (now (pairs .entry)) base (now (ups .exit)) (now (downs .exit)) (now (pairs .exit)) r ⌝ }
+    requires { ⌜ Visit (suc (length (now one))) (now ends) (now last) (now before) (now one) (now two) (now capacity) fuel v link up (2 * look (now capacity) link - up) (now ups) (now downs) (now pairs) base ⌝ }
+    ensures { λ r. ⌜ Visited (walkOf (suc (length (now (one .entry)))) (now (ends .entry)) (now (one .entry)) (now (two .entry)) (now (capacity .entry)) fuel v link up (2 * look (now (capacity .entry)) link - up)) (now (ups .entry)) (now (downs .entry)) (now (pairs .entry)) base (now (ups .exit)) (now (downs .exit)) (now (pairs .exit)) r ⌝ }
 {
     let down = halves_down(capacity, link, up);
-    let site = links::at_site(v, last, before, one, two, capacity);
-    if site.links == 1 {
+    if ends[v] == 1 {
         return halves::alone(v, up, down, ups, downs, base);
     }
+    let sum = links::sum_at(v, last, before, one, two, capacity);
     let below = neighbours::children(v, link, last, before, one, two);
-    let mut rest = site.capacity - down;
+    let mut rest = sum - down;
     let mut top = base;
     let mut c = neighbours::next_site(below, 0);
     while c < PLACES {
@@ -94,6 +84,7 @@ fn visit(
         let sent = halves_up(capacity, k, rest);
         rest -= sent;
         top = visit(
+            ends,
             last,
             before,
             one,
@@ -127,6 +118,7 @@ fn join_two(capacity: u64, pairs: &mut [u64]) -> usize
 // The pairs of the walk from an inner site, written one after the other; the end of them.
 fn walk_from(
     root: usize,
+    ends: &[u8; PLACES],
     last: &[usize; PLACES],
     before: &[usize; CHAINS],
     one: &[usize],
@@ -134,8 +126,8 @@ fn walk_from(
     capacity: &[u64],
     pairs: &mut [u64],
 ) -> usize
-    requires { ⌜ Root root (now last) (now before) (now one) (now two) (now capacity) × (NUMBERS ≤ length (now pairs)) ⌝ }
-    ensures { λ r. ⌜ Added (now (pairs .entry)) 0 (now (pairs .exit)) r (flatPairs (pairsBelow root (now (one .entry)) (now (two .entry)) (now (capacity .entry)))) ⌝ }
+    requires { ⌜ Root root (now ends) (now last) (now before) (now one) (now two) (now capacity) × (NUMBERS ≤ length (now pairs)) ⌝ }
+    ensures { λ r. ⌜ Added (now (pairs .entry)) 0 (now (pairs .exit)) r (flatPairs (pairsBelow root (now (ends .entry)) (now (one .entry)) (now (two .entry)) (now (capacity .entry)))) ⌝ }
 {
     let mut ups = [0u64; HALVES];
     let mut downs = [0u64; HALVES];
@@ -145,6 +137,7 @@ fn walk_from(
         pairs: 0,
     };
     let top = visit(
+        ends,
         last,
         before,
         one,
@@ -163,24 +156,24 @@ fn walk_from(
 }
 
 // The pairs of the walk from the inner site of lowest number, written one after the other; the end of them.
-fn walk_tree(one: &[usize], two: &[usize], capacity: &[u64], pairs: &mut [u64]) -> usize
-    requires { ⌜ Walkable (suc (length (now one))) (now one) (now two) (now capacity) × (NUMBERS ≤ length (now pairs)) ⌝ }
-    ensures { λ r. ⌜ Added (now (pairs .entry)) 0 (now (pairs .exit)) r (flatPairs (pairsOf (suc (length (now (one .entry)))) (now (one .entry)) (now (two .entry)) (now (capacity .entry)))) ⌝ }
+fn walk_tree(
+    n: usize,
+    ends: &[u8; PLACES],
+    last: &[usize; PLACES],
+    before: &[usize; CHAINS],
+    one: &[usize],
+    two: &[usize],
+    capacity: &[u64],
+    pairs: &mut [u64],
+) -> usize
+    requires { ⌜ Walkable n (now ends) (now last) (now before) (now one) (now two) (now capacity) × (NUMBERS ≤ length (now pairs)) ⌝ }
+    ensures { λ r. ⌜ Added (now (pairs .entry)) 0 (now (pairs .exit)) r (flatPairs (pairsOf n (now (ends .entry)) (now (one .entry)) (now (two .entry)) (now (capacity .entry)))) ⌝ }
 {
-    let chains = links::chain(one, two);
-    let last = chains.last;
-    let before = chains.before;
-    let root = lowest_inner(&last, &before, one, two, capacity);
+    let root = lowest_inner(n, ends);
     if root == 0 {
         return join_two(capacity[0], pairs);
     }
-    walk_from(root, &last, &before, one, two, capacity, pairs)
-}
-
-// Pairs in the first places of a list.
-pub struct Decomposed {
-    pub list: [Pair; SITES],
-    pub count: usize,
+    walk_from(root, ends, last, before, one, two, capacity, pairs)
 }
 
 // The pair that three numbers from `at` on spell: first site, second site, amount.
@@ -196,7 +189,7 @@ fn pair_at(numbers: &[u64], at: usize) -> Pair
 }
 
 // The pairs that the numbers below `end` spell.
-fn read_pairs(numbers: &[u64], end: usize) -> Decomposed
+fn read_pairs(numbers: &[u64], end: usize) -> Pairs
     requires { ⌜ Spells (now numbers) end ⌝ }
     ensures { λ r. ⌜ Listing (spelled (take end (now (numbers .entry)))) r ⌝ }
 {
@@ -212,15 +205,23 @@ fn read_pairs(numbers: &[u64], end: usize) -> Decomposed
         count += 1;
         at += 3;
     }
-    Decomposed { list, count }
+    Pairs { list, count }
 }
 
-// The pairs of a tree with balanced capacities, in the order in which the walk makes them. Only crate `pairing` calls it, once the tree and its capacities are tested.
-pub fn decompose(n: usize, one: &[usize], two: &[usize], capacity: &[u64]) -> Decomposed
-    requires { ⌜ Walkable n (now one) (now two) (now capacity) ⌝ }
-    ensures { λ r. ⌜ Listing (pairsOf n (now (one .entry)) (now (two .entry)) (now (capacity .entry))) r ⌝ }
+// The pairs of a tree with balanced capacities, in the order in which the walk makes them.
+pub fn decompose(
+    n: usize,
+    ends: &[u8; PLACES],
+    last: &[usize; PLACES],
+    before: &[usize; CHAINS],
+    one: &[usize],
+    two: &[usize],
+    capacity: &[u64],
+) -> Pairs
+    requires { ⌜ Walkable n (now ends) (now last) (now before) (now one) (now two) (now capacity) ⌝ }
+    ensures { λ r. ⌜ Listing (pairsOf n (now (ends .entry)) (now (one .entry)) (now (two .entry)) (now (capacity .entry))) r ⌝ }
 {
     let mut numbers = [0u64; NUMBERS];
-    let end = walk_tree(one, two, capacity, &mut numbers);
+    let end = walk_tree(n, ends, last, before, one, two, capacity, &mut numbers);
     read_pairs(&numbers, end)
 }

@@ -1,51 +1,34 @@
 -- `decomposition::lowest_inner` meets its contract: the sites passed are terminals.
-use mathlib.Core.Path.{_≡_, refl, sym, ap, _∙_}
-use Prim.Native.Nat.{suc, _+_, _-_, _≤_}
+use mathlib.Core.Path.{_≡_, sym, ap, _∙_}
+use Prim.Native.Nat.{_+_, _-_, _≤_}
 use native.Mathlib.Omega.{arith}
-use lib.ListN.{length}
-use Rattle.network.specs.Network.{leaf}
+use Rattle.network.specs.Numbers.{look}
 use Rattle.network.specs.Pairing.{lowestInner}
-use Rattle.tree.specs.Offer.{links}
-use Rattle.decomposition.proofs.Tests.{lowest-next, lowest-here, lowest-end, one-link, not-one-link}
+use Rattle.decomposition.proofs.Tests.{lowest-next, lowest-here, lowest-end}
 use Rattle.decomposition.proofs.lowest_inner.Statement.{statement}
 use Rattle.decomposition.proofs.lowest_inner.Tie as tie
 
 abbrev Inv-loop : tie.InvT-loop
-Inv-loop last before one two capacity v₀ v-end v =
-    (1 ≤ v) × (v ≤ length one + 2) × (lowestInner (leaf (links one two)) 1 (suc (length one)) ≡ lowestInner (leaf (links one two)) v (length one + 2 - v))
+Inv-loop n ends v₀ v-end v = (1 ≤ v) × (v ≤ n + 1) × (lowestInner (look ends) 1 n ≡ lowestInner (look ends) v (n + 1 - v))
 
 abbrev μ-loop : tie.MeasureT-loop
-μ-loop last before one two capacity v₀ v-end v = length one + 2 - v
+μ-loop n ends v₀ v-end v = n + 1 - v
 
 start : tie.Need-loop-holds Inv-loop μ-loop
-start c =
-    let a = c .before .before .before .args in
-    let all : suc (length (a .one .now)) ≡ length (a .one .now) + 2 - 1 = omega arith in
-    (omega arith, omega arith, ap (lowestInner (leaf (links (a .one .now) (a .two .now))) 1) all)
-
-next : tie.Need-loop-again Inv-loop μ-loop
-next c =
-    let a = c .before .before .before .before .before .before .before .before .args in
-    let ls = links (a .one .now) (a .two .now) in
-    let v = c .before .before .before .before .loop .v in (
-      omega arith,
-      omega arith,
-      c .before .before .before .before .loop .inv .2 ∙ lowest-next (leaf ls) v (length (a .one .now) + 2) (omega arith)
-          (one-link ls v (sym (c .before .before .at-site .ensures .0) ∙ c .if1 .left)),
-    )
+start c = let a = c .args in let all : a .n ≡ a .n + 1 - 1 = omega arith in (omega arith, omega arith, ap (lowestInner (look (a .ends .now)) 1) all)
 
 found : tie.Need-returns Inv-loop μ-loop
-found c =
-    let a = c .before .before .before .before .before .before .before .before .args in
-    let ls = links (a .one .now) (a .two .now) in
-    let v = c .before .before .before .before .loop .v in
-    let inner = not-one-link ls v (λ e. c .if1 .taken (c .before .before .at-site .ensures .0 ∙ e)) in
-    (sym (c .before .before .before .before .loop .inv .2 ∙ lowest-here (leaf ls) v (length (a .one .now) + 2) (omega arith) inner), λ _. ((omega arith, omega arith), inner))
+found c = let a = c .before .before .before .before .args in sym (c .before .before .before .loop .inv .2 ∙ lowest-here (look (a .ends .now)) (c .before .before .before .loop .v) (a .n + 1) (omega arith) (c .if1 .taken))
+
+next : tie.Need-loop-again Inv-loop μ-loop
+next c = let a = c .before .before .before .before .args in (
+  omega arith,
+  omega arith,
+  c .before .before .before .loop .inv .2 ∙ lowest-next (look (a .ends .now)) (c .before .before .before .loop .v) (a .n + 1) (omega arith) (c .if1 .left),
+)
 
 none : tie.Need-returns-2 Inv-loop μ-loop
-none c =
-    let a = c .before .before .before .before .before .args in
-    (sym (c .before .loop .inv .2 ∙ lowest-end (leaf (links (a .one .now) (a .two .now))) (c .before .loop .v) (length (a .one .now) + 2) (omega arith)), λ d. absurd (d refl))
+none c = let a = c .before .before .args in sym (c .before .loop .inv .2 ∙ lowest-end (look (a .ends .now)) (c .before .loop .v) (a .n + 1) (omega arith))
 
 pub lowest-inner-spec : {M : Type 1} → statement M
 lowest-inner-spec =
@@ -53,11 +36,11 @@ lowest-inner-spec =
     (tie.spec
     Inv-loop
     μ-loop
-    (λ c. omega (arith, c .before .before .before .pre .0 .placed .few))
+    (λ c. omega arith)
     start
-    (λ c κs. let s = c .before .before .before .before .before in let few = s .pre .0 .placed .few in (omega arith, s .pre .0, s .pre .1))
+    (λ c. omega arith)
     found
-    (λ c. omega (arith, c .before .before .before .before .before .before .before .before .pre .0 .placed .few))
+    (λ c. omega arith)
     (λ c. omega arith)
     next
     none)
