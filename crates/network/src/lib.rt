@@ -44,6 +44,12 @@ pub struct Pair {
     pub amount: u64,
 }
 
+// A pair list and its count: the pairs are the first `count` of the list.
+pub struct Pairs {
+    pub list: [Pair; SITES],
+    pub count: usize,
+}
+
 // The limits that go with an edition of the sheet (01: edition): bytes of a sheet, sites, and the size of a link.
 pub struct Edition {
     pub bytes: usize,
