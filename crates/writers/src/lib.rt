@@ -10,7 +10,7 @@ ghost use Rattle.writers.specs.Wrote.{Wrote, Room};
 const DIGITS: usize = 20;
 
 // One byte.
-pub fn put_byte(buf: &mut [u8], at: usize, b: u8) -> usize
+fn put_byte(buf: &mut [u8], at: usize, b: u8) -> usize
     requires { ⌜ Room at (b ∷ []) ⌝ }
     ensures { λ r. ⌜ Wrote (now (buf .entry)) at (b ∷ []) (now (buf .exit)) r ⌝ }
 {
@@ -34,10 +34,10 @@ fn places(len: usize, at: usize, many: usize) -> usize
     len - at
 }
 
-// The bytes of a part, and a byte that ends it.
-pub fn put_bytes(buf: &mut [u8], at: usize, part: &[u8], stop: u8) -> usize
-    requires { ⌜ Room at (now part ++ (stop ∷ [])) ⌝ }
-    ensures { λ r. ⌜ Wrote (now (buf .entry)) at (now (part .entry) ++ (stop ∷ [])) (now (buf .exit)) r ⌝ }
+// The bytes of a part.
+pub fn put_part(buf: &mut [u8], at: usize, part: &[u8]) -> usize
+    requires { ⌜ Room at (now part) ⌝ }
+    ensures { λ r. ⌜ Wrote (now (buf .entry)) at (now (part .entry)) (now (buf .exit)) r ⌝ }
 {
     let many = places(buf.len(), at, part.len());
     let mut i = 0;
@@ -45,7 +45,16 @@ pub fn put_bytes(buf: &mut [u8], at: usize, part: &[u8], stop: u8) -> usize
         buf[at + i] = part[i];
         i += 1;
     }
-    put_byte(buf, at + part.len(), stop)
+    at + part.len()
+}
+
+// The bytes of a part, and a byte that ends it.
+pub fn put_bytes(buf: &mut [u8], at: usize, part: &[u8], stop: u8) -> usize
+    requires { ⌜ Room at (now part ++ (stop ∷ [])) ⌝ }
+    ensures { λ r. ⌜ Wrote (now (buf .entry)) at (now (part .entry) ++ (stop ∷ [])) (now (buf .exit)) r ⌝ }
+{
+    let next = put_part(buf, at, part);
+    put_byte(buf, next, stop)
 }
 
 // A number in decimal, and a byte that ends it: its digits are found from the last to the first.

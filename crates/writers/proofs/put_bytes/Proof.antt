@@ -1,91 +1,25 @@
--- `put_bytes` meets its contract. The loop's invariant: the first i bytes of the part are written.
-use mathlib.Core.Path.{_≡_, refl, ap, _∙_}
+-- `put_bytes` meets its contract: the part, then the byte that ends it.
 use mathlib.Core.List.{[], _∷_}
-use Prim.Native.Nat.{_+_, _-_, _≤_, _<_}
-use native.Mathlib.Omega.{arith}
-use lib.ListN.{length, take, length-append}
-use lib.Seq.{sets, length-sets}
-use Rattle.writers.specs.Wrote.{Wrote}
-use Rattle.writers.specs.Writing.{then, same-size, sets-next, sets-fitting}
+use Rattle.writers.specs.Writing.{then, room-front, room-after}
+use borrow.Author.Needs.{needs}
 use Rattle.writers.proofs.put_bytes.Statement.{statement}
 use Rattle.writers.proofs.put_bytes.Tie as tie
 
-abbrev Inv-loop : tie.InvT-loop
-Inv-loop buf₀ at part stop many i₀ buf i = (i ≤ many) × (buf ≡ sets buf₀ at (take i part))
+put-part-requires : tie.Need-put-part-requires
+put-part-requires c κs =
+    let s = c .before .before .before in
+    room-front (s .args .at) (s .args .part .now) (s .args .stop ∷ []) (s .pre)
 
-abbrev μ-loop : tie.MeasureT-loop
-μ-loop buf₀ at part stop many i₀ buf i = many - i
-
-places-requires : tie.Need-places-requires Inv-loop μ-loop
-places-requires c κs = tt
-
-loop-holds : tie.Need-loop-holds Inv-loop μ-loop
-loop-holds c = (omega arith, refl)
-
-shared-slice-read-buf : tie.Need-shared-slice-read-buf Inv-loop μ-loop
-shared-slice-read-buf c = omega arith
-
-add-buf : tie.Need-add-buf Inv-loop μ-loop
-add-buf c = omega arith
-
-slice-write-buf : tie.Need-slice-write-buf Inv-loop μ-loop
-slice-write-buf c =
-    let top = c .before .before in
-    let s = top .before .before .before .before .args in
-    omega (arith, top .before .places .ensures, ap length (top .loop .inv .1), length-sets (s .buf .now) (s .at) (take (top .loop .i) (s .part .now)))
-
-add-i : tie.Need-add-i Inv-loop μ-loop
-add-i c = omega arith
-
-loop-less : tie.Need-loop-less Inv-loop μ-loop
-loop-less c = omega arith
-
-loop-again : tie.Need-loop-again Inv-loop μ-loop
-loop-again c =
-    let top = c .before .before in
-    let s = top .before .before .before .before .args in
-    let l : top .loop .i < length (s .part .now) = omega (arith, top .before .places .ensures) in
-    (omega arith, rw (top .loop .inv .1) (sets-next (s .part .now) (s .buf .now) (s .at) (top .loop .i) l))
-
-add-put-byte : tie.Need-add-put-byte Inv-loop μ-loop
-add-put-byte c =
-    let s = c .before .before .before .before .before .before in
-    omega (arith, s .pre, length-append (s .args .part .now) (s .args .stop ∷ []))
-
-put-byte-requires : tie.Need-put-byte-requires Inv-loop μ-loop
+put-byte-requires : tie.Need-put-byte-requires
 put-byte-requires c κs =
-    let s = c .before .before .before .before .before .before in
-    omega (arith, s .pre, length-append (s .args .part .now) (s .args .stop ∷ []))
+    let s = c .before .before .before .before .before .before .before in
+    room-after (c .before .before .before .put-part .ensures) (s .args .stop ∷ []) (s .pre)
 
-same-length : tie.Need-same-length Inv-loop μ-loop
-same-length c =
-    let top = c .before .before .before .before .before in
-    let s = top .before .before .before .before .args in
-    same-size (c .before .before .put-byte .ensures) ∙ ap length (top .loop .inv .1) ∙ length-sets (s .buf .now) (s .at) (take (top .loop .i) (s .part .now))
+same-length : tie.Need-same-length
+same-length c = search needs
 
-returns : tie.Need-returns Inv-loop μ-loop
-returns c =
-    let top = c .before .before .before .before .before in
-    let s = top .before .before .before .before .args in
-    let all = sets-fitting (s .part .now) (s .buf .now) (s .at) (top .loop .i) (omega (arith, top .before .places .ensures)) in
-    let front : Wrote (s .buf .now) (s .at) (s .part .now) (top .loop .buf) (s .at + length (s .part .now)) = record { next = refl; stored = top .loop .inv .1 ∙ all } in
-    then front (c .before .before .put-byte .ensures)
+returns : tie.Need-returns
+returns c = then (c .before .before .before .before .before .before .put-part .ensures) (c .before .before .put-byte .ensures)
 
 pub put-bytes-spec : {M : Type 1} → statement M
-put-bytes-spec =
-    tie.close
-    (tie.spec
-    Inv-loop
-    μ-loop
-    places-requires
-    loop-holds
-    shared-slice-read-buf
-    add-buf
-    slice-write-buf
-    add-i
-    loop-less
-    loop-again
-    add-put-byte
-    put-byte-requires
-    same-length
-    returns)
+put-bytes-spec = tie.close (tie.spec put-part-requires put-byte-requires same-length returns)
