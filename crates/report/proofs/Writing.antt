@@ -1,70 +1,86 @@
--- Laws of writing names, and line after line.
+-- Laws of writing line after line, and of the room for each.
 use mathlib.Core.Path.{_≡_, refl, sym, ap, _∙_}
 use mathlib.Core.List.{List, [], _∷_, _++_, append-assoc, append-nil}
-use Prim.Native.Nat.{ℕ, zero, suc, _+_, _-_, _≤_, _<_}
-use native.Mathlib.Nat.{add-zero}
+use Prim.Native.Nat.{ℕ, suc, _+_, _-_, _≤_, _<_}
 use native.Mathlib.Numerals.{add-one}
 use native.Mathlib.Omega.{arith}
-use lib.ListN.{length, getD, take, drop, length-append, length-take}
-use lib.Seq.{take-suc}
-use Rattle.network.specs.Numbers.{look, upfrom}
-use Rattle.network.specs.Text.{bytes}
-use Rattle.network.specs.declared.Pair.{Pair}
-use Rattle.writers.specs.Wrote.{Wrote}
-use Rattle.writers.specs.Writing.{nothing, then}
-use Rattle.report.specs.Report.{line, lines, ownerName, siteLine}
-use Rattle.report.specs.Shown.{nameBy, Named, heldRecord, heldLine, no-pair}
+use lib.ListN.{length, getD, take, drop, length-append}
+use lib.Seq.{take-suc, take-all, split-at}
+use Rattle.network.specs.Numbers.{pick, look, upfrom}
+use Rattle.network.specs.Network.{sites}
+use Rattle.theory.specs.Sites.{look-upfrom}
+use Rattle.writers.specs.Wrote.{Wrote, Room}
+use Rattle.writers.specs.Writing.{nothing, then, room-front}
+use Rattle.report.specs.Report.{lines, linkRecord, linkLine, siteRecord, siteLine, cutRecord, cutLine}
 
--- a name is at most 12 bytes
-pub name-room : {l m : List ℕ} {at r : ℕ} (s starts ends : List ℕ) (v stop : ℕ) → Wrote l at (nameBy s starts ends v ++ (stop ∷ [])) m r
-    → Named s starts ends v → r ≤ at + 13
-name-room s starts ends v stop w n = omega (
-  arith,
-  w .next,
-  length-append (nameBy s starts ends v) (stop ∷ []),
-  length-take (look ends (v - 1) - look starts (v - 1)) (drop (look starts (v - 1)) s),
-  n .short,
-)
-
--- ---- lines for b, b + 1, ..
-
-lines-last : (f : ℕ → List ℕ) (b n : ℕ) → lines f (upfrom b (suc n)) ≡ lines f (upfrom b n) ++ f (b + n)
-unfolding lines upfrom
-lines-last f b zero = rw (add-zero, append-nil)
-lines-last f b (suc n) =
-    let e : suc b + n ≡ b + suc n = omega arith in
-    ap (λ l. f b ++ l) (lines-last f (suc b) n) ∙ sym (append-assoc (f b) (lines f (upfrom (suc b) n)) (f (suc b + n))) ∙ rw e
-
--- one line more
-pub lines-next : {l m k : List ℕ} {at r q : ℕ} (f : ℕ → List ℕ) (b n x : ℕ) → b + n ≡ x → Wrote l at (lines f (upfrom b n)) m r → Wrote m r (f x) k q
-    → Wrote l at (lines f (upfrom b (n + 1))) k q
-lines-next f b n x e v w = rw (add-one, lines-last f b n, e) (then v w)
-
-pub lines-none : (l : List ℕ) (at : ℕ) (f : ℕ → List ℕ) (b : ℕ) → Wrote l at (lines f (upfrom b 0)) l at
-unfolding lines upfrom
-lines-none l at f b = nothing l at
-
--- the line of a site, by the place before its number
-pub site-written : {l m : List ℕ} {at r : ℕ} (name : ℕ → List ℕ) (owners : List ℕ) (i : ℕ) → Wrote l at (line (bytes "N" ∷ name (i + 1) ∷ ownerName name (look owners i) ∷ [])) m r
-    → Wrote l at (siteLine name owners (i + 1)) m r
-unfolding siteLine
-site-written name owners i w = let e : i + 1 - 1 ≡ i = omega arith in rw e w
-
--- so for the line of a cut
-pub cut-written : {l m : List ℕ} {at r : ℕ} (name : ℕ → List ℕ) (sizes counts : List ℕ) (i : ℕ) → Wrote l at (heldRecord name (i + 1) (look sizes i) (look counts i)) m r
-    → Wrote l at (heldLine name sizes counts (i + 1)) m r
-unfolding heldLine
-cut-written name sizes counts i w = let e : i + 1 - 1 ≡ i = omega arith in rw e w
-
--- ---- lines for the pairs of a list
+-- ---- one line more
 
 lines-append : {A : Type 0} (f : A → List ℕ) (a b : List A) → lines f (a ++ b) ≡ lines f a ++ lines f b
 unfolding lines
 lines-append f [] b = refl
 lines-append f (x ∷ a) b = ap (λ l. f x ++ l) (lines-append f a b) ∙ sym (append-assoc (f x) (lines f a) (lines f b))
 
-pub pairs-next : {l m k : List ℕ} {at r q : ℕ} (f : Pair → List ℕ) (pairs : List Pair) (i : ℕ) → i < length pairs → Wrote l at (lines f (take i pairs)) m r
-    → Wrote m r (f (getD pairs i no-pair)) k q → Wrote l at (lines f (take (i + 1) pairs)) k q
+module _ {A : Type 0} (f : A → List ℕ) (l : List A) (d : A) (i : ℕ) (h : i < length l) where
+  -- the lines written, the next, and the lines still to come
+  still-to-come : lines f l ≡ lines f (take i l) ++ (f (getD l i d) ++ lines f (drop (suc i) l))
+  unfolding lines
+  still-to-come = ap (lines f) (split-at l i d h) ∙ lines-append f (take i l) (getD l i d ∷ drop (suc i) l)
+
+  -- there is room for the next line
+  pub line-room : {b c : List ℕ} {at r : ℕ} {text : List ℕ} → f (getD l i d) ≡ text → Room at (lines f l) → Wrote b at (lines f (take i l)) c r → Room r text
+  line-room e room w = omega (
+    arith,
+    w .next,
+    ap length e,
+    ap length still-to-come,
+    length-append (lines f (take i l)) (f (getD l i d) ++ lines f (drop (suc i) l)),
+    length-append (f (getD l i d)) (lines f (drop (suc i) l)),
+  )
+
+  pub line-next : {b c k : List ℕ} {at r q : ℕ} {text : List ℕ} → f (getD l i d) ≡ text → Wrote b at (lines f (take i l)) c r → Wrote c r text k q
+      → Wrote b at (lines f (take (i + 1) l)) k q
+  unfolding lines
+  line-next e v w = rw (add-one, take-suc l i d h, lines-append f (take i l) (getD l i d ∷ []), append-nil (f (getD l i d)), e) (then v w)
+
+-- the first line is still to come, and none
+pub lines-none : {A : Type 0} (b : List ℕ) (at : ℕ) (f : A → List ℕ) (l : List A) → Wrote b at (lines f (take 0 l)) b at
 unfolding lines
-pairs-next f pairs i h v w =
-    rw (add-one, take-suc pairs i no-pair h, lines-append f (take i pairs) (getD pairs i no-pair ∷ []), append-nil (f (getD pairs i no-pair))) (then v w)
+lines-none b at f l = nothing b at
+
+pub lines-all : {A : Type 0} {b c : List ℕ} {at r : ℕ} (f : A → List ℕ) (l : List A) (i : ℕ) → length l ≤ i → Wrote b at (lines f (take i l)) c r → Wrote b at (lines f l) c r
+lines-all f l i h w = rw (take-all i l h) at w
+
+-- ---- the line at a place, by what the lists hold there
+
+module _ (name : ℕ → List ℕ) (n i : ℕ) (h : i < n) where
+  pub link-at : (ones twos capacities shown : List ℕ)
+      → linkLine name ones twos capacities shown (getD (upfrom 0 n) i 0) ≡ linkRecord name (look ones i) (look twos i) (look capacities i) (look shown i)
+  unfolding linkLine
+  link-at ones twos capacities shown = let e : look (upfrom 0 n) i ≡ i = omega (arith, look-upfrom 0 n i h) in rw e
+
+  pub site-at : (owners : List ℕ) → siteLine name owners (getD (sites n) i 0) ≡ siteRecord name (i + 1) (look owners i)
+  unfolding siteLine
+  site-at owners =
+      let e : look (sites n) i ≡ i + 1 = omega (arith, look-upfrom 1 n i h) in
+      let place : i + 1 - 1 ≡ i = omega arith in
+      rw (e, place)
+
+  pub cut-at : (ends sizes counts : List ℕ)
+      → cutLine name ends sizes counts (getD (sites n) i 0) ≡ pick (look ends (i + 1)) 1 (cutRecord name (i + 1) (look sizes i) (look counts i)) []
+  unfolding cutLine
+  cut-at ends sizes counts =
+      let e : look (sites n) i ≡ i + 1 = omega (arith, look-upfrom 1 n i h) in
+      let place : i + 1 - 1 ≡ i = omega arith in
+      rw (e, place)
+
+-- ---- the parts of a report
+
+-- room for six parts has room for the first ones
+pub room-six : (at : ℕ) (a b c d e f : List ℕ) → Room at (a ++ b ++ c ++ d ++ e ++ f)
+    → Room at a × Room at (a ++ b) × Room at (a ++ b ++ c) × Room at (a ++ b ++ c ++ d) × Room at (a ++ b ++ c ++ d ++ e)
+room-six at a b c d e f room =
+    let five = room-front at (a ++ b ++ c ++ d ++ e) f room in
+    let four = room-front at (a ++ b ++ c ++ d) e five in
+    let three = room-front at (a ++ b ++ c) d four in
+    let two = room-front at (a ++ b) c three in
+    (room-front at a b two, two, three, four, five)

@@ -3,7 +3,7 @@ use mathlib.Core.List.{List, [], _∷_, _++_, map}
 use Prim.Native.Nat.{ℕ, _-_}
 use lib.ListN.{length, getD}
 use Rattle.network.specs.Numbers.{pick, look, upfrom}
-use Rattle.network.specs.Network.{sites, sumAt, leaf, total}
+use Rattle.network.specs.Network.{sites, ends, total}
 use Rattle.network.specs.Trimming.{balanced}
 use Rattle.network.specs.Cuts.{cutSize, cutCount, owner}
 use Rattle.network.specs.Pairing.{pairList}
@@ -19,69 +19,78 @@ lines f (a ∷ l) = f a ++ lines f l
 
 -- ---- what the report shows
 
--- places are link positions from 0, and site numbers less 1
+-- places are link positions from 0, and site numbers less 1; of `ends` they are the site numbers
 pub record Plan : Type 0 where
+  pub word : List ℕ
   pub names : ℕ → List ℕ
   pub size : ℕ
   pub ones : List ℕ
   pub twos : List ℕ
   pub capacities : List ℕ
-  pub trimmed : List ℕ
-  pub degrees : List ℕ
+  pub shown : List ℕ
+  pub ends : List ℕ
   pub owners : List ℕ
   pub cutSizes : List ℕ
   pub cutCounts : List ℕ
+  pub before : List ℕ
   pub pairs : List Pair
 
--- the plan of a network whose names stand in the sheet s: its balanced capacities (01: trimmed sizes), the number of links at each site,
--- the owner of each site (0 for none) and the size and count of each terminal cut (01: end sets), and the pair list
+-- the plan of a network whose names stand in the sheet s: it shows the balanced capacities (01: trimmed sizes), the ends,
+-- the owner of each site (0 for none) and the size and count of each terminal cut (01: end sets), no further line, and the pair list
 unfoldable pub planOf : List ℕ → Network → Plan
 planOf s net =
     let n = length (net .names) in
     let ls = net .links in
     let c = look (net .capacities) in
-    let trimmed = balanced ls n (leaf ls) (net .capacities) in
+    let terminal = look (ends ls n) in
+    let trimmed = balanced ls n terminal (net .capacities) in
     record {
+      word = bytes "plan";
       names = λ v. part s (getD (net .names) (v - 1) (0, 0));
       size = n;
       ones = map (λ l. l .0) ls;
       twos = map (λ l. l .1) ls;
       capacities = net .capacities;
-      trimmed = trimmed;
-      degrees = map (λ v. sumAt ls v (λ j. 1)) (sites n);
-      owners = map (owner ls c (look trimmed) (leaf ls) n) (sites n);
+      shown = trimmed;
+      ends = ends ls n;
+      owners = map (owner ls c (look trimmed) terminal n) (sites n);
       cutSizes = map (cutSize ls c (look trimmed)) (sites n);
       cutCounts = map (cutCount ls c (look trimmed) n) (sites n);
-      pairs = pairList ls n (look trimmed);
+      before = [];
+      pairs = pairList ls n (look trimmed) terminal;
     }
 
 -- ---- its lines
 
--- `plan`: total in halves, number of pairs
-unfoldable pub planRecord : ℕ → ℕ → List ℕ
-planRecord halves pairs = line (bytes "plan" ∷ decimal halves ∷ decimal pairs ∷ [])
+-- the heading, `plan`: total in halves, number of pairs
+unfoldable pub headRecord : List ℕ → ℕ → ℕ → List ℕ
+headRecord word halves pairs = line (word ∷ decimal halves ∷ decimal pairs ∷ [])
 
--- `L`: names, given size, trimmed size
+-- `L`: names, given size, the size shown (trimmed size)
 unfoldable pub linkRecord : (ℕ → List ℕ) → ℕ → ℕ → ℕ → ℕ → List ℕ
-linkRecord name a b capacity trimmed = line (bytes "L" ∷ name a ∷ name b ∷ decimal capacity ∷ decimal trimmed ∷ [])
+linkRecord name a b capacity shown = line (bytes "L" ∷ name a ∷ name b ∷ decimal capacity ∷ decimal shown ∷ [])
 
 unfoldable pub linkLine : (ℕ → List ℕ) → List ℕ → List ℕ → List ℕ → List ℕ → ℕ → List ℕ
-linkLine name ones twos capacities trimmed j = linkRecord name (look ones j) (look twos j) (look capacities j) (look trimmed j)
+linkLine name ones twos capacities shown j = linkRecord name (look ones j) (look twos j) (look capacities j) (look shown j)
 
 -- the name of an owner, or `-` where there is none
 unfoldable pub ownerName : (ℕ → List ℕ) → ℕ → List ℕ
 ownerName name a = pick a 0 (bytes "-") (name a)
 
 -- `N`: site, then the end whose set holds it, or `-`
-unfoldable pub siteLine : (ℕ → List ℕ) → List ℕ → ℕ → List ℕ
-siteLine name owners x = line (bytes "N" ∷ name x ∷ ownerName name (look owners (x - 1)) ∷ [])
+unfoldable pub siteRecord : (ℕ → List ℕ) → ℕ → ℕ → List ℕ
+siteRecord name x a = line (bytes "N" ∷ name x ∷ ownerName name a ∷ [])
 
--- `X` for an end, a site with just one link: name, set size, count of sites in the set
+unfoldable pub siteLine : (ℕ → List ℕ) → List ℕ → ℕ → List ℕ
+siteLine name owners x = siteRecord name x (look owners (x - 1))
+
+-- `X`: name, set size, count of sites in the set
 unfoldable pub cutRecord : (ℕ → List ℕ) → ℕ → ℕ → ℕ → List ℕ
 cutRecord name a size count = line (bytes "X" ∷ name a ∷ decimal size ∷ decimal count ∷ [])
 
+-- for an end; no line for another site
 unfoldable pub cutLine : (ℕ → List ℕ) → List ℕ → List ℕ → List ℕ → ℕ → List ℕ
-cutLine name degrees sizes counts a = pick (look degrees (a - 1)) 1 (cutRecord name a (look sizes (a - 1)) (look counts (a - 1))) []
+cutLine name ends sizes counts a = pick (look ends a) 1 (cutRecord name a (look sizes (a - 1)) (look counts (a - 1))) []
 
 -- `P`: the two sites of a pair, amount in halves
 unfoldable pub pairLine : (ℕ → List ℕ) → Pair → List ℕ
@@ -90,10 +99,11 @@ pairLine name e = line (bytes "P" ∷ name (e .first) ∷ name (e .second) ∷ d
 -- the report (01: the report, given whole)
 unfoldable pub reportOf : Plan → List ℕ
 reportOf p =
-    planRecord (total (p .pairs)) (length (p .pairs))
-    ++ lines (linkLine (p .names) (p .ones) (p .twos) (p .capacities) (p .trimmed)) (upfrom 0 (length (p .ones)))
+    headRecord (p .word) (total (p .pairs)) (length (p .pairs))
+    ++ lines (linkLine (p .names) (p .ones) (p .twos) (p .capacities) (p .shown)) (upfrom 0 (length (p .ones)))
     ++ lines (siteLine (p .names) (p .owners)) (sites (p .size))
-    ++ lines (cutLine (p .names) (p .degrees) (p .cutSizes) (p .cutCounts)) (sites (p .size))
+    ++ lines (cutLine (p .names) (p .ends) (p .cutSizes) (p .cutCounts)) (sites (p .size))
+    ++ p .before
     ++ lines (pairLine (p .names)) (p .pairs)
 
 -- the report of a network whose names stand in the sheet s

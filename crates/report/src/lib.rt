@@ -1,24 +1,27 @@
-// Writing the report. Each function writes bytes from a place of the buffer on, as far as the buffer goes, and returns the place after them, so that
-// a report is measured and written by the same code.
+// Inner: only the planner's own crates call it. Writing the report of lists, whatever they were worked out from: each function writes bytes from a place
+// of the buffer on, as far as the buffer goes, and returns the place after them, so that a report is measured and written by the same code.
 ghost use mathlib.Core.Path.{_≡_};
 ghost use mathlib.Core.List.{[], _∷_, _++_};
-ghost use Prim.Native.Nat.{_+_, _*_, _≤_, _<_};
+ghost use Prim.Native.Nat.{_*_, _≤_};
 ghost use lib.ListN.{length, take};
-ghost use Rattle.network.specs.Limits.{SITES};
-ghost use Rattle.network.specs.Numbers.{upfrom};
+ghost use Rattle.network.specs.Limits.{LINKS, SITES, SIZE};
+ghost use Rattle.network.specs.Numbers.{pick, upfrom};
 ghost use Rattle.network.specs.Network.{sites, total};
-ghost use Rattle.network.specs.Text.{bytes};
 ghost use Rattle.network.specs.declared.Pair.{Pair};
-ghost use Rattle.writers.specs.Fields.{line, begun};
-ghost use Rattle.writers.specs.Wrote.{Wrote};
-ghost use Rattle.report.specs.Report.{lines, planRecord, linkRecord, linkLine, ownerName, siteLine, pairLine, refusalLine};
-ghost use Rattle.report.specs.Shown.{nameBy, Named, AllNamed, Links, Owners, Paired, heldRecord, heldLine};
+ghost use Rattle.writers.specs.Fields.{begun};
+ghost use Rattle.writers.specs.Wrote.{Wrote, Room};
+ghost use Rattle.report.specs.Report.{lines, headRecord, linkRecord, linkLine, siteRecord};
+ghost use Rattle.report.specs.Report.{siteLine, cutRecord, cutLine, pairLine, reportOf, refusalLine};
+ghost use Rattle.report.specs.Shown.{nameBy, shownBy, Named, AllNamed, Links, Owners, Paired, CanWrite};
 use network::Pair;
+use network::Pairs;
+use network::PLACES;
 use network::SITES;
 use writers::put_bytes;
 use writers::put_letter;
 use writers::put_number;
 use writers::put_numbers;
+use writers::put_part;
 
 // The name of site v, and a byte that ends it.
 fn put_name(
@@ -30,8 +33,10 @@ fn put_name(
     at: usize,
     stop: u8,
 ) -> usize
-    requires { ⌜ (at < 900000) × Named (now sheet) (now start) (now end) v ⌝ }
-    ensures { λ r. ⌜ Wrote (now (buf .entry)) at (nameBy (now (sheet .entry)) (now (start .entry)) (now (end .entry)) v ++ (stop ∷ [])) (now (buf .exit)) r × (r ≤ at + 13) ⌝ }
+    requires { ⌜ Room at (nameBy (now sheet) (now start) (now end) v ++ (stop ∷ []))
+        × Named (now sheet) (now start) (now end) v ⌝ }
+    ensures { λ r. ⌜ Wrote (now (buf .entry)) at
+        (nameBy (now (sheet .entry)) (now (start .entry)) (now (end .entry)) v ++ (stop ∷ [])) (now (buf .exit)) r ⌝ }
 {
     let i = v - 1;
     let a = start[i];
@@ -49,8 +54,10 @@ fn put_site(
     buf: &mut [u8],
     at: usize,
 ) -> usize
-    requires { ⌜ (at < 800000) × Named (now sheet) (now start) (now end) v ⌝ }
-    ensures { λ r. ⌜ Wrote (now (buf .entry)) at (begun ((letter ∷ []) ∷ nameBy (now (sheet .entry)) (now (start .entry)) (now (end .entry)) v ∷ [])) (now (buf .exit)) r × (r ≤ at + 15) ⌝ }
+    requires { ⌜ Room at (begun ((letter ∷ []) ∷ nameBy (now sheet) (now start) (now end) v ∷ []))
+        × Named (now sheet) (now start) (now end) v ⌝ }
+    ensures { λ r. ⌜ Wrote (now (buf .entry)) at
+        (begun ((letter ∷ []) ∷ nameBy (now (sheet .entry)) (now (start .entry)) (now (end .entry)) v ∷ [])) (now (buf .exit)) r ⌝ }
 {
     let next = put_letter(buf, at, letter, 9);
     put_name(sheet, start, end, v, buf, next, 9)
@@ -67,8 +74,11 @@ fn put_two_sites(
     buf: &mut [u8],
     at: usize,
 ) -> usize
-    requires { ⌜ (at < 700000) × Named (now sheet) (now start) (now end) v × Named (now sheet) (now start) (now end) w ⌝ }
-    ensures { λ r. ⌜ Wrote (now (buf .entry)) at (begun ((letter ∷ []) ∷ nameBy (now (sheet .entry)) (now (start .entry)) (now (end .entry)) v ∷ nameBy (now (sheet .entry)) (now (start .entry)) (now (end .entry)) w ∷ [])) (now (buf .exit)) r × (r ≤ at + 28) ⌝ }
+    requires { ⌜ Room at (begun ((letter ∷ []) ∷ nameBy (now sheet) (now start) (now end) v ∷ nameBy (now sheet) (now start) (now end) w ∷ []))
+        × Named (now sheet) (now start) (now end) v × Named (now sheet) (now start) (now end) w ⌝ }
+    ensures { λ r. ⌜ Wrote (now (buf .entry)) at
+        (begun ((letter ∷ []) ∷ nameBy (now (sheet .entry)) (now (start .entry)) (now (end .entry)) v
+        ∷ nameBy (now (sheet .entry)) (now (start .entry)) (now (end .entry)) w ∷ [])) (now (buf .exit)) r ⌝ }
 {
     let next = put_site(sheet, start, end, letter, v, buf, at);
     put_name(sheet, start, end, w, buf, next, 9)
@@ -82,34 +92,37 @@ fn link_line(
     one: usize,
     two: usize,
     capacity: u64,
-    trimmed: u64,
+    shown: u64,
     buf: &mut [u8],
     at: usize,
 ) -> usize
-    requires { ⌜ (at < 700000) × Named (now sheet) (now start) (now end) one × Named (now sheet) (now start) (now end) two ⌝ }
-    ensures { λ r. ⌜ Wrote (now (buf .entry)) at (linkRecord (nameBy (now (sheet .entry)) (now (start .entry)) (now (end .entry))) one two capacity trimmed) (now (buf .exit)) r × (r ≤ at + 70) ⌝ }
+    requires { ⌜ Room at (linkRecord (nameBy (now sheet) (now start) (now end)) one two capacity shown)
+        × Named (now sheet) (now start) (now end) one × Named (now sheet) (now start) (now end) two ⌝ }
+    ensures { λ r. ⌜ Wrote (now (buf .entry)) at
+        (linkRecord (nameBy (now (sheet .entry)) (now (start .entry)) (now (end .entry))) one two capacity shown) (now (buf .exit)) r ⌝ }
 {
     let next = put_two_sites(sheet, start, end, b'L', one, two, buf, at);
-    put_numbers(buf, next, capacity, trimmed)
+    put_numbers(buf, next, capacity, shown)
 }
 
-// The lines of the links. Only the planner's own crates call it.
-pub fn link_lines(
+// The lines of the links.
+fn link_lines(
     sheet: &[u8],
     start: &[usize],
     end: &[usize],
     one: &[usize],
     two: &[usize],
     capacity: &[u64],
-    trimmed: &[u64],
+    shown: &[u64],
     buf: &mut [u8],
     at: usize,
 ) -> usize
-    requires { ⌜ (at < 100000) × Links (now sheet) (now start) (now end) (now one) (now two) (now capacity) (now trimmed) ⌝ }
+    requires { ⌜ Room at (lines (linkLine (nameBy (now sheet) (now start) (now end)) (now one) (now two) (now capacity) (now shown)) (upfrom 0
+        (length (now one))))
+        × Links (now sheet) (now start) (now end) (now one) (now two) (now capacity) (now shown) ⌝ }
     ensures { λ r. ⌜ Wrote (now (buf .entry)) at
-        (lines (linkLine (nameBy (now (sheet .entry)) (now (start .entry)) (now (end .entry))) (now (one .entry)) (now (two .entry)) (now (capacity .entry)) (now (trimmed .entry)))
-        (upfrom 0 (length (now (one .entry)))))
-        (now (buf .exit)) r × (r ≤ at + 70 * length (now (one .entry))) ⌝ }
+        (lines (linkLine (nameBy (now (sheet .entry)) (now (start .entry)) (now (end .entry))) (now (one .entry)) (now (two .entry)) (now
+        (capacity .entry)) (now (shown .entry))) (upfrom 0 (length (now (one .entry))))) (now (buf .exit)) r ⌝ }
 {
     let mut next = at;
     let mut j = 0;
@@ -121,7 +134,7 @@ pub fn link_lines(
             one[j],
             two[j],
             capacity[j],
-            trimmed[j],
+            shown[j],
             buf,
             next,
         );
@@ -140,8 +153,10 @@ fn site_line(
     buf: &mut [u8],
     at: usize,
 ) -> usize
-    requires { ⌜ (at < 700000) × Named (now sheet) (now start) (now end) x × ((owner ≡ 0 → ⊥) → Named (now sheet) (now start) (now end) owner) ⌝ }
-    ensures { λ r. ⌜ Wrote (now (buf .entry)) at (line (bytes "N" ∷ nameBy (now (sheet .entry)) (now (start .entry)) (now (end .entry)) x ∷ ownerName (nameBy (now (sheet .entry)) (now (start .entry)) (now (end .entry))) owner ∷ [])) (now (buf .exit)) r × (r ≤ at + 28) ⌝ }
+    requires { ⌜ Room at (siteRecord (nameBy (now sheet) (now start) (now end)) x owner)
+        × Named (now sheet) (now start) (now end) x × ((owner ≡ 0 → ⊥) → Named (now sheet) (now start) (now end) owner) ⌝ }
+    ensures { λ r. ⌜ Wrote (now (buf .entry)) at
+        (siteRecord (nameBy (now (sheet .entry)) (now (start .entry)) (now (end .entry))) x owner) (now (buf .exit)) r ⌝ }
 {
     let next = put_site(sheet, start, end, b'N', x, buf, at);
     if owner == 0 {
@@ -150,8 +165,8 @@ fn site_line(
     put_name(sheet, start, end, owner, buf, next, 10)
 }
 
-// The lines of the sites 1 to n. Only the planner's own crates call it.
-pub fn site_lines(
+// The lines of the sites 1 to n.
+fn site_lines(
     sheet: &[u8],
     start: &[usize],
     end: &[usize],
@@ -160,8 +175,11 @@ pub fn site_lines(
     buf: &mut [u8],
     at: usize,
 ) -> usize
-    requires { ⌜ (at < 200000) × (n ≤ SITES) × AllNamed (now sheet) (now start) (now end) n × Owners (now sheet) (now start) (now end) (now owner) n ⌝ }
-    ensures { λ r. ⌜ Wrote (now (buf .entry)) at (lines (siteLine (nameBy (now (sheet .entry)) (now (start .entry)) (now (end .entry))) (now (owner .entry))) (sites n)) (now (buf .exit)) r × (r ≤ at + 28 * n) ⌝ }
+    requires { ⌜ Room at (lines (siteLine (nameBy (now sheet) (now start) (now end)) (now owner)) (sites n))
+        × AllNamed (now sheet) (now start) (now end) n × Owners (now sheet) (now start) (now end) (now owner) n ⌝ }
+    ensures { λ r. ⌜ Wrote (now (buf .entry)) at
+        (lines (siteLine (nameBy (now (sheet .entry)) (now (start .entry)) (now (end .entry))) (now (owner .entry))) (sites n))
+        (now (buf .exit)) r ⌝ }
 {
     let mut next = at;
     let mut i = 0;
@@ -172,46 +190,54 @@ pub fn site_lines(
     next
 }
 
-// The line of the terminal cut of site a, if the cut holds any site.
+// The line of the terminal cut of site a, if the site is an end.
 fn cut_line(
     sheet: &[u8],
     start: &[usize],
     end: &[usize],
     a: usize,
+    mark: u8,
     size: u64,
     count: usize,
     buf: &mut [u8],
     at: usize,
 ) -> usize
-    requires { ⌜ (at < 700000) × Named (now sheet) (now start) (now end) a ⌝ }
-    ensures { λ r. ⌜ Wrote (now (buf .entry)) at (heldRecord (nameBy (now (sheet .entry)) (now (start .entry)) (now (end .entry))) a size count) (now (buf .exit)) r × (r ≤ at + 57) ⌝ }
+    requires { ⌜ Room at (pick mark 1 (cutRecord (nameBy (now sheet) (now start) (now end)) a size count) [])
+        × Named (now sheet) (now start) (now end) a ⌝ }
+    ensures { λ r. ⌜ Wrote (now (buf .entry)) at
+        (pick mark 1 (cutRecord (nameBy (now (sheet .entry)) (now (start .entry)) (now (end .entry))) a size count) []) (now (buf .exit)) r ⌝ }
 {
-    if count == 0 {
+    if mark != 1 {
         return at;
     }
     let next = put_site(sheet, start, end, b'X', a, buf, at);
     put_numbers(buf, next, size, count as u64)
 }
 
-// The lines of the terminal cuts of the sites 1 to n. Only the planner's own crates call it.
-pub fn cut_lines(
+// The lines of the terminal cuts of the sites 1 to n.
+fn cut_lines(
     sheet: &[u8],
     start: &[usize],
     end: &[usize],
+    ends: &[u8; PLACES],
     size: &[u64],
     count: &[usize],
     n: usize,
     buf: &mut [u8],
     at: usize,
 ) -> usize
-    requires { ⌜ (at < 200000) × (n ≤ SITES) × AllNamed (now sheet) (now start) (now end) n × (n ≤ length (now size)) × (n ≤ length (now count)) ⌝ }
-    ensures { λ r. ⌜ Wrote (now (buf .entry)) at (lines (heldLine (nameBy (now (sheet .entry)) (now (start .entry)) (now (end .entry))) (now (size .entry)) (now (count .entry))) (sites n)) (now (buf .exit)) r × (r ≤ at + 57 * n) ⌝ }
+    requires { ⌜ Room at (lines (cutLine (nameBy (now sheet) (now start) (now end)) (now ends) (now size) (now count)) (sites n))
+        × (n ≤ SITES) × AllNamed (now sheet) (now start) (now end) n × (n ≤ length (now size)) × (n ≤ length (now count)) ⌝ }
+    ensures { λ r. ⌜ Wrote (now (buf .entry)) at
+        (lines (cutLine (nameBy (now (sheet .entry)) (now (start .entry)) (now (end .entry))) (now (ends .entry)) (now (size .entry)) (now
+        (count .entry))) (sites n)) (now (buf .exit)) r ⌝ }
 {
     let mut next = at;
     let mut i = 0;
     while i < n {
-        next = cut_line(sheet, start, end, i + 1, size[i], count[i], buf, next);
-        i += 1;
+        let a = i + 1;
+        next = cut_line(sheet, start, end, a, ends[a], size[i], count[i], buf, next);
+        i = a;
     }
     next
 }
@@ -225,15 +251,16 @@ fn pair_line(
     buf: &mut [u8],
     at: usize,
 ) -> usize
-    requires { ⌜ (at < 700000) × Named (now sheet) (now start) (now end) (pair .first) × Named (now sheet) (now start) (now end) (pair .second) ⌝ }
-    ensures { λ r. ⌜ Wrote (now (buf .entry)) at (pairLine (nameBy (now (sheet .entry)) (now (start .entry)) (now (end .entry))) pair) (now (buf .exit)) r × (r ≤ at + 49) ⌝ }
+    requires { ⌜ Room at (pairLine (nameBy (now sheet) (now start) (now end)) pair)
+        × Named (now sheet) (now start) (now end) (pair .first) × Named (now sheet) (now start) (now end) (pair .second) ⌝ }
+    ensures { λ r. ⌜ Wrote (now (buf .entry)) at (pairLine (nameBy (now (sheet .entry)) (now (start .entry)) (now (end .entry))) pair) (now (buf .exit)) r ⌝ }
 {
     let next = put_two_sites(sheet, start, end, b'P', pair.first, pair.second, buf, at);
     put_number(buf, next, pair.amount, 10)
 }
 
-// The lines of the first n pairs of a list. Only the planner's own crates call it.
-pub fn pair_lines(
+// The lines of the first n pairs of a list.
+fn pair_lines(
     sheet: &[u8],
     start: &[usize],
     end: &[usize],
@@ -242,8 +269,10 @@ pub fn pair_lines(
     buf: &mut [u8],
     at: usize,
 ) -> usize
-    requires { ⌜ (at < 200000) × Paired (now sheet) (now start) (now end) pairs n ⌝ }
-    ensures { λ r. ⌜ Wrote (now (buf .entry)) at (lines (pairLine (nameBy (now (sheet .entry)) (now (start .entry)) (now (end .entry)))) (take n pairs)) (now (buf .exit)) r × (r ≤ at + 49 * n) ⌝ }
+    requires { ⌜ Room at (lines (pairLine (nameBy (now sheet) (now start) (now end))) (take n pairs))
+        × Paired (now sheet) (now start) (now end) pairs n ⌝ }
+    ensures { λ r. ⌜ Wrote (now (buf .entry)) at
+        (lines (pairLine (nameBy (now (sheet .entry)) (now (start .entry)) (now (end .entry)))) (take n pairs)) (now (buf .exit)) r ⌝ }
 {
     let mut next = at;
     let mut i = 0;
@@ -256,7 +285,7 @@ pub fn pair_lines(
 
 // The sum of the amounts of the first n pairs of a list.
 fn amounts(pairs: [Pair; SITES], n: usize) -> u64
-    requires { ⌜ (n ≤ SITES) × (n ≤ length pairs) × (total (take n pairs) < 1000000000000) ⌝ }
+    requires { ⌜ (n ≤ SITES) × (n ≤ length pairs) × (total (take n pairs) ≤ 2 * (LINKS * SIZE)) ⌝ }
     ensures { λ r. ⌜ r ≡ total (take n pairs) ⌝ }
 {
     let mut sum = 0;
@@ -269,14 +298,57 @@ fn amounts(pairs: [Pair; SITES], n: usize) -> u64
     sum
 }
 
-// The heading over the first n pairs of a list, from the start of the buffer. Only the planner's own crates call it.
-pub fn heading(pairs: [Pair; SITES], n: usize, buf: &mut [u8]) -> usize
-    requires { ⌜ (n ≤ SITES) × (n ≤ length pairs) × (total (take n pairs) < 1000000000000) ⌝ }
-    ensures { λ r. ⌜ Wrote (now (buf .entry)) 0 (planRecord (total (take n pairs)) n) (now (buf .exit)) r × (r ≤ 47) ⌝ }
+// The heading over the first n pairs of a list, from the start of the buffer.
+fn heading(
+    word: &[u8],
+    pairs: [Pair; SITES],
+    n: usize,
+    buf: &mut [u8],
+) -> usize
+    requires { ⌜ Room 0 (headRecord (now word) (total (take n pairs)) (length (take n pairs)))
+        × (n ≤ SITES) × (n ≤ length pairs) × (total (take n pairs) ≤ 2 * (LINKS * SIZE)) ⌝ }
+    ensures { λ r. ⌜ Wrote (now (buf .entry)) 0 (headRecord (now (word .entry)) (total (take n pairs)) (length (take n pairs))) (now (buf .exit)) r ⌝ }
 {
     let halves = amounts(pairs, n);
-    let word = put_bytes(buf, 0, b"plan", 9);
-    put_numbers(buf, word, halves, n as u64)
+    let next = put_bytes(buf, 0, word, 9);
+    put_numbers(buf, next, halves, n as u64)
+}
+
+// The report of lists, from the start of the buffer as far as it goes, and its length: the heading with its word, the lines of the links, the sites and the
+// terminal cuts, the lines `before` the pairs, and the lines of the pairs.
+pub fn write(
+    word: &[u8],
+    before: &[u8],
+    sheet: &[u8],
+    start: &[usize],
+    end: &[usize],
+    n: usize,
+    one: &[usize],
+    two: &[usize],
+    capacity: &[u64],
+    shown: &[u64],
+    ends: &[u8; PLACES],
+    owner: &[usize],
+    size: &[u64],
+    count: &[usize],
+    pairs: Pairs,
+    buf: &mut [u8],
+) -> usize
+    requires { ⌜ CanWrite (now sheet) (now start) (now end)
+        (shownBy (now word) (now before) (now sheet) (now start) (now end) n (now one) (now two) (now capacity) (now shown) (now ends) (now owner)
+        (now size) (now count) pairs) pairs ⌝ }
+    ensures { λ r. ⌜ Wrote (now (buf .entry)) 0 (reportOf (shownBy (now (word .entry)) (now (before .entry)) (now (sheet .entry)) (now
+        (start .entry)) (now (end .entry)) n
+        (now (one .entry)) (now (two .entry)) (now (capacity .entry)) (now (shown .entry)) (now (ends .entry)) (now (owner .entry)) (now
+        (size .entry)) (now (count .entry)) pairs)) (now (buf .exit)) r ⌝ }
+{
+    let list = pairs.list;
+    let head = heading(word, list, pairs.count, buf);
+    let links = link_lines(sheet, start, end, one, two, capacity, shown, buf, head);
+    let sites = site_lines(sheet, start, end, owner, n, buf, links);
+    let cuts = cut_lines(sheet, start, end, ends, size, count, n, buf, sites);
+    let next = put_part(buf, cuts, before);
+    pair_lines(sheet, start, end, list, pairs.count, buf, next)
 }
 
 // The line of a refusal, from the start of the buffer, and its length.

@@ -1,26 +1,33 @@
 -- `link_line` meets its contract: three fields, and the last two.
 use mathlib.Core.Path.{_∙_}
-use native.Mathlib.Omega.{arith}
-use Rattle.writers.specs.Writing.{same-size, line-ended}
+use mathlib.Core.List.{[], _∷_}
+use Rattle.network.specs.Text.{bytes}
+use Rattle.writers.specs.Fields.{decimal}
+use Rattle.writers.specs.Writing.{same-size, line-ended, room-begun, room-ended}
 use Rattle.report.specs.Report.{linkRecord}
+use Rattle.report.specs.Shown.{nameBy}
 use Rattle.report.proofs.link_line.Statement.{statement}
 use Rattle.report.proofs.link_line.Tie as tie
 
 put-two-sites-requires : tie.Need-put-two-sites-requires
-put-two-sites-requires c κs = c .before .before .before .before .before .pre
+unfolding linkRecord
+put-two-sites-requires c κs =
+    let s = c .before .before .before .before .before in
+    let name = nameBy (s .args .sheet .now) (s .args .start .now) (s .args .end .now) in
+    (room-begun (s .args .at) (bytes "L" ∷ name (s .args .one) ∷ name (s .args .two) ∷ []) (decimal (s .args .capacity)) (decimal (s .args .shown) ∷ []) (s .pre .0), s .pre .1, s .pre .2)
 
 put-numbers-requires : tie.Need-put-numbers-requires
-put-numbers-requires c κs = omega (arith, c .before .before .before .before .before .before .before .before .before .pre .0, c .before .before .before .put-two-sites .ensures .1)
+unfolding linkRecord
+put-numbers-requires c κs =
+    let s = c .before .before .before .before .before .before .before .before .before in
+    room-ended _ (decimal (s .args .capacity)) (decimal (s .args .shown) ∷ []) (c .before .before .before .put-two-sites .ensures) (s .pre .0)
 
 same-length : tie.Need-same-length
-same-length c = same-size (c .before .before .put-numbers .ensures .0) ∙ same-size (c .before .before .before .before .before .before .put-two-sites .ensures .0)
+same-length c = same-size (c .before .before .put-numbers .ensures) ∙ same-size (c .before .before .before .before .before .before .put-two-sites .ensures)
 
 returns : tie.Need-returns
 unfolding linkRecord
-returns c =
-    let numbers = c .before .before .put-numbers .ensures in
-    let sites = c .before .before .before .before .before .before .put-two-sites .ensures in
-    (line-ended _ _ _ (sites .0) (numbers .0), omega (arith, sites .1, numbers .1))
+returns c = line-ended _ _ _ (c .before .before .before .before .before .before .put-two-sites .ensures) (c .before .before .put-numbers .ensures)
 
 pub link-line-spec : {M : Type 1} → statement M
 link-line-spec =

@@ -1,6 +1,5 @@
--- `put_name` meets its contract: the range of the name is a part of the sheet of at most 12 bytes.
+-- `put_name` meets its contract: the range of the name is a part of the sheet.
 use Rattle.writers.specs.Writing.{same-size}
-use Rattle.report.proofs.Writing.{name-room}
 use borrow.Author.Needs.{needs}
 use Rattle.report.proofs.put_name.Statement.{statement}
 use Rattle.report.proofs.put_name.Tie as tie
@@ -18,7 +17,7 @@ mul-e : tie.Need-mul-e
 mul-e c = search needs
 
 shared-slice-read-e : tie.Need-shared-slice-read-e
-shared-slice-read-e c = c .before .before .before .before .before .before .pre .1 .in-ends
+shared-slice-read-e c = c .before .before .before .before .before .before .pre .1 .in-stops
 
 sub-put-bytes : tie.Need-sub-put-bytes
 sub-put-bytes c = c .before .before .before .before .before .before .before .pre .1 .forward
@@ -30,16 +29,13 @@ part-put-bytes-end : tie.Need-part-put-bytes-end
 part-put-bytes-end c = search needs
 
 put-bytes-requires : tie.Need-put-bytes-requires
-put-bytes-requires c κs = search needs
+put-bytes-requires c κs = c .before .before .before .before .before .before .before .before .pre .0
 
 same-length : tie.Need-same-length
 same-length c = same-size (c .before .before .put-bytes .ensures)
 
 returns : tie.Need-returns
-returns c =
-    let s = c .before .before .before .before .before .before .before .before .before .before .before in
-    let w = c .before .before .put-bytes .ensures in
-    (w, name-room (s .args .sheet .now) (s .args .start .now) (s .args .end .now) (s .args .v) (s .args .stop) w (s .pre .1))
+returns c = c .before .before .put-bytes .ensures
 
 pub put-name-spec : {M : Type 1} → statement M
 put-name-spec =

@@ -1,24 +1,28 @@
 -- `put_two_sites` meets its contract: two fields, and one more.
 use mathlib.Core.Path.{_∙_}
-use native.Mathlib.Omega.{arith}
-use Rattle.writers.specs.Writing.{same-size, next-field}
+use mathlib.Core.List.{[], _∷_}
+use Rattle.writers.specs.Writing.{same-size, next-field, room-fields, room-next}
+use Rattle.report.specs.Shown.{nameBy}
 use Rattle.report.proofs.put_two_sites.Statement.{statement}
 use Rattle.report.proofs.put_two_sites.Tie as tie
 
 put-site-requires : tie.Need-put-site-requires
-put-site-requires c κs = (omega (arith, c .before .before .before .before .before .pre .0), c .before .before .before .before .before .pre .1)
+put-site-requires c κs =
+    let s = c .before .before .before .before .before in
+    let name = nameBy (s .args .sheet .now) (s .args .start .now) (s .args .end .now) in
+    (room-fields (s .args .at) ((s .args .letter ∷ []) ∷ name (s .args .v) ∷ []) (name (s .args .w)) (s .pre .0), s .pre .1)
 
 put-name-requires : tie.Need-put-name-requires
-put-name-requires c κs = (omega (arith, c .before .before .before .before .before .before .before .before .before .pre .0, c .before .before .before .put-site .ensures .1), c .before .before .before .before .before .before .before .before .before .pre .2)
+put-name-requires c κs =
+    let s = c .before .before .before .before .before .before .before .before .before in
+    let name = nameBy (s .args .sheet .now) (s .args .start .now) (s .args .end .now) in
+    (room-next ((s .args .letter ∷ []) ∷ name (s .args .v) ∷ []) (name (s .args .w)) (c .before .before .before .put-site .ensures) (s .pre .0), s .pre .2)
 
 same-length : tie.Need-same-length
-same-length c = same-size (c .before .before .put-name .ensures .0) ∙ same-size (c .before .before .before .before .before .before .put-site .ensures .0)
+same-length c = same-size (c .before .before .put-name .ensures) ∙ same-size (c .before .before .before .before .before .before .put-site .ensures)
 
 returns : tie.Need-returns
-returns c =
-    let second = c .before .before .put-name .ensures in
-    let first = c .before .before .before .before .before .before .put-site .ensures in
-    (next-field _ _ (first .0) (second .0), omega (arith, first .1, second .1))
+returns c = next-field _ _ (c .before .before .before .before .before .before .put-site .ensures) (c .before .before .put-name .ensures)
 
 pub put-two-sites-spec : {M : Type 1} → statement M
 put-two-sites-spec = tie.close (tie.spec put-site-requires put-name-requires same-length returns)
