@@ -1,7 +1,7 @@
 -- Laws of writing line after line, and of the room for each.
 use mathlib.Core.Path.{_≡_, refl, sym, ap, _∙_}
 use mathlib.Core.List.{List, [], _∷_, _++_, append-assoc, append-nil}
-use Prim.Native.Nat.{ℕ, suc, _+_, _-_, _≤_, _<_}
+use Prim.Native.Nat.{ℕ, suc, _+_, _-_, _^_, _≤_, _<_}
 use native.Mathlib.Numerals.{add-one}
 use native.Mathlib.Omega.{arith}
 use lib.ListN.{length, getD, take, drop, length-append}
@@ -9,8 +9,10 @@ use lib.Seq.{take-suc, take-all, split-at}
 use Rattle.network.specs.Numbers.{pick, look, upfrom}
 use Rattle.network.specs.Network.{sites}
 use Rattle.theory.specs.Sites.{look-upfrom}
+use Rattle.writers.specs.Fields.{decimal, line}
+use Rattle.writers.specs.Decimal.{decimal-length}
 use Rattle.writers.specs.Wrote.{Wrote, Room}
-use Rattle.writers.specs.Writing.{nothing, then, room-front}
+use Rattle.writers.specs.Writing.{nothing, then}
 use Rattle.report.specs.Report.{lines, linkRecord, linkLine, siteRecord, siteLine, cutRecord, cutLine}
 
 -- ---- one line more
@@ -73,14 +75,15 @@ module _ (name : ℕ → List ℕ) (n i : ℕ) (h : i < n) where
       let place : i + 1 - 1 ≡ i = omega arith in
       rw (e, place)
 
--- ---- the parts of a report
+-- ---- numbers
 
--- room for six parts has room for the first ones
-pub room-six : (at : ℕ) (a b c d e f : List ℕ) → Room at (a ++ b ++ c ++ d ++ e ++ f)
-    → Room at a × Room at (a ++ b) × Room at (a ++ b ++ c) × Room at (a ++ b ++ c ++ d) × Room at (a ++ b ++ c ++ d ++ e)
-room-six at a b c d e f room =
-    let five = room-front at (a ++ b ++ c ++ d ++ e) f room in
-    let four = room-front at (a ++ b ++ c ++ d) e five in
-    let three = room-front at (a ++ b ++ c) d four in
-    let two = room-front at (a ++ b) c three in
-    (room-front at a b two, two, three, four, five)
+-- two machine numbers at the end of a line
+pub two-numbers : (a b : ℕ) → a < 2 ^ 64 → b < 2 ^ 64 → length (line (decimal a ∷ decimal b ∷ [])) ≤ 42
+unfolding line
+two-numbers a b p q = omega (
+  arith,
+  length-append (decimal a) (9 ∷ decimal b ++ (10 ∷ [])),
+  length-append (decimal b) (10 ∷ []),
+  decimal-length a p,
+  decimal-length b q,
+)

@@ -13,9 +13,9 @@ ghost use Rattle.writers.specs.Wrote.{Wrote, Room};
 ghost use Rattle.report.specs.Report.{lines, headRecord, linkRecord, linkLine, siteRecord};
 ghost use Rattle.report.specs.Report.{siteLine, cutRecord, cutLine, pairLine, reportOf, refusalLine};
 ghost use Rattle.report.specs.Shown.{nameBy, shownBy, Named, AllNamed, Links, Owners, Paired, CanWrite};
+use network::PLACES;
 use network::Pair;
 use network::Pairs;
-use network::PLACES;
 use network::SITES;
 use writers::put_bytes;
 use writers::put_letter;
@@ -299,12 +299,7 @@ fn amounts(pairs: [Pair; SITES], n: usize) -> u64
 }
 
 // The heading over the first n pairs of a list, from the start of the buffer.
-fn heading(
-    word: &[u8],
-    pairs: [Pair; SITES],
-    n: usize,
-    buf: &mut [u8],
-) -> usize
+fn heading(word: &[u8], pairs: [Pair; SITES], n: usize, buf: &mut [u8]) -> usize
     requires { ⌜ Room 0 (headRecord (now word) (total (take n pairs)) (length (take n pairs)))
         × (n ≤ SITES) × (n ≤ length pairs) × (total (take n pairs) ≤ 2 * (LINKS * SIZE)) ⌝ }
     ensures { λ r. ⌜ Wrote (now (buf .entry)) 0 (headRecord (now (word .entry)) (total (take n pairs)) (length (take n pairs))) (now (buf .exit)) r ⌝ }

@@ -1,30 +1,30 @@
 -- `link_lines` meets its contract. The loop's invariant: the lines of the first j links are written.
-use mathlib.Core.Path.{_≡_}
-use Prim.Native.Nat.{_+_, _-_, _*_, _≤_}
+use Prim.Native.Nat.{_-_, _≤_, _<_}
 use native.Mathlib.Omega.{arith}
-use lib.ListN.{length}
+use lib.ListN.{length, take}
 use Rattle.network.specs.Numbers.{upfrom}
-use Rattle.report.specs.Report.{lines, linkLine}
+use Rattle.theory.specs.Sites.{length-upfrom}
 use Rattle.writers.specs.Wrote.{Wrote}
-use Rattle.report.specs.Shown.{nameBy}
 use Rattle.writers.specs.Writing.{same-size}
-use Rattle.report.proofs.Writing.{lines-none, lines-next}
+use Rattle.report.specs.Report.{lines, linkLine}
+use Rattle.report.specs.Shown.{nameBy}
+use Rattle.report.proofs.Writing.{lines-none, line-room, line-next, lines-all, link-at}
 use Rattle.report.proofs.link_lines.Statement.{statement}
 use Rattle.report.proofs.link_lines.Tie as tie
 
 abbrev Inv-loop : tie.InvT-loop
-Inv-loop sheet start end one two capacity trimmed buf₀ at next₀ j₀ buf next j =
+Inv-loop sheet start end one two capacity shown buf₀ at next₀ j₀ buf next j =
     (j ≤ length one)
-    × Wrote buf₀ at (lines (linkLine (nameBy sheet start end) one two capacity trimmed) (upfrom 0 j)) buf next
-    × (next ≤ at + 70 * j)
+    × Wrote buf₀ at (lines (linkLine (nameBy sheet start end) one two capacity shown) (take j (upfrom 0 (length one)))) buf next
 
 abbrev μ-loop : tie.MeasureT-loop
-μ-loop sheet start end one two capacity trimmed buf₀ at next₀ j₀ buf next j = length one - j
+μ-loop sheet start end one two capacity shown buf₀ at next₀ j₀ buf next j = length one - j
 
 loop-holds : tie.Need-loop-holds Inv-loop μ-loop
 loop-holds c =
     let s = c .before .before .before .before .before .before .before .before .args in
-    (omega arith, lines-none (s .buf .now) (s .at) (linkLine (nameBy (s .sheet .now) (s .start .now) (s .end .now)) (s .one .now) (s .two .now) (s .capacity .now) (s .trimmed .now)) 0, omega arith)
+    let line = linkLine (nameBy (s .sheet .now) (s .start .now) (s .end .now)) (s .one .now) (s .two .now) (s .capacity .now) (s .shown .now) in
+    (omega arith, lines-none (s .buf .now) (s .at) line (upfrom 0 (length (s .one .now))))
 
 mul-link-line : tie.Need-mul-link-line Inv-loop μ-loop
 mul-link-line c = omega arith
@@ -53,8 +53,17 @@ shared-slice-read-link-line-4 c = omega arith
 link-line-requires : tie.Need-link-line-requires Inv-loop μ-loop
 link-line-requires c κs =
     let top = c .before .before .before .before .before .before in
-    let named = top .before .before .before .before .before .before .before .before .before .pre .1 .named (top .loop .j) (omega arith) in
-    (omega (arith, top .before .before .before .before .before .before .before .before .before .pre .1 .few), named .0, named .1)
+    let s = top .before .before .before .before .before .before .before .before .before in
+    let name = nameBy (s .args .sheet .now) (s .args .start .now) (s .args .end .now) in
+    let one = s .args .one .now in
+    let j = top .loop .j in
+    let h : j < length one = omega arith in
+    let named = s .pre .1 .named j h in (
+      line-room _ (upfrom 0 (length one)) 0 j (omega (arith, length-upfrom 0 (length one)))
+          (link-at name (length one) j h one (s .args .two .now) (s .args .capacity .now) (s .args .shown .now)) (s .pre .0) (top .loop .inv .1),
+      named .0,
+      named .1,
+    )
 
 add-j : tie.Need-add-j Inv-loop μ-loop
 add-j c = omega arith
@@ -66,11 +75,13 @@ loop-again : tie.Need-loop-again Inv-loop μ-loop
 loop-again c =
     let top = c .before .before .before .before .before .before .before .before .before in
     let s = top .before .before .before .before .before .before .before .before .before .args in
-    let w = c .before .before .link-line .ensures in (
+    let name = nameBy (s .sheet .now) (s .start .now) (s .end .now) in
+    let one = s .one .now in
+    let j = top .loop .j in
+    let h : j < length one = omega arith in (
       omega arith,
-      lines-next (linkLine (nameBy (s .sheet .now) (s .start .now) (s .end .now)) (s .one .now) (s .two .now) (s .capacity .now) (s .trimmed .now)) 0 (top .loop .j) (top .loop .j)
-          (omega arith) (top .loop .inv .1) (unfold linkLine in (w .0)),
-      omega (arith, w .1, top .loop .inv .2),
+      line-next _ (upfrom 0 (length one)) 0 j (omega (arith, length-upfrom 0 (length one)))
+          (link-at name (length one) j h one (s .two .now) (s .capacity .now) (s .shown .now)) (top .loop .inv .1) (c .before .before .link-line .ensures),
     )
 
 same-length : tie.Need-same-length Inv-loop μ-loop
@@ -78,9 +89,8 @@ same-length c = same-size (c .before .loop .inv .1)
 
 returns : tie.Need-returns Inv-loop μ-loop
 returns c =
-    let s = c .before .before .before .before .before .before .before .before .before .before .args in
-    let e : c .before .loop .j ≡ length (s .one .now) = omega arith in
-    (rw e at (c .before .loop .inv .1), rw e at (c .before .loop .inv .2))
+    let one = c .before .before .before .before .before .before .before .before .before .before .args .one .now in
+    lines-all _ (upfrom 0 (length one)) (c .before .loop .j) (omega (arith, length-upfrom 0 (length one))) (c .before .loop .inv .1)
 
 pub link-lines-spec : {M : Type 1} → statement M
 link-lines-spec =
