@@ -1,4 +1,2 @@
 pub mod Outcome
-pub mod Places
 pub mod Promise
-pub mod Steps

@@ -1,29 +1,23 @@
 -- The outcome of `terminal_cuts`: what is said of the offer, and the owner of each site and the size and count of each cut.
 -- Document 01, "Plans, trimmed sizes, end sets" (end set, owner, size, count) and "Pairing" (what is said before anything else).
 use mathlib.Core.Bool.{Bool, true, false}
-use mathlib.Core.List.{List, _++_, map}
-use Prim.Native.Nat.{ℕ, _-_}
+use mathlib.Core.List.{List}
+use Prim.Native.Nat.{ℕ}
 use lib.Dec.{eqb}
 use lib.ListN.{length, replicate}
 use Rattle.network.specs.Limits.{SITES}
-use Rattle.network.specs.Numbers.{pick, look}
+use Rattle.network.specs.Numbers.{look}
 use Rattle.network.specs.Edition.{largest}
-use Rattle.network.specs.Network.{Links, sites, leaf}
+use Rattle.network.specs.Network.{Links, ends}
 use Rattle.network.specs.Cuts.{cutSize, cutCount, owner}
 use Rattle.tree.specs.Offer.{links, offer}
 use Rattle.tree.specs.declared.Offer.{Offer}
 use Rattle.tree.specs.declared.Offer.the-variants as offered
+-- `places n f`: f at the sites 1 .. n, then 0 up to SITES places; `ofTerminal terminal f`: f at a terminal, 0 at an inner site
+unfoldable pub use Rattle.groups.specs.Places.{places, ofTerminal}
 use Rattle.cuts.specs.declared.Answer.{Answer}
 use Rattle.cuts.specs.declared.Answer.the-variants.{NoTree, TooLarge, Unequal, Done}
 use Rattle.cuts.specs.declared.Cuts.{Cuts}
-
--- f at the sites 1 .. n, then 0 up to SITES places: place x - 1 is that of site x
-unfoldable pub places : ℕ → (ℕ → ℕ) → List ℕ
-places n f = map f (sites n) ++ replicate (SITES - n) 0
-
--- f at a terminal, 0 at an inner site
-unfoldable pub ofTerminal : (ℕ → ℕ) → (ℕ → ℕ) → ℕ → ℕ
-ofTerminal terminal f x = pick (terminal x) 1 (f x) 0
 
 -- an answer without cuts: all SITES places without an owner (01), every size and count 0
 unfoldable pub noCuts : Answer → Cuts
@@ -38,9 +32,9 @@ cuts ls n terminal c t = record {
   answer = Done;
 }
 
--- the cuts of an offer; its terminals are the sites with just one link
+-- the cuts of an offer; its terminals are its ends
 abbrev pub offeredCuts : ℕ → List ℕ → List ℕ → List ℕ → List ℕ → Cuts
-offeredCuts n one two c t = cuts (links one two) n (leaf (links one two)) (look c) (look t)
+offeredCuts n one two c t = cuts (links one two) n (look (ends (links one two) n)) (look c) (look t)
 
 -- the outcome by what is said of the offer, and by whether there is a balanced capacity for each link
 unfoldable pub decide : Offer → Bool → Cuts → Cuts

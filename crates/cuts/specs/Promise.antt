@@ -12,7 +12,7 @@ use lib.ListN.{length}
 use Rattle.network.specs.Limits.{SITES}
 use Rattle.network.specs.Numbers.{is, sum, count, look}
 use Rattle.network.specs.Edition.{largest}
-use Rattle.network.specs.Network.{Links, Site, sites, leaf, atTerminals}
+use Rattle.network.specs.Network.{Links, Site, sites, ends, atTerminals}
 use Rattle.network.specs.Trimming.{Greatest}
 use Rattle.network.specs.Cuts.{group, inCut, cutSize, cutCount, owner}
 use Rattle.theory.specs.Sums.{is-same, is-other, is-one, is-iff, same?}
@@ -26,7 +26,7 @@ use Rattle.tree.specs.declared.Offer.the-variants as offered
 use Rattle.cuts.specs.declared.Answer.the-variants.{Done}
 use Rattle.cuts.specs.declared.Cuts.{Cuts}
 use Rattle.cuts.specs.Outcome.{places, ofTerminal, noCuts, cuts, offeredCuts, decide, outcome}
-use Rattle.cuts.specs.Places.{of-inner, of-terminal, look-places, places-sum, places-count}
+use Rattle.groups.specs.Places.{of-inner, of-terminal, look-places, places-sum, places-count}
 
 -- ---- for accepted offers and no others
 
@@ -54,6 +54,10 @@ module _ (n : ℕ) (a b c t : List ℕ) where
     abbrev ls : Links
     ls = links a b
 
+    -- the terminals are the ends
+    abbrev terminal : ℕ → ℕ
+    terminal = look (ends ls n)
+
     within : TreeWithin largest n a b c
     within = cuts-are-for-accepted-offers done .0
 
@@ -63,50 +67,50 @@ module _ (n : ℕ) (a b c t : List ℕ) where
     at-site : (f : ℕ → ℕ) (x : ℕ) → Site n x → look (places n f) (x - 1) ≡ f x
     at-site f x p = look-places f n (x - 1) (omega arith) ∙ ap f (omega arith)
 
-    at-terminal : (f : ℕ → ℕ) (x : ℕ) → Site n x → leaf ls x ≡ 1 → look (places n (ofTerminal (leaf ls) f)) (x - 1) ≡ f x
-    at-terminal f x p m = at-site (ofTerminal (leaf ls) f) x p ∙ of-terminal (leaf ls) f x m
+    at-terminal : (f : ℕ → ℕ) (x : ℕ) → Site n x → terminal x ≡ 1 → look (places n (ofTerminal terminal f)) (x - 1) ≡ f x
+    at-terminal f x p m = at-site (ofTerminal terminal f) x p ∙ of-terminal terminal f x m
 
-    pub owner-of-a-site : (x : ℕ) → Site n x → look (outcome n a b c t .owner) (x - 1) ≡ owner ls (look c) (look t) (leaf ls) n x
+    pub owner-of-a-site : (x : ℕ) → Site n x → look (outcome n a b c t .owner) (x - 1) ≡ owner ls (look c) (look t) terminal n x
     unfolding cuts
-    owner-of-a-site x p = rw whole (at-site (owner ls (look c) (look t) (leaf ls) n) x p)
+    owner-of-a-site x p = rw whole (at-site (owner ls (look c) (look t) terminal n) x p)
 
-    pub size-of-a-cut : (w : ℕ) → Site n w → leaf ls w ≡ 1 → look (outcome n a b c t .size) (w - 1) ≡ cutSize ls (look c) (look t) w
+    pub size-of-a-cut : (w : ℕ) → Site n w → terminal w ≡ 1 → look (outcome n a b c t .size) (w - 1) ≡ cutSize ls (look c) (look t) w
     unfolding cuts
     size-of-a-cut w p m = rw whole (at-terminal (cutSize ls (look c) (look t)) w p m)
 
-    pub count-of-a-cut : (w : ℕ) → Site n w → leaf ls w ≡ 1 → look (outcome n a b c t .count) (w - 1) ≡ cutCount ls (look c) (look t) n w
+    pub count-of-a-cut : (w : ℕ) → Site n w → terminal w ≡ 1 → look (outcome n a b c t .count) (w - 1) ≡ cutCount ls (look c) (look t) n w
     unfolding cuts
     count-of-a-cut w p m = rw whole (at-terminal (cutCount ls (look c) (look t) n) w p m)
 
     -- ---- for the greatest balanced capacities
 
-    module _ (g : Greatest ls (leaf ls) (look c) (look t)) where
+    module _ (g : Greatest ls terminal (look c) (look t)) where
       -- a place has one owner, so no site is in two cuts
-      pub a-terminal-owns-just-its-cut : (w x : ℕ) → Site n w → leaf ls w ≡ 1 → Site n x
+      pub a-terminal-owns-just-its-cut : (w x : ℕ) → Site n w → terminal w ≡ 1 → Site n x
           → (look (outcome n a b c t .owner) (x - 1) ≡ w) ↔ (inCut ls (look c) (look t) w x ≡ 1)
-      a-terminal-owns-just-its-cut w x p m q = rw (owner-of-a-site x q) (owner-iff-in-cut (within .tree) (leaf ls) g w p m x)
+      a-terminal-owns-just-its-cut w x p m q = rw (owner-of-a-site x q) (owner-iff-in-cut (within .tree) terminal g w p m x)
 
-      pub a-terminal-owns-its-own-place : (w : ℕ) → Site n w → leaf ls w ≡ 1 → look (outcome n a b c t .owner) (w - 1) ≡ w
-      a-terminal-owns-its-own-place w p m = owner-of-a-site w p ∙ a-terminal-owns-itself (within .tree) (leaf ls) g w p m
+      pub a-terminal-owns-its-own-place : (w : ℕ) → Site n w → terminal w ≡ 1 → look (outcome n a b c t .owner) (w - 1) ≡ w
+      a-terminal-owns-its-own-place w p m = owner-of-a-site w p ∙ a-terminal-owns-itself (within .tree) terminal g w p m
 
-      pub a-count-is-how-often-its-terminal-is-owner : (w : ℕ) → Site n w → leaf ls w ≡ 1
+      pub a-count-is-how-often-its-terminal-is-owner : (w : ℕ) → Site n w → terminal w ≡ 1
           → look (outcome n a b c t .count) (w - 1) ≡ count (outcome n a b c t .owner) w
       unfolding cuts cutCount inCut
       a-count-is-how-often-its-terminal-is-owner w p m =
-          let own = owner ls (look c) (look t) (leaf ls) n in
+          let own = owner ls (look c) (look t) terminal n in
           let labels = group ls (look c) (look t) in
-          let iff = owner-iff-in-cut (within .tree) (leaf ls) g w p m in
+          let iff = owner-iff-in-cut (within .tree) terminal g w p m in
           count-of-a-cut w p m
           ∙ over-eq (sites n) (λ x. is (labels x) (labels w)) (λ x. is (own x) w)
           (λ x q. is-iff (labels x) (labels w) (own x) w (λ e. iff x .1 (is-same e)) (λ e. is-one (iff x .0 e)))
           ∙ sym (rw whole (places-count own n w (p .0)))
 
-      pub sizes-sum-to-the-terminals : sum SITES (look (outcome n a b c t .size)) ≡ atTerminals ls n (leaf ls) (look t)
+      pub sizes-sum-to-the-terminals : sum SITES (look (outcome n a b c t .size)) ≡ atTerminals ls n terminal (look t)
       unfolding cuts
       sizes-sum-to-the-terminals = rw whole (
-          places-sum (ofTerminal (leaf ls) (cutSize ls (look c) (look t))) n (within .few)
-          ∙ over-eq (sites n) (ofTerminal (leaf ls) (cutSize ls (look c) (look t))) (λ w. is (leaf ls w) 1 * cutSize ls (look c) (look t) w)
-          (λ w p. same? (leaf ls w) 1
-          (λ e. rw (of-terminal (leaf ls) (cutSize ls (look c) (look t)) w e, is-same e) (omega arith))
-          (λ d. rw (of-inner (leaf ls) (cutSize ls (look c) (look t)) w d, is-other d) (omega arith)))
-          ∙ cut-sizes-sum-to-the-terminals (within .tree) (leaf ls) g)
+          places-sum (ofTerminal terminal (cutSize ls (look c) (look t))) n (within .few)
+          ∙ over-eq (sites n) (ofTerminal terminal (cutSize ls (look c) (look t))) (λ w. is (terminal w) 1 * cutSize ls (look c) (look t) w)
+          (λ w p. same? (terminal w) 1
+          (λ e. rw (of-terminal terminal (cutSize ls (look c) (look t)) w e, is-same e) (omega arith))
+          (λ d. rw (of-inner terminal (cutSize ls (look c) (look t)) w d, is-other d) (omega arith)))
+          ∙ cut-sizes-sum-to-the-terminals (within .tree) terminal g)

@@ -5,19 +5,20 @@ use mathlib.Core.List.{List, map}
 use Prim.Native.Nat.{ℕ, _+_, _*_, _≤_, _<_}
 use native.Mathlib.Decide.{decLt}
 use native.Mathlib.Omega.{arith}
-use lib.ListN.{length, set, replicate, getD-replicate, length-set, length-map, List·getD-eq-default}
+use lib.ListN.{length, set, length-set, length-map, List·getD-eq-default}
 use lib.Seq.{getD-set-same, getD-set-other}
-use Rattle.network.specs.Limits.{LINKS, PLACES, SITES}
-use Rattle.network.specs.Numbers.{pick, is, differ, less, sum, look, upfrom}
-use Rattle.network.specs.Network.{one, two, at, sumAt, label}
+use Rattle.network.specs.Limits.{PLACES, SITES}
+use Rattle.network.specs.Numbers.{is, differ, less, look, upfrom}
+use Rattle.network.specs.Network.{one, two, label}
 use Rattle.network.specs.Cuts.{kept, group, inCut, cutSize}
-use Rattle.theory.specs.Sums.{is-same, is-other, differ-same, differ-other, pick-same, pick-other, same?, cases, sum-eq, less-one, less-lt}
+use Rattle.theory.specs.Sums.{is-same, is-other, differ-same, differ-other, same?, cases, sum-eq, less-one, less-lt}
 use Rattle.theory.specs.Labels.{label-label}
-use Rattle.theory.specs.Sites.{length-upfrom, look-upfrom, look-values}
+use Rattle.theory.specs.Sites.{length-upfrom, look-values}
 use Rattle.theory.specs.TerminalCuts.{kept-agree}
 use Rattle.tree.specs.Offer.{links}
-use Rattle.tree.specs.Links.{length-links, links-one, links-two, links-at-site}
-use Rattle.groups.specs.Groups.{Linked, leaves, leaving}
+use Rattle.tree.specs.Links.{length-links, links-one, links-two}
+use Rattle.links.specs.Chains.{Placed}
+use Rattle.groups.specs.Groups.{leaves, leaving}
 
 -- ---- one link more: d at the labels of its sites
 
@@ -48,37 +49,9 @@ module _ (labels : List ℕ) (a b d : ℕ) where
       (λ e. rw (is-other f, is-other e, differ-same {u = 0} refl)
       (getD-set-other r q l v 0 (λ z. e (sym z)) ∙ getD-set-other s p l (look s p + d) 0 (λ z. f (sym z)) ∙ omega arith)))
 
--- ---- own labels: the links at a site
-
-pub own-small : (x : ℕ) → look (upfrom 0 PLACES) x ≤ SITES
-own-small x = cases (decLt x PLACES)
-    (λ h. omega (arith, look-upfrom 0 PLACES x h))
-    (λ h. omega (arith, List·getD-eq-default (upfrom 0 PLACES) 0 {n = x} (omega (arith, length-upfrom 0 PLACES))))
-
--- a link leaves each of its two sites
-leaves-own : (v a b : ℕ) → a ≤ SITES → b ≤ SITES → a ≢ b → leaves (upfrom 0 PLACES) a b v ≡ pick a v 1 (is b v)
-unfolding leaves
-leaves-own v a b p q apart =
-    let own-a : look (upfrom 0 PLACES) a ≡ a = omega (arith, look-upfrom 0 PLACES a (omega arith)) in
-    let own-b : look (upfrom 0 PLACES) b ≡ b = omega (arith, look-upfrom 0 PLACES b (omega arith)) in
-    rw (own-a, own-b) (same? a v
-    (λ e. rw (pick-same e, is-same e, is-other {u = b} {v = v} (λ z. apart (e ∙ sym z))) (differ-other (λ z. omega arith)))
-    (λ d. rw (pick-other d, is-other d) (same? b v (λ e. rw (is-same e) (differ-other (λ z. omega arith))) (λ e. rw (is-other e) (differ-same refl)))))
-
-pub leaving-own : {a b : List ℕ} → Linked a b → (v : ℕ) → leaving (upfrom 0 PLACES) a b (replicate LINKS 1) v ≡ sumAt (links a b) v (λ i. 1)
-unfolding leaving sumAt
-leaving-own {a} {b} k v = rw (length-links a b (sym (k .seconds))) (sum-eq (length a)
-    (λ j. leaves (upfrom 0 PLACES) (look a j) (look b j) v * look (replicate LINKS 1) j)
-    (λ j. at (links a b) v j * 1)
-    (λ j h. rw (
-      leaves-own v (look a j) (look b j) (k .ends j h .0 .1) (k .ends j h .1 .1) (k .apart j h),
-      getD-replicate {A = ℕ} LINKS j 1 0 (omega (arith, k .few)),
-      links-at-site a b v j h (omega (arith, k .seconds)),
-    ) refl))
-
 -- ---- the labels of groups: the sizes of cuts
 
-module _ {labels a b : List ℕ} (k : Linked a b) (c t : List ℕ) (grouped : labels ≡ map (group (links a b) (look c) (look t)) (upfrom 0 PLACES)) where
+module _ {labels a b : List ℕ} (k : Placed a b) (c t : List ℕ) (grouped : labels ≡ map (group (links a b) (look c) (look t)) (upfrom 0 PLACES)) where
   abbrev label-of : ℕ → ℕ
   label-of = group (links a b) (look c) (look t)
 
@@ -95,7 +68,7 @@ module _ {labels a b : List ℕ} (k : Linked a b) (c t : List ℕ) (grouped : la
       let low : (y : ℕ) → y ≤ SITES → less y PLACES ≡ 1 = λ y p. less-one {a = y} {b = PLACES} (omega arith) in
       let shared = kept-agree u ls (λ y. less y PLACES)
       (λ i p q. rw (links-one a b i (omega arith) (omega (arith, k .seconds)), links-two a b i (omega arith) (omega (arith, k .seconds)))
-      (low (look a i) (omega (arith, k .ends i (omega arith))) ∙ sym (low (look b i) (omega (arith, k .ends i (omega arith))))))
+      (low (look a i) (omega (arith, k .sites i (omega arith))) ∙ sym (low (look b i) (omega (arith, k .sites i (omega arith))))))
       (label (kept u ls) x) x (label-label (kept u ls) x) in
       omega (arith, less-lt (shared ∙ low x h))
 
@@ -113,6 +86,6 @@ module _ {labels a b : List ℕ} (k : Linked a b) (c t : List ℕ) (grouped : la
       (λ j p. rw (
         links-one a b j p (omega (arith, k .seconds)),
         links-two a b j p (omega (arith, k .seconds)),
-        look-group (look a j) (omega (arith, k .ends j p)),
-        look-group (look b j) (omega (arith, k .ends j p)),
+        look-group (look a j) (omega (arith, k .sites j p)),
+        look-group (look b j) (omega (arith, k .sites j p)),
       ) refl))

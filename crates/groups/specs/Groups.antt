@@ -1,27 +1,13 @@
--- Sites grouped by labels: what is asked of the lists of links and capacities, what leaves the sites of a label, and what a tally holds.
+-- Sites grouped by labels: what leaves the sites of a label, and what a tally holds.
 use mathlib.Core.Path.{_≡_}
-use mathlib.Core.Logic.{_≢_}
 use mathlib.Core.List.{List, map}
 use Prim.Native.Nat.{ℕ, _+_, _-_, _*_, _/_, _%_, _≤_, _<_}
 use lib.ListN.{length}
 use Rattle.network.specs.Limits.{LINKS, PLACES, SITES, SIZE, WORDS}
 use Rattle.network.specs.Numbers.{is, differ, less, sum, upfrom, look}
-use Rattle.network.specs.Network.{Links, Site, sumAt}
+use Rattle.network.specs.Network.{Links}
 use Rattle.network.specs.Cuts.{group, cutSize}
 use Rattle.bitset.specs.Members.{bit}
-
--- at most LINKS links, each between two different sites from 1 to SITES
-pub record Linked (one two : List ℕ) : Type 0 where
-  pub few : length one ≤ LINKS
-  pub seconds : length two ≡ length one
-  pub ends : (j : ℕ) → j < length one → Site SITES (look one j) × Site SITES (look two j)
-  pub apart : (j : ℕ) → j < length one → look one j ≢ look two j
-
--- such links, and a capacity up to 1,000,000 for each
-pub record Offered (one two c : List ℕ) : Type 0 where
-  pub linked : Linked one two
-  pub capacities : length one ≤ length c
-  pub small : (j : ℕ) → j < length one → look c j ≤ SIZE
 
 -- d can be added at the labels of two sites
 pub record Addable (sums labels : List ℕ) (one two d : ℕ) : Type 0 where
@@ -39,17 +25,16 @@ leaves labels a b l = differ (is (look labels a) l) (is (look labels b) l)
 unfoldable pub leaving : List ℕ → List ℕ → List ℕ → List ℕ → ℕ → ℕ
 leaving labels one two c l = sum (length one) (λ j. leaves labels (look one j) (look two j) l * look c j)
 
--- what is counted of a network: the labels of its sites, the numbers of their links, and for each label the size of the cut of a site with it
-pub record Tallied (ls : Links) (c t : ℕ → ℕ) (labels degree sums : List ℕ) : Type 0 where
+-- what is counted of a network: the labels of its sites, and for each label the size of the cut of a site with it
+pub record Tallied (ls : Links) (c t : ℕ → ℕ) (labels sums : List ℕ) : Type 0 where
   pub grouped : labels ≡ map (group ls c t) (upfrom 0 PLACES)
   pub small : (x : ℕ) → look labels x ≤ SITES
-  pub numbers : (v : ℕ) → look degree v ≡ sumAt ls v (λ i. 1)
   pub sizes : (a : ℕ) → a ≤ SITES → look sums (look labels a) ≡ cutSize ls c t a
 
 -- 1 if place i is that of one of n sites with the label l, else 0
 unfoldable pub labelled : ℕ → List ℕ → ℕ → ℕ → ℕ
 labelled n labels l i = less i n * is (look labels (i + 1)) l
 
--- 1 if i is in the set of the four words from word 4 l on, else 0
+-- 1 if i is in the set of the WORDS words from word WORDS l on, else 0
 unfoldable pub inWords : List ℕ → ℕ → ℕ → ℕ
 inWords words l i = less i SITES * bit (look words (l * WORDS + i / 64)) (i % 64)

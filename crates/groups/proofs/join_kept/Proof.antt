@@ -21,7 +21,7 @@ loop-holds : tie.Need-loop-holds Inv-loop μ-loop
 loop-holds c =
     let s = c .before .before .before .before .before in
     let a = s .args in
-    (omega arith, s .pre .0 ∙ groups-none (a .one .now) (a .two .now) (a .capacity .now) (a .balanced .now) (s .pre .1 .linked .seconds))
+    (omega arith, s .pre .0 ∙ groups-none (a .one .now) (a .two .now) (a .capacity .now) (a .balanced .now) (s .pre .1 .seconds))
 
 loop-again : tie.Need-loop-again Inv-loop μ-loop
 loop-again c =
@@ -32,12 +32,12 @@ loop-again c =
     let j = top .loop .j - 1 in
     let next : top .loop .j ≡ j + 1 = omega arith in
     let now = top .loop .labels in
-    let e = s .pre .1 .linked .ends j (omega arith) in
+    let e = s .pre .1 .sites j (omega arith) in
     let long = ap length (top .loop .inv .1) ∙ length-groups (a .one .now) (a .two .now) (a .capacity .now) (a .balanced .now) (top .loop .j) in (
       omega arith,
       c .before .before .join .ensures
           ∙ linked-sites now (look (a .one .now) j) (look (a .two .now) j) (omega (arith, long, e)) (omega (arith, long, e))
-          ∙ groups-in (a .one .now) (a .two .now) (a .capacity .now) (a .balanced .now) (s .pre .1 .linked .seconds) j (omega arith) (rw next at (top .loop .inv .1))
+          ∙ groups-in (a .one .now) (a .two .now) (a .capacity .now) (a .balanced .now) (s .pre .1 .seconds) j (omega arith) (rw next at (top .loop .inv .1))
           (omega (arith, e)) (omega (arith, e)) (then .if1 .taken),
     )
 
@@ -48,7 +48,7 @@ loop-again-2 c =
     let a = s .args in
     let j = top .loop .j - 1 in
     let next : top .loop .j ≡ j + 1 = omega arith in
-    (omega arith, groups-out (a .one .now) (a .two .now) (a .capacity .now) (a .balanced .now) (s .pre .1 .linked .seconds) j (omega arith) (rw next at (top .loop .inv .1)) (c .if1 .left))
+    (omega arith, groups-out (a .one .now) (a .two .now) (a .capacity .now) (a .balanced .now) (s .pre .1 .seconds) j (omega arith) (rw next at (top .loop .inv .1)) (c .if1 .left))
 
 same-length : tie.Need-same-length Inv-loop μ-loop
 same-length c =
@@ -67,7 +67,7 @@ returns c =
     let s = c .before .before .before .before .before .before .before in
     let a = s .args in
     let none : c .before .loop .j ≡ 0 = omega arith in
-    rw none at (c .before .loop .inv .1) ∙ groups-all (a .one .now) (a .two .now) (a .capacity .now) (a .balanced .now) (s .pre .1 .linked .seconds)
+    rw none at (c .before .loop .inv .1) ∙ groups-all (a .one .now) (a .two .now) (a .capacity .now) (a .balanced .now) (s .pre .1 .seconds)
 
 pub join-kept-spec : {M : Type 1} → statement M
 join-kept-spec =

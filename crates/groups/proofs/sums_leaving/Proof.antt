@@ -29,13 +29,13 @@ addable c κs =
     let top = c .before .before .before .before .before in
     let p = top .before .before .before .before .pre in
     let j = top .loop .j in
-    let e = p .0 .linked .ends j (omega arith) in
+    let e = p .0 .sites j (omega arith) in
     record {
       places = top .loop .inv .1;
-      ends = (e .0 .1, e .1 .1);
-      labelled = p .1;
-      small = p .0 .small j (omega arith);
-      room = λ l. omega (arith, top .loop .inv .2 l .0, p .0 .linked .few);
+      ends = e;
+      labelled = p .2;
+      small = p .1 .small j (omega arith);
+      room = λ l. omega (arith, top .loop .inv .2 l .0, p .0 .few);
     }
 
 loop-again : tie.Need-loop-again Inv-loop μ-loop
@@ -49,7 +49,7 @@ loop-again c =
       omega arith,
       added .0,
       λ l. (
-        omega (arith, added .1 l, top .loop .inv .2 l .0, leaves-le (a .labels .now) (look (a .one .now) j) (look (a .two .now) j) d l, s .pre .0 .small j (omega arith)),
+        omega (arith, added .1 l, top .loop .inv .2 l .0, leaves-le (a .labels .now) (look (a .one .now) j) (look (a .two .now) j) d l, s .pre .1 .small j (omega arith)),
         added .1 l ∙ sum-next (λ i. leaves (a .labels .now) (look (a .one .now) i) (look (a .two .now) i) l * look (a .capacity .now) i) j (top .loop .inv .2 l .1) refl,
       ),
     )

@@ -17,7 +17,7 @@ use Rattle.theory.specs.Sums.{pick-same, pick-other, is-same, is-other, cases, 
 use Rattle.theory.specs.Sites.{length-upfrom, look-values}
 use Rattle.bitset.specs.Laws.{First}
 use Rattle.tree.specs.Places.{same-values}
-use Rattle.cuts.specs.Steps.{claim}
+use Rattle.groups.specs.Steps.{claim}
 
 -- a cut is told by its places
 pub claims-same : (old : List ℕ) (cut cut′ : ℕ → ℕ) (a : ℕ) → ((i : ℕ) → cut i ≡ cut′ i) → map (claim old cut a) (upfrom 0 SITES) ≡ map (claim old cut′ a) (upfrom 0 SITES)

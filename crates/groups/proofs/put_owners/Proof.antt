@@ -7,26 +7,26 @@ use lib.ListN.{length, length-map}
 use Rattle.network.specs.Limits.{SITES}
 use Rattle.network.specs.Numbers.{look, upfrom}
 use Rattle.theory.specs.Sites.{length-upfrom}
 use Rattle.groups.specs.Groups.{inWords}
-use Rattle.cuts.specs.Outcome.{places, ofTerminal}
-use Rattle.cuts.specs.Places.{places-none, places-terminal, places-inner}
-use Rattle.cuts.specs.Steps.{members, claim, ownersTo}
-use Rattle.cuts.proofs.Tally.{owners-none, owners-next, owners-pass}
-use Rattle.cuts.proofs.put_owners.Statement.{statement}
-use Rattle.cuts.proofs.put_owners.Tie as tie
+use Rattle.groups.specs.Places.{places, ofTerminal}
+use Rattle.groups.specs.Places.{places-none, places-terminal, places-inner}
+use Rattle.groups.specs.Steps.{members, claim, ownersTo}
+use Rattle.groups.proofs.ByTally.{owners-none, owners-next, owners-pass}
+use Rattle.groups.proofs.put_owners.Statement.{statement}
+use Rattle.groups.proofs.put_owners.Tie as tie
 
 abbrev Inv-loop : tie.InvT-loop
-Inv-loop owner₀ n words labels degree count₀ i₀ owner count i =
-    (i ≤ n) × (length owner ≡ SITES) × (owner ≡ ownersTo (inWords words) labels owner₀ degree i) × (count ≡ places i (ofTerminal (look degree) (members (inWords words) labels)))
+Inv-loop owner₀ n words labels ends count₀ i₀ owner count i =
+    (i ≤ n) × (length owner ≡ SITES) × (owner ≡ ownersTo (inWords words) labels owner₀ ends i) × (count ≡ places i (ofTerminal (look ends) (members (inWords words) labels)))
 
 abbrev μ-loop : tie.MeasureT-loop
-μ-loop owner₀ n words labels degree count₀ i₀ owner count i = n - i
+μ-loop owner₀ n words labels ends count₀ i₀ owner count i = n - i
 
 loop-holds : tie.Need-loop-holds Inv-loop μ-loop
 loop-holds c =
     let a = c .args in
     let cut = inWords (a .words .now) in
-    (omega arith, c .pre .0, sym (owners-none cut (a .labels .now) (a .owner .now) (a .degree .now)), places-none (ofTerminal (look (a .degree .now)) (members cut (a .labels .now))))
+    (omega arith, c .pre .0, sym (owners-none cut (a .labels .now) (a .owner .now) (a .ends .now)), places-none (ofTerminal (look (a .ends .now)) (members cut (a .labels .now))))
 
 loop-again : tie.Need-loop-again Inv-loop μ-loop
 loop-again c =
@@ -35,20 +35,20 @@ loop-again c =
     let i = top .loop .i in
     let inv = top .loop .inv in
     let labels = a .labels .now in
-    let degree = a .degree .now in
+    let ends = a .ends .now in
     let cut = inWords (a .words .now) in
     ⊎-elim
     (λ w. (
       omega arith,
       ap length (w .3 ∙ w .2 .ensures .0) ∙ length-map (upfrom 0 SITES) (claim (top .loop .owner) (cut (look labels (i + 1))) (i + 1)) ∙ length-upfrom 0 SITES,
-      w .3 ∙ w .2 .ensures .0 ∙ owners-next cut labels (a .owner .now) degree i (inv .2) (w .0 .taken),
-      w .4 ∙ places-terminal (look degree) (members cut labels) i (omega arith) (inv .3) (w .0 .taken) (w .2 .ensures .1),
+      w .3 ∙ w .2 .ensures .0 ∙ owners-next cut labels (a .owner .now) ends i (inv .2) (w .0 .taken),
+      w .4 ∙ places-terminal (look ends) (members cut labels) i (omega arith) (inv .3) (w .0 .taken) (w .2 .ensures .1),
     ))
     (λ w. (
       omega arith,
       ap length (w .1) ∙ inv .1,
-      w .1 ∙ owners-pass cut labels (a .owner .now) degree i (inv .2) (w .0 .left),
-      w .2 ∙ places-inner (look degree) (members cut labels) i (omega arith) (inv .3) (w .0 .left),
+      w .1 ∙ owners-pass cut labels (a .owner .now) ends i (inv .2) (w .0 .left),
+      w .2 ∙ places-inner (look ends) (members cut labels) i (omega arith) (inv .3) (w .0 .left),
     ))
     (c .if1 .came)
 
@@ -64,7 +64,6 @@ put-owners-spec =
     Inv-loop
     μ-loop
     loop-holds
-    (λ c. omega arith)
     (λ c. omega arith)
     (λ c. omega arith)
     (λ c. omega arith)

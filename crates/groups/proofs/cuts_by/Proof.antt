@@ -1,13 +1,13 @@
 -- `cuts_by` meets its contract: what its callees ensure, put together; the sets hold the places of the labels.
 use mathlib.Core.Path.{refl, _∙_}
 use Rattle.network.specs.Numbers.{look}
 use Rattle.groups.specs.Groups.{labelled, inWords}
-use Rattle.cuts.specs.Outcome.{ofTerminal}
-use Rattle.cuts.specs.Steps.{members, cutsBy}
-use Rattle.cuts.specs.Places.{of-alike, places-same}
-use Rattle.cuts.proofs.Tally.{members-alike, owners-alike}
-use Rattle.cuts.proofs.cuts_by.Statement.{statement}
-use Rattle.cuts.proofs.cuts_by.Tie as tie
+use Rattle.groups.specs.Places.{ofTerminal}
+use Rattle.groups.specs.Steps.{members, cutsBy}
+use Rattle.groups.specs.Places.{of-alike, places-same}
+use Rattle.groups.proofs.ByTally.{members-alike, owners-alike}
+use Rattle.groups.proofs.cuts_by.Statement.{statement}
+use Rattle.groups.proofs.cuts_by.Tie as tie
 
 returns : tie.Need-returns
 unfolding cutsBy
@@ -19,10 +19,10 @@ returns c =
     let cut′ = labelled (a .n) (a .labels .now) in
     let e = put .before .before .before .sets .ensures in
     rw (
-      put .put-owners .ensures .0 ∙ owners-alike cut cut′ (a .labels .now) e _ (a .degree .now) (a .n),
+      put .put-owners .ensures .0 ∙ owners-alike cut cut′ (a .labels .now) e _ (a .ends .now) (a .n),
       put .put-owners .ensures .1
-          ∙ places-same (ofTerminal (look (a .degree .now)) (members cut (a .labels .now))) (ofTerminal (look (a .degree .now)) (members cut′ (a .labels .now))) (a .n) (s .pre .0)
-          (of-alike (look (a .degree .now)) (members cut (a .labels .now)) (members cut′ (a .labels .now)) (members-alike cut cut′ (a .labels .now) e)),
+          ∙ places-same (ofTerminal (look (a .ends .now)) (members cut (a .labels .now))) (ofTerminal (look (a .ends .now)) (members cut′ (a .labels .now))) (a .n) (s .pre .0)
+          (of-alike (look (a .ends .now)) (members cut (a .labels .now)) (members cut′ (a .labels .now)) (members-alike cut cut′ (a .labels .now) e)),
       c .terminal-sizes .ensures,
     ) refl
 

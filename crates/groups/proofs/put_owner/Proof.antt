@@ -7,9 +7,9 @@ use borrow.Author.Needs.{needs}
 use Rattle.network.specs.Limits.{SITES}
 use Rattle.bitset.specs.Members.{member}
 use Rattle.bitset.specs.Laws.{First, first-at, first-absent}
-use Rattle.cuts.proofs.Owners.{Claiming, claiming-start, claiming-kept, claiming-new, claiming-end}
-use Rattle.cuts.proofs.put_owner.Statement.{statement}
-use Rattle.cuts.proofs.put_owner.Tie as tie
+use Rattle.groups.proofs.Owners.{Claiming, claiming-start, claiming-kept, claiming-new, claiming-end}
+use Rattle.groups.proofs.put_owner.Statement.{statement}
+use Rattle.groups.proofs.put_owner.Tie as tie
 
 abbrev Inv-loop : tie.InvT-loop
 Inv-loop owner₀ cut a p₀ owner p = (p ≤ SITES) × Claiming owner₀ (member cut) a p owner

@@ -5,11 +5,11 @@ use Rattle.network.specs.Limits.{SITES}
 use Rattle.network.specs.Numbers.{look}
 use Rattle.theory.specs.Sums.{sum-eq}
 use Rattle.bitset.specs.Members.{member}
 use Rattle.groups.specs.Groups.{inWords}
-use Rattle.cuts.specs.Steps.{members}
-use Rattle.cuts.proofs.Owners.{claims-same}
-use Rattle.cuts.proofs.take_cut.Statement.{statement}
-use Rattle.cuts.proofs.take_cut.Tie as tie
+use Rattle.groups.specs.Steps.{members}
+use Rattle.groups.proofs.Owners.{claims-same}
+use Rattle.groups.proofs.take_cut.Statement.{statement}
+use Rattle.groups.proofs.take_cut.Tie as tie
 
 returns : tie.Need-returns
 unfolding members

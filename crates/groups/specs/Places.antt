@@ -1,4 +1,4 @@
--- Laws of the places of an outcome: what the list for the sites 1 .. n holds, one site more, its sum, and how often a number stands in it.
+-- A list with a place for each site: place x - 1 is that of site x. Then its laws: what it holds, one site more, its sum, and how often a number stands in it.
 use mathlib.Core.Path.{_≡_, refl, sym, ap, _∙_}
 use mathlib.Core.Logic.{_≢_}
 use mathlib.Core.List.{List, [], _∷_, _++_, map}
@@ -10,13 +10,19 @@ use native.Mathlib.Omega.{arith}
 use lib.ListN.{length, set, replicate, length-append, length-map, length-set, length-replicate, List·getD-append}
 use lib.Seq.{ext-getD, getD-append-add, getD-set-same, getD-set-other}
 use Rattle.network.specs.Limits.{SITES}
-use Rattle.network.specs.Numbers.{is, sum, over, count, look, upfrom}
+use Rattle.network.specs.Numbers.{pick, is, sum, over, count, look, upfrom}
 use Rattle.network.specs.Network.{sites}
 use Rattle.theory.specs.Sums.{pick-same, pick-other, is-other, cases, same?, sum-eq}
-use Rattle.theory.specs.Sites.{length-upfrom}
-use Rattle.theory.specs.Sites.{look-zeros}
+use Rattle.theory.specs.Sites.{length-upfrom, look-zeros}
 use Rattle.bitset.specs.Parts.{sum-past, over-upfrom}
-use Rattle.cuts.specs.Outcome.{places, ofTerminal}
+
+-- f at the sites 1 .. n, then 0 up to SITES places
+unfoldable pub places : ℕ → (ℕ → ℕ) → List ℕ
+places n f = map f (sites n) ++ replicate (SITES - n) 0
+
+-- f at a terminal, 0 at an inner site
+unfoldable pub ofTerminal : (ℕ → ℕ) → (ℕ → ℕ) → ℕ → ℕ
+ofTerminal terminal f x = pick (terminal x) 1 (f x) 0
 
 -- ---- f at terminals
 

@@ -5,19 +5,19 @@ use Prim.Native.Nat.{ℕ, _+_, _-_, _≤_}
 use native.Mathlib.Omega.{arith}
 use Rattle.network.specs.Limits.{SITES}
 use Rattle.network.specs.Numbers.{look}
-use Rattle.cuts.specs.Outcome.{places, ofTerminal}
-use Rattle.cuts.specs.Places.{places-none, places-terminal, places-inner}
-use Rattle.cuts.proofs.terminal_sizes.Statement.{statement}
-use Rattle.cuts.proofs.terminal_sizes.Tie as tie
+use Rattle.groups.specs.Places.{places, ofTerminal}
+use Rattle.groups.specs.Places.{places-none, places-terminal, places-inner}
+use Rattle.groups.proofs.terminal_sizes.Statement.{statement}
+use Rattle.groups.proofs.terminal_sizes.Tie as tie
 
 abbrev Inv-loop : tie.InvT-loop
-Inv-loop n labels degree leaving size₀ i₀ size i = (i ≤ n) × (size ≡ places i (ofTerminal (look degree) (λ a. look leaving (look labels a))))
+Inv-loop n labels ends leaving size₀ i₀ size i = (i ≤ n) × (size ≡ places i (ofTerminal (look ends) (λ a. look leaving (look labels a))))
 
 abbrev μ-loop : tie.MeasureT-loop
-μ-loop n labels degree leaving size₀ i₀ size i = n - i
+μ-loop n labels ends leaving size₀ i₀ size i = n - i
 
 loop-holds : tie.Need-loop-holds Inv-loop μ-loop
-loop-holds c = (omega arith, places-none (ofTerminal (look (c .args .degree .now)) (λ a. look (c .args .leaving .now) (look (c .args .labels .now) a))))
+loop-holds c = (omega arith, places-none (ofTerminal (look (c .args .ends .now)) (λ a. look (c .args .leaving .now) (look (c .args .labels .now) a))))
 
 -- the label of the site that is looked at has a place
 placed : (c : tie.In-loop Inv-loop μ-loop) → look (c .before .before .args .labels .now) (c .before .loop .i + 1) ≤ SITES
@@ -30,8 +30,8 @@ loop-again c =
     let i = top .loop .i in
     let sum-at : ℕ → ℕ = λ x. look (a .leaving .now) (look (a .labels .now) x) in
     ⊎-elim
-    (λ w. (omega arith, w .3 ∙ places-terminal (look (a .degree .now)) sum-at i (omega arith) (top .loop .inv .1) (w .0 .taken) refl))
-    (λ w. (omega arith, w .1 ∙ places-inner (look (a .degree .now)) sum-at i (omega arith) (top .loop .inv .1) (w .0 .left)))
+    (λ w. (omega arith, w .3 ∙ places-terminal (look (a .ends .now)) sum-at i (omega arith) (top .loop .inv .1) (w .0 .taken) refl))
+    (λ w. (omega arith, w .1 ∙ places-inner (look (a .ends .now)) sum-at i (omega arith) (top .loop .inv .1) (w .0 .left)))
     (c .if1 .came)
 
 returns : tie.Need-returns Inv-loop μ-loop
@@ -46,7 +46,6 @@ terminal-sizes-spec =
     Inv-loop
     μ-loop
     loop-holds
-    (λ c. omega arith)
     (λ c. omega arith)
     (λ c. omega arith)
     (λ c. omega arith)
