@@ -17,6 +17,7 @@ use Rattle.network.specs.Text.{bytes}
 use Rattle.network.specs.declared.Edition.{Edition}
 use Rattle.network.specs.declared.Pair.{Pair}
 use Rattle.theory.specs.Sums.{cases, same?}
+use Rattle.theory.specs.Ends.{ends-are-outer}
 use Rattle.theory.specs.Greatest.{balanced-again}
 use Rattle.theory.specs.Leaves.{Outer}
 use Rattle.theory.specs.Bounds.{what-fits-fits-the-balanced, the-same-multiflows-fit-iff-the-balanced-agree, a-full-multiflow-has-the-greatest-total}
@@ -24,15 +25,15 @@ use Rattle.walk.specs.Sound.{arises}
 use Rattle.sheet.specs.Sheet.{Network, Read, refused, accepted, readSheet}
 use Rattle.sheet.specs.SheetTheorem.{IsNetwork, an-accepted-sheet-is-a-tree}
 use Rattle.report.specs.Report.{report}
+use Rattle.planner.specs.Small.{a-report-is-small}
 use Rattle.planner.specs.Outcome.{Planned, number, lineOf, lengthOf, planned}
 use Rattle.demands.specs.Printed.{IsPlan, siteCount, isEnd, endsAmong, Printed, printedBy, printedOwner, setSize, sizeSum}
-use Rattle.demands.specs.Plans.{the-ends-have-one-link, multiflow-is-plan, plan-is-multiflow, fullPlan, trimmed-is-greatest, full-plan-is-sound, full-plan-fits}
+use Rattle.demands.specs.Plans.{multiflow-is-plan, plan-is-multiflow, fullPlan, trimmed-is-greatest, full-plan-is-sound, full-plan-fits}
 use Rattle.demands.specs.Lists.{map-map, map-own}
 use Rattle.demands.specs.ReadBack.{planSays}
 use Rattle.demands.specs.Sets.{owners-tell-the-cuts, told-sets-are-owned, told-sizes-sum-to-the-terminals}
 use Rattle.demands.specs.Refusals.{sheets-are-refused-with-1-to-8}
 use Rattle.demands.specs.Outcomes.{sheet-refused, report-too-long, report-delivered, the-plan-is-printed}
-use Rattle.demands.specs.Length.{report-is-small}
 
 -- ---- demand 1: a refusal with number and line and the buffer as it was, or a full report
 -- (that the code does just this, without harm and to an end, for sheets and buffers of any length and content, is the contract of `planner`)
@@ -100,7 +101,7 @@ module _ (ed : Edition) (s b : List ℕ) where
 
 -- every report on a sheet of edition 1 fits 65,536 bytes
 pub a-report-fits-65536-bytes : (s : List ℕ) (net : Network) → readSheet edition1 s ≡ accepted net → length (report s net) ≤ 65536
-a-report-fits-65536-bytes s net read = report-is-small (an-accepted-sheet-is-a-tree edition1 s net read)
+a-report-fits-65536-bytes s net read = a-report-is-small (an-accepted-sheet-is-a-tree edition1 s net read)
 
 -- ---- demands 2 and 3, stated of a network and of what is printed for it
 
@@ -176,7 +177,7 @@ plan-shows-sheet net = record { heading = refl; links = refl; sizes = refl; site
 
 module _ {ed : Edition} {s : List ℕ} {net : Network} (N : IsNetwork ed s net) where
   abbrev O : Outer (net .links) (siteCount net) (isEnd net)
-  O = the-ends-have-one-link (N .tree)
+  O = ends-are-outer (N .tree)
 
   plan-meets-demand-2 : Demand2 net (planSays net)
   unfolding planSays setSize

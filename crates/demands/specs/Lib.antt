@@ -10,4 +10,3 @@ pub mod ReadBack
 pub mod Sets
 pub mod Refusals
 pub mod Outcomes
-pub mod Length

@@ -1,10 +1,10 @@
 -- Laws of lists made by a function: of each element, of each place, of each site.
 use mathlib.Core.Path.{_≡_, refl, ap, _∙_}
 use mathlib.Core.List.{List, [], _∷_, map}
-use Prim.Native.Nat.{ℕ, zero, suc, _+_, _-_, _≤_, _<_}
+use Prim.Native.Nat.{ℕ, zero, suc, _+_, _≤_, _<_}
 use native.Mathlib.Omega.{arith}
 use lib.ListN.{length, getD}
-use Rattle.network.specs.Numbers.{look, upfrom, Each}
+use Rattle.network.specs.Numbers.{upfrom, Each}
 use Rattle.network.specs.Network.{Site, sites}
 
 module _ {A B : Type 0} where
@@ -41,13 +41,3 @@ each-from P b (suc n) h = (h b (omega arith) (omega arith), each-from P (suc b) 
 
 pub each-site : (P : ℕ → Type 0) (n : ℕ) → ((x : ℕ) → Site n x → P x) → Each P (sites n)
 each-site P n h = each-from P 1 n (λ i l k. h i (omega arith))
-
--- the value for a site stands at its number less 1
-look-from : (f : ℕ → ℕ) (b n i : ℕ) → i < n → look (map f (upfrom b n)) i ≡ f (b + i)
-unfolding upfrom
-look-from f b zero i l = absurd (omega arith)
-look-from f b (suc n) zero l = ap f (omega arith)
-look-from f b (suc n) (suc i) l = look-from f (suc b) n i (omega arith) ∙ ap f (omega arith)
-
-pub look-site : (f : ℕ → ℕ) (n x : ℕ) → Site n x → look (map f (sites n)) (x - 1) ≡ f x
-look-site f n x p = look-from f 1 n (x - 1) (omega arith) ∙ ap f (omega arith)

@@ -7,17 +7,18 @@ use native.Mathlib.Omega.{arith}
 use native.Mathlib.Decide.{decLt}
 use borrow.Author.Tests.{lt-leb}
 use lib.Dec.{leb}
-use lib.ListN.{length, List·getD-eq-default}
+use lib.ListN.{length}
 use Rattle.network.specs.Network.{Site}
 use Rattle.network.specs.Text.{bytes}
 use Rattle.network.specs.declared.Edition.{Edition}
 use Rattle.theory.specs.Sums.{cases}
 use Rattle.line_kinds.specs.LineKinds.{all, isLetterOrDigit, isName}
-use Rattle.line_kinds.specs.LineKindLaws.{both, name-length as length-of-a-name}
+use Rattle.line_kinds.specs.LineKindLaws.{both}
 use Rattle.sheet.specs.Sheet.{Network, lookup}
 use Rattle.names.specs.Names.{nameAt}
 use Rattle.names.specs.LookupLaws.{Says, lookup-says}
 use Rattle.sheet.specs.SheetTheorem.{IsNetwork}
+use Rattle.planner.specs.Small.{name-or-nothing}
 use Rattle.names.specs.declared.Found.{Found}
 use Rattle.names.specs.declared.Found.the-variants.{At, Absent}
 use Rattle.demands.specs.Printed.{siteFound, siteNamed}
@@ -66,14 +67,5 @@ module _ {ed : Edition} {s : List ℕ} {net : Network} (N : IsNetwork ed s net) 
       by (At u) h = absurd (let z : _≡_ {A = ℕ} 0 1 = cc (N .names (h .0) (h .2) .name, h .3) in omega arith)
       by Absent h = refl
 
-  -- what is written for a number is the name of a site, or nothing
-  name-or-nothing : (P : List ℕ → Type 0) → ((f : List ℕ) → isName f ≡ true → P f) → P [] → (v : ℕ) → P (nameAt s (net .names) (v - 1))
-  name-or-nothing P h e v = cases (decLt (v - 1) (length (net .names)))
-      (λ l. h (nameAt s (net .names) (v - 1)) (N .names (v - 1) l .name))
-      (λ l. rw (List·getD-eq-default (net .names) (0, 0) {n = v - 1} (omega arith)) e)
-
   pub site-name-is-plain : (v : ℕ) → Plain (nameAt s (net .names) (v - 1))
-  site-name-is-plain = name-or-nothing Plain a-name-is-plain tt
-
-  pub site-name-is-short : (v : ℕ) → length (nameAt s (net .names) (v - 1)) ≤ 12
-  site-name-is-short = name-or-nothing (λ f. length f ≤ 12) (λ f e. length-of-a-name f e .1) (omega arith)
+  site-name-is-plain = name-or-nothing N Plain a-name-is-plain tt

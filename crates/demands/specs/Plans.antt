@@ -1,17 +1,15 @@
 -- Plans and multiflows are one thing, since no end stands between two others; and the pair list of trimmed sizes is a plan that fits and
 -- loads each link with just twice its trimmed size.
-use mathlib.Core.Path.{_≡_, sym, _∙_}
 use mathlib.Core.List.{List}
 use Prim.Native.Nat.{ℕ}
 use native.Mathlib.Omega.{arith}
 use Rattle.network.specs.Numbers.{look}
-use Rattle.network.specs.Network.{Links, Tree, Route, Multiflow, Fits, ends}
+use Rattle.network.specs.Network.{Links, Tree, Route, Multiflow, Fits}
 use Rattle.network.specs.Trimming.{Greatest, balanced}
 use Rattle.network.specs.Pairing.{pairList}
 use Rattle.network.specs.declared.Pair.{Pair}
 use Rattle.theory.specs.Greatest.{balanced-is-greatest}
 use Rattle.theory.specs.Leaves.{Outer, outer-route}
-use Rattle.theory.specs.Ends.{an-end-is-a-leaf}
 use Rattle.walk.specs.Lists.{each-map}
 use Rattle.walk.specs.PairingTheorem.{pair-list-is-sound}
 use Rattle.walk.specs.Sound.{Sound}
@@ -48,7 +46,3 @@ module _ {ls : Links} {n : ℕ} (T : Tree ls n) (terminal : ℕ → ℕ) (O : Ou
 
     pub full-plan-fits : Fits ls 2 (look c) fullPlan
     full-plan-fits j l = omega (arith, full-plan-is-sound .loads j l, trimmed-is-greatest .below j l)
-
--- the ends of a tree have one link each
-pub the-ends-have-one-link : {ls : Links} {n : ℕ} → Tree ls n → Outer ls n (look (ends ls n))
-the-ends-have-one-link T v p e = sym (an-end-is-a-leaf T v) ∙ e

@@ -15,6 +15,7 @@ use Rattle.network.specs.Text.{bytes}
 use Rattle.network.specs.declared.Edition.{Edition}
 use Rattle.network.specs.declared.Pair.{Pair}
 use Rattle.theory.specs.Sums.{same?, pick-same, pick-other, pick-cases}
+use Rattle.theory.specs.Ends.{ends-are-outer}
 use Rattle.theory.specs.Greatest.{balanced-has-each-link}
 use Rattle.theory.specs.Owners.{owner-or-none}
 use Rattle.walk.specs.Lists.{each-map}
@@ -24,12 +25,13 @@ use Rattle.names.specs.Names.{nameAt}
 use Rattle.sheet.specs.SheetTheorem.{IsNetwork}
 use Rattle.report.specs.Report.{decimal, ownerName, planOf, report}
 use Rattle.demands.specs.Printed.{Record, records, headed, lastField, siteNamed, isEnd, endsAmong, EndSet, Printed, readRecords, readReport}
-use Rattle.demands.specs.Plans.{the-ends-have-one-link, full-plan-is-sound}
+use Rattle.demands.specs.Plans.{full-plan-is-sound}
 use Rattle.demands.specs.Parsing.{decimal-read-back}
 use Rattle.demands.specs.Records.{linkFields, siteFields, cutFields, cutLines, pairFields, first-line, link-lines, site-lines, cut-lines, pair-lines}
 use Rattle.demands.specs.Names.{name-read-back, dash-read-back, site-name-is-plain}
 use Rattle.demands.specs.Sets.{cutOf}
-use Rattle.demands.specs.Lists.{map-map, map-same, map-own, map-places, each-site, look-site}
+use Rattle.theory.specs.Sites.{look-site}
+use Rattle.demands.specs.Lists.{map-map, map-same, map-own, map-places, each-site}
 
 -- what the report of a network says: the plan of the network
 unfoldable pub planSays : Network → Printed
@@ -94,7 +96,7 @@ module _ {ed : Edition} {s : List ℕ} {net : Network} (N : IsNetwork ed s net) 
     unfolding report planOf
     by-link l d e h =
         let p = planOf s net in
-        ap (map f) (link-lines p (site-name-is-plain N))
+        ap (map f) (link-lines p refl refl (site-name-is-plain N))
         ∙ map-map f (linkFields p) (upfrom 0 (length (p .ones)))
         ∙ rw (length-map ls (λ r. r .0) ∙ e) (map-places l d (λ j. f (linkFields p j))
         (λ j k. rw (List·getD-map (λ r. r .0) ls j (0, 0), List·getD-map (λ r. r .1) ls j (0, 0)) (h j (omega arith))))
@@ -118,7 +120,7 @@ module _ {ed : Edition} {s : List ℕ} {net : Network} (N : IsNetwork ed s net) 
     unfolding report planOf
     by-site h =
         let p = planOf s net in
-        ap (map f) (site-lines p (site-name-is-plain N))
+        ap (map f) (site-lines p refl refl (site-name-is-plain N))
         ∙ map-map f (siteFields p) (sites n)
         ∙ map-same (λ x. f (siteFields p x)) g (sites n)
         (each-site (λ x. f (siteFields p x) ≡ g x) n (λ x q. rw (look-site ownerOf n x q) (h x q)))
@@ -157,12 +159,12 @@ module _ {ed : Edition} {s : List ℕ} {net : Network} (N : IsNetwork ed s net) 
 
   sets-back : map setSaid (headed (bytes "X") (records (report s net))) ≡ map (cutOf ls n c t) (endsAmong end (sites n))
   unfolding report planOf
-  sets-back = ap (map setSaid) (cut-lines (planOf s net) (site-name-is-plain N)) ∙ sets-among (sites n) (each-site (Site n) n (λ x q. q))
+  sets-back = ap (map setSaid) (cut-lines (planOf s net) refl refl (site-name-is-plain N)) ∙ sets-among (sites n) (each-site (Site n) n (λ x q. q))
 
   -- ---- the `P` lines
 
   routes : Each (Route ls n end) pairs
-  routes = full-plan-is-sound (N .tree) end (the-ends-have-one-link (N .tree)) (net .capacities) .routes
+  routes = full-plan-is-sound (N .tree) end (ends-are-outer (N .tree)) (net .capacities) .routes
 
   abbrev pairSaid : Record → Pair
   pairSaid l = record { first = site (field l 1); second = site (field l 2); amount = value (field l 3) }
@@ -171,7 +173,7 @@ module _ {ed : Edition} {s : List ℕ} {net : Network} (N : IsNetwork ed s net) 
   unfolding report planOf
   plan-back =
       let p = planOf s net in
-      ap (map pairSaid) (pair-lines p (site-name-is-plain N))
+      ap (map pairSaid) (pair-lines p refl refl (site-name-is-plain N))
       ∙ map-map pairSaid (pairFields p) pairs
       ∙ map-same (λ e. pairSaid (pairFields p e)) (λ e. e) pairs
       (each-map (Route ls n end) (λ e. pairSaid (pairFields p e) ≡ e)
@@ -182,15 +184,15 @@ module _ {ed : Edition} {s : List ℕ} {net : Network} (N : IsNetwork ed s net) 
 
   heading-back : field (getD (records (report s net)) 0 []) 0 ≡ bytes "plan"
   unfolding report planOf
-  heading-back = ap (λ l. field l 0) (first-line (planOf s net) (site-name-is-plain N))
+  heading-back = ap (λ l. field l 0) (first-line (planOf s net) refl refl (site-name-is-plain N))
 
   total-back : value (field (getD (records (report s net)) 0 []) 1) ≡ total pairs
   unfolding report planOf
-  total-back = ap (λ l. value (field l 1)) (first-line (planOf s net) (site-name-is-plain N)) ∙ decimal-read-back (total pairs)
+  total-back = ap (λ l. value (field l 1)) (first-line (planOf s net) refl refl (site-name-is-plain N)) ∙ decimal-read-back (total pairs)
 
   count-back : value (field (getD (records (report s net)) 0 []) 2) ≡ length pairs
   unfolding report planOf
-  count-back = ap (λ l. value (field l 2)) (first-line (planOf s net) (site-name-is-plain N)) ∙ decimal-read-back (length pairs)
+  count-back = ap (λ l. value (field l 2)) (first-line (planOf s net) refl refl (site-name-is-plain N)) ∙ decimal-read-back (length pairs)
 
   -- ---- the report
 

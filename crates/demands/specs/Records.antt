@@ -12,7 +12,7 @@ use Rattle.network.specs.Text.{bytes}
 use Rattle.network.specs.declared.Pair.{Pair}
 use Rattle.theory.specs.Sums.{same?, pick-same, pick-other, pick-cases}
 use Rattle.line_kinds.specs.LineKinds.{same}
-use Rattle.report.specs.Report.{decimal, lines, Plan, planRecord, linkRecord, linkLine, ownerName, siteLine, cutRecord, cutLine, pairLine, reportOf}
+use Rattle.report.specs.Report.{decimal, lines, Plan, headRecord, linkRecord, linkLine, ownerName, siteRecord, siteLine, cutRecord, cutLine, pairLine, reportOf}
 use Rattle.demands.specs.Printed.{Record, linesOf, records, headed}
 use Rattle.demands.specs.Parsing.{Plain, line-read-back, decimal-plain, lines-read-back, headed-append, headed-parts}
 
@@ -23,7 +23,7 @@ module _ (p : Plan) where
   planFields = bytes "plan" ∷ decimal (total (p .pairs)) ∷ decimal (length (p .pairs)) ∷ []
 
   abbrev pub linkFields : ℕ → Record
-  linkFields j = bytes "L" ∷ p .names (look (p .ones) j) ∷ p .names (look (p .twos) j) ∷ decimal (look (p .capacities) j) ∷ decimal (look (p .trimmed) j) ∷ []
+  linkFields j = bytes "L" ∷ p .names (look (p .ones) j) ∷ p .names (look (p .twos) j) ∷ decimal (look (p .capacities) j) ∷ decimal (look (p .shown) j) ∷ []
 
   abbrev pub siteFields : ℕ → Record
   siteFields x = bytes "N" ∷ p .names x ∷ ownerName (p .names) (look (p .owners) (x - 1)) ∷ []
@@ -36,7 +36,7 @@ module _ (p : Plan) where
 
   -- the `X` line of an end, none of another site
   abbrev pub cutLines : ℕ → List Record
-  cutLines a = pick (look (p .degrees) (a - 1)) 1 (cutFields a ∷ []) []
+  cutLines a = pick (look (p .ends) a) 1 (cutFields a ∷ []) []
 
   -- the lines of each letter, in order
   abbrev linkRows : List Record
@@ -62,26 +62,27 @@ nothing-kept false = refl
 
 -- ---- the lines
 
-module _ (p : Plan) (plain : (v : ℕ) → Plain (p .names v)) where
+-- a plan headed `plan`, with no lines before the pairs
+module _ (p : Plan) (word : p .word ≡ bytes "plan") (none : p .before ≡ []) (plain : (v : ℕ) → Plain (p .names v)) where
   owner-plain : (a : ℕ) → Plain (ownerName (p .names) a)
   unfolding ownerName
   owner-plain a = pick-cases Plain a 0 (bytes "-") (p .names a) (λ e. omega arith) (λ d. plain a)
 
-  plan-back : (x : List ℕ) → records (planRecord (total (p .pairs)) (length (p .pairs)) ++ x) ≡ planFields p ∷ records x
-  unfolding planRecord
-  plan-back x = line-read-back _ _ (omega arith, (decimal-plain _, (decimal-plain _, tt))) x
+  plan-back : (x : List ℕ) → records (headRecord (p .word) (total (p .pairs)) (length (p .pairs)) ++ x) ≡ planFields p ∷ records x
+  unfolding headRecord
+  plan-back x = rw word (line-read-back _ _ (omega arith, (decimal-plain _, (decimal-plain _, tt))) x)
 
-  link-back : (j : ℕ) (x : List ℕ) → records (linkLine (p .names) (p .ones) (p .twos) (p .capacities) (p .trimmed) j ++ x) ≡ linkFields p j ∷ records x
+  link-back : (j : ℕ) (x : List ℕ) → records (linkLine (p .names) (p .ones) (p .twos) (p .capacities) (p .shown) j ++ x) ≡ linkFields p j ∷ records x
   unfolding linkLine linkRecord
   link-back j x = line-read-back _ _ (omega arith, (plain _, (plain _, (decimal-plain _, (decimal-plain _, tt))))) x
 
   site-back : (v : ℕ) (x : List ℕ) → records (siteLine (p .names) (p .owners) v ++ x) ≡ siteFields p v ∷ records x
-  unfolding siteLine
+  unfolding siteLine siteRecord
   site-back v x = line-read-back _ _ (omega arith, (plain _, (owner-plain _, tt))) x
 
-  cut-back : (a : ℕ) (x : List ℕ) → records (cutLine (p .names) (p .degrees) (p .cutSizes) (p .cutCounts) a ++ x) ≡ cutLines p a ++ records x
+  cut-back : (a : ℕ) (x : List ℕ) → records (cutLine (p .names) (p .ends) (p .cutSizes) (p .cutCounts) a ++ x) ≡ cutLines p a ++ records x
   unfolding cutLine cutRecord
-  cut-back a x = same? (look (p .degrees) (a - 1)) 1
+  cut-back a x = same? (look (p .ends) a) 1
       (λ e. rw (pick-same {A = List ℕ} e, pick-same {A = List Record} e) (line-read-back _ _ (omega arith, (plain _, (decimal-plain _, (decimal-plain _, tt)))) x))
       (λ d. rw (pick-other {A = List ℕ} d, pick-other {A = List Record} d))
 
@@ -93,12 +94,13 @@ module _ (p : Plan) (plain : (v : ℕ) → Plain (p .names v)) where
   report-back : records (reportOf p) ≡ planFields p ∷ (linkRows p ++ (siteRows p ++ (cutRows p ++ pairRows p)))
   unfolding reportOf records linesOf
   report-back =
-      let heading = planRecord (total (p .pairs)) (length (p .pairs)) in
-      let ls = lines (linkLine (p .names) (p .ones) (p .twos) (p .capacities) (p .trimmed)) (upfrom 0 (length (p .ones))) in
+      let heading = headRecord (p .word) (total (p .pairs)) (length (p .pairs)) in
+      let ls = lines (linkLine (p .names) (p .ones) (p .twos) (p .capacities) (p .shown)) (upfrom 0 (length (p .ones))) in
       let ns = lines (siteLine (p .names) (p .owners)) (sites (p .size)) in
-      let xs = lines (cutLine (p .names) (p .degrees) (p .cutSizes) (p .cutCounts)) (sites (p .size)) in
+      let xs = lines (cutLine (p .names) (p .ends) (p .cutSizes) (p .cutCounts)) (sites (p .size)) in
       let ps = lines (pairLine (p .names)) (p .pairs) in
-      let regroup : heading ++ ls ++ ns ++ xs ++ ps ≡ heading ++ (ls ++ (ns ++ (xs ++ (ps ++ [])))) = rw (append-nil ps) (simp append-assoc) in
+      let regroup : heading ++ ls ++ ns ++ xs ++ p .before ++ ps ≡ heading ++ (ls ++ (ns ++ (xs ++ (ps ++ [])))) =
+        rw (none, append-nil ps) (simp append-assoc) in
       ap records regroup
       ∙ plan-back (ls ++ (ns ++ (xs ++ (ps ++ []))))
       ∙ ap (λ y. planFields p ∷ y) (lines-read-back _ (λ j. linkFields p j ∷ []) link-back (upfrom 0 (length (p .ones))) (ns ++ (xs ++ (ps ++ [])))
@@ -111,7 +113,7 @@ module _ (p : Plan) (plain : (v : ℕ) → Plain (p .names v)) where
 
   cut-line : (k : List ℕ) (a : ℕ) → headed k (cutLines p a) ≡ cond (same (bytes "X") k) (cutLines p a) []
   unfolding headed
-  cut-line k a = pick-cases (λ r. headed k r ≡ cond (same (bytes "X") k) r []) (look (p .degrees) (a - 1)) 1 (cutFields p a ∷ []) []
+  cut-line k a = pick-cases (λ r. headed k r ≡ cond (same (bytes "X") k) r []) (look (p .ends) a) 1 (cutFields p a ∷ []) []
       (λ e. refl) (λ d. nothing-kept (same (bytes "X") k))
 
   -- the lines headed k: those of the letter k

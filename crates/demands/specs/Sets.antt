@@ -11,11 +11,11 @@ use Rattle.network.specs.Network.{Links, Site, Tree, sites, one, two, atTermina
 use Rattle.network.specs.Trimming.{Greatest}
 use Rattle.network.specs.Cuts.{group, inCut, cutSize, cutCount, owner}
 use Rattle.theory.specs.Sums.{same?, pick-same, pick-other, is-same, is-other, is-one, is-iff, sum-eq}
-use Rattle.theory.specs.Sites.{over-eq}
+use Rattle.theory.specs.Sites.{over-eq, look-site}
 use Rattle.theory.specs.TerminalCuts.{cut-sizes-sum-to-the-terminals}
 use Rattle.theory.specs.Owners.{owner-iff-in-cut}
 use Rattle.demands.specs.Printed.{EndSet, sizeSum, endsAmong}
-use Rattle.demands.specs.Lists.{each-site, look-site}
+use Rattle.demands.specs.Lists.{each-site}
 
 -- the terminal cut of a, as an end set
 abbrev pub cutOf : Links → ℕ → (ℕ → ℕ) → (ℕ → ℕ) → ℕ → EndSet

@@ -9,48 +9,50 @@ use borrow.Author.Tests.{le-leb, lt-leb, leb-true, leb-false}
 use lib.Dec.{leb}
 use lib.ListN.{length, drop}
 use lib.Seq.{sets-eq}
+use Rattle.network.specs.Limits.{REPORT}
 use Rattle.network.specs.Edition.{edition1}
-use Rattle.sheet.specs.declared.Network.{Network}
+use Rattle.network.specs.declared.Pairs.{Pairs}
 use Rattle.writers.specs.Wrote.{Wrote}
-use Rattle.report.specs.Report.{report}
-use Rattle.working.specs.declared.Worked.{Worked}
-use Rattle.full_report.specs.Ready.{Ready, reportOfRead, reportFor}
+use Rattle.report.specs.Report.{Plan, reportOf, report}
 use Rattle.planner.specs.Outcome.{deliver, planRead, planned}
+use Rattle.planner.specs.Ready.{Ready}
 use Rattle.planner.specs.declared.Outcome.the-variants.{Report, Refused}
 
--- whether the report of the sheet s goes into so many bytes: no report has more than 65536
-unfoldable pub fits : List ℕ → ℕ → Bool
-fits s room = cond (leb 65536 room) true (leb (length (reportFor s)) room)
+-- whether the report of a plan goes into so many bytes: no report has more than REPORT
+unfoldable pub fits : Plan → ℕ → Bool
+fits p room = cond (leb REPORT room) true (leb (length (reportOf p)) room)
 
-pub no-room : (s : List ℕ) (room : ℕ) → fits s room ≡ false → room < length (reportFor s)
+pub no-room : (p : Plan) (room : ℕ) → fits p room ≡ false → room < length (reportOf p)
 unfolding fits
-no-room s room e = by (leb 65536 room) e
+no-room p room e = by (leb REPORT room) e
   where
-    by : (t : Bool) → cond t true (leb (length (reportFor s)) room) ≡ false → room < length (reportFor s)
+    by : (t : Bool) → cond t true (leb (length (reportOf p)) room) ≡ false → room < length (reportOf p)
     by true q = absurd (let z : _≡_ {A = ℕ} 0 1 = cc in omega arith)
     by false q = leb-false _ _ q
 
-pub room-enough : (s : List ℕ) (room : ℕ) → fits s room ≡ true → length (reportFor s) ≤ 65536 → length (reportFor s) ≤ room
+pub room-enough : (p : Plan) (room : ℕ) → fits p room ≡ true → length (reportOf p) ≤ REPORT → length (reportOf p) ≤ room
 unfolding fits
-room-enough s room e l = by (leb 65536 room) refl e
+room-enough p room e l = by (leb REPORT room) refl e
   where
-    by : (t : Bool) → leb 65536 room ≡ t → cond t true (leb (length (reportFor s)) room) ≡ true → length (reportFor s) ≤ room
-    by true p q = omega (arith, leb-true 65536 room p)
-    by false p q = leb-true _ _ q
+    by : (t : Bool) → leb REPORT room ≡ t → cond t true (leb (length (reportOf p)) room) ≡ true → length (reportOf p) ≤ room
+    by true q r = omega (arith, leb-true REPORT room q)
+    by false q r = leb-true _ _ r
 
-module _ (s : List ℕ) (network : Network) (w : Worked) (r : Ready s network w) where
+module _ {s starting stopping : List ℕ} {p : Plan} {pairs : Pairs} (r : Ready s starting stopping p pairs) where
   -- a report that is longer than the buffer
-  pub too-long : (b : List ℕ) → length b < length (reportFor s) → planned edition1 s b ≡ record { outcome = Refused 9 0; buffer = b }
-  unfolding planned planRead deliver reportOfRead
-  too-long b h = rw (r .read) (rw (lt-leb (length (report s (r .net))) (length b) (rw (r .read) at h)))
+  pub too-long : (b : List ℕ) → length b < length (reportOf p) → planned edition1 s b ≡ record { outcome = Refused 9 0; buffer = b }
+  unfolding planned planRead deliver
+  too-long b h = rw (r .read, lt-leb (length (report s (r .net))) (length b) (rw (r .shows) at h))
 
   -- a report that is written into a buffer long enough
-  pub long-enough : (b after : List ℕ) (k : ℕ) → length (reportFor s) ≤ length b → Wrote b 0 (reportFor s) after k
+  pub long-enough : (b after : List ℕ) (k : ℕ) → length (reportOf p) ≤ length b → Wrote b 0 (reportOf p) after k
       → planned edition1 s b ≡ record { outcome = Report k; buffer = after }
-  unfolding planned planRead deliver reportOfRead
+  unfolding planned planRead deliver
   long-enough b after k h v =
-      let h′ : length (report s (r .net)) ≤ length b = rw (r .read) at h in
-      let w : Wrote b 0 (report s (r .net)) after k = rw (r .read) at v in
-      let e : k ≡ length (report s (r .net)) = omega (arith, w .next) in
-      let a : after ≡ report s (r .net) ++ drop (length (report s (r .net))) b = w .stored ∙ sets-eq (report s (r .net)) b 0 (omega arith) ∙ ap (λ i. report s (r .net) ++ drop i b) (zero-add (length (report s (r .net)))) in
-      rw (r .read, le-leb (length (report s (r .net))) (length b) h′, e, a)
+      let text = report s (r .net) in
+      let enough : length text ≤ length b = rw (r .shows) at h in
+      let w : Wrote b 0 text after k = rw (r .shows) at v in
+      let e : k ≡ length text = omega (arith, w .next) in
+      let a : after ≡ text ++ drop (length text) b =
+        w .stored ∙ sets-eq text b 0 (omega arith) ∙ ap (λ i. text ++ drop i b) (zero-add (length text)) in
+      rw (r .read, le-leb (length text) (length b) enough, e, a)

@@ -1,4 +1,8 @@
 pub mod Outcome
-pub mod Fits
-pub mod Worked
 pub mod Answers
+pub mod Small
+pub mod Shows
+pub mod Ready
+pub mod Taken
+pub mod Works
+pub mod Fits

@@ -1,17 +1,27 @@
 // Planning a sheet.
 ghost use mathlib.Core.Path.{_≡_};
+ghost use mathlib.Core.List.{[]};
 ghost use Prim.Native.Nat.{_≤_};
-ghost use lib.ListN.{length};
-ghost use Rattle.network.specs.Edition.{edition1};
+ghost use lib.ListN.{length, take};
+ghost use Rattle.network.specs.Edition.{edition1, largest};
+ghost use Rattle.network.specs.Limits.{SITES};
+ghost use Rattle.network.specs.Numbers.{look};
+ghost use Rattle.network.specs.Text.{bytes};
+ghost use Rattle.network.specs.Trimming.{balanced};
+ghost use Rattle.tree.specs.Accepted.{TreeWithin};
+ghost use Rattle.tree.specs.Offer.{links};
+ghost use Rattle.report.specs.Shown.{shownBy};
 ghost use Rattle.planner.specs.Outcome.{planned, answered};
-ghost use Rattle.full_report.specs.Ready.{Ready};
+ghost use Rattle.planner.specs.Ready.{TakenApart, Charted, Ready};
+ghost use Rattle.planner.specs.Taken.{Listed};
 ghost use Rattle.planner.specs.Fits.{fits};
-ghost use Rattle.planner.specs.Worked.{Listed};
-use full_report::write_plan;
+use network::CHAINS;
+use network::PLACES;
+use network::Pairs;
 use network::REPORT;
+use network::SITES;
 use sheet::Answer;
-use sheet::Network;
-use working::Worked;
+use sheet::Lists;
 
 // What planning comes to: a report of so many bytes, or a refusal with its number and line.
 pub enum Outcome {
@@ -19,44 +29,158 @@ pub enum Outcome {
     Refused { number: u64, line: usize },
 }
 
-// Whether the report of a network goes into so many bytes. Its length is measured only where there are fewer than the longest report has.
-fn fits(sheet: &[u8], network: Network, worked: Worked, room: usize) -> bool
-    requires { ⌜ Ready (now sheet) network worked ⌝ }
-    ensures { λ r. ⌜ r ≡ fits (now (sheet .entry)) room ⌝ }
+// Whether the report of lists goes into so many bytes. Its length is measured only where there are fewer than the longest report has.
+fn fits(
+    sheet: &[u8],
+    start: &[usize],
+    end: &[usize],
+    n: usize,
+    one: &[usize],
+    two: &[usize],
+    capacity: &[u64],
+    trimmed: &[u64],
+    ends: &[u8; PLACES],
+    owner: &[usize],
+    size: &[u64],
+    count: &[usize],
+    pairs: Pairs,
+    room: usize,
+) -> bool
+    requires { ⌜ Ready (now sheet) (now start) (now end)
+        (shownBy (bytes "plan") [] (now sheet) (now start) (now end) n (now one) (now two) (now capacity) (now trimmed) (now ends) (now owner) (now size) (now count) pairs) pairs ⌝ }
+    ensures { λ r. ⌜ r ≡ fits (shownBy (bytes "plan") [] (now (sheet .entry)) (now (start .entry)) (now (end .entry)) n
+        (now (one .entry)) (now (two .entry)) (now (capacity .entry)) (now (trimmed .entry)) (now (ends .entry)) (now (owner .entry)) (now (size .entry)) (now (count .entry)) pairs) room ⌝ }
 {
     if REPORT <= room {
         return true;
     }
     let mut none = [0u8; 1];
-    let length = write_plan(sheet, network, worked, &mut none);
+    let length = report::write(
+        b"plan", b"", sheet, start, end, n, one, two, capacity, trimmed, ends, owner, size, count, pairs, &mut none,
+    );
     length <= room
 }
 
-// The report of a network into the buffer; a buffer too short for it keeps its bytes.
-fn deliver(sheet: &[u8], network: Network, worked: Worked, report: &mut [u8]) -> Outcome
-    requires { ⌜ Ready (now sheet) network worked ⌝ }
+// The report of lists into the buffer; a buffer too short for it keeps its bytes.
+fn deliver(
+    sheet: &[u8],
+    start: &[usize],
+    end: &[usize],
+    n: usize,
+    one: &[usize],
+    two: &[usize],
+    capacity: &[u64],
+    trimmed: &[u64],
+    ends: &[u8; PLACES],
+    owner: &[usize],
+    size: &[u64],
+    count: &[usize],
+    pairs: Pairs,
+    report: &mut [u8],
+) -> Outcome
+    requires { ⌜ Ready (now sheet) (now start) (now end)
+        (shownBy (bytes "plan") [] (now sheet) (now start) (now end) n (now one) (now two) (now capacity) (now trimmed) (now ends) (now owner) (now size) (now count) pairs) pairs ⌝ }
     ensures told { λ r. ⌜ r ≡ planned edition1 (now (sheet .entry)) (now (report .entry)) .outcome ⌝ }
     ensures left { λ r. ⌜ now (report .exit) ≡ planned edition1 (now (sheet .entry)) (now (report .entry)) .buffer ⌝ }
 {
-    if fits(sheet, network, worked, report.len()) {
-        let length = write_plan(sheet, network, worked, report);
+    let room = report.len();
+    if fits(sheet, start, end, n, one, two, capacity, trimmed, ends, owner, size, count, pairs, room) {
+        let length = report::write(
+            b"plan", b"", sheet, start, end, n, one, two, capacity, trimmed, ends, owner, size, count, pairs, report,
+        );
         return Outcome::Report { length };
     }
     Outcome::Refused { number: 9, line: 0 }
 }
 
-// The network of an accepted sheet, planned.
-fn plan_network(sheet: &[u8], network: Network, report: &mut [u8]) -> Outcome
+// The balanced capacities of a tree, from the front of a list.
+fn balanced_of(
+    n: usize,
+    order: &[usize; SITES],
+    ends: &[u8; PLACES],
+    last: &[usize; PLACES],
+    before: &[usize; CHAINS],
+    one: &[usize],
+    two: &[usize],
+    capacity: &[u64],
+) -> [u64; SITES]
+    requires { ⌜ TreeWithin largest n (now one) (now two) (now capacity) × Charted n (now one) (now two) (now order) (now ends) (now last) (now before) ⌝ }
+    ensures { λ r. ⌜ (take (length (now (one .entry))) r ≡ balanced (links (now (one .entry)) (now (two .entry))) n (look (now (ends .entry))) (now (capacity .entry))) × (length r ≡ SITES) ⌝ }
+{
+    let mut trimmed = [0u64; SITES];
+    balancing::copy(capacity, &mut trimmed);
+    balancing::balance(n, order, ends, last, before, one, two, &mut trimmed);
+    trimmed
+}
+
+// The lists of an accepted sheet, with the order, the ends and the chains of its tree, planned.
+fn plan_charted(
+    sheet: &[u8],
+    start: &[usize],
+    end: &[usize],
+    n: usize,
+    one: &[usize],
+    two: &[usize],
+    capacity: &[u64],
+    order: &[usize; SITES],
+    ends: &[u8; PLACES],
+    last: &[usize; PLACES],
+    before: &[usize; CHAINS],
+    report: &mut [u8],
+) -> Outcome
+    requires { ⌜ TakenApart (now sheet) (now start) (now end) n (now one) (now two) (now capacity) × Charted n (now one) (now two) (now order) (now ends) (now last) (now before) ⌝ }
+    ensures told { λ r. ⌜ r ≡ planned edition1 (now (sheet .entry)) (now (report .entry)) .outcome ⌝ }
+    ensures left { λ r. ⌜ now (report .exit) ≡ planned edition1 (now (sheet .entry)) (now (report .entry)) .buffer ⌝ }
+{
+    let m = one.len();
+    let list = balanced_of(n, order, ends, last, before, one, two, capacity);
+    let trimmed = &list[..m];
+    let cuts = groups::cuts_of(n, ends, one, two, capacity, trimmed);
+    let owner = cuts.owner;
+    let size = cuts.size;
+    let count = cuts.count;
+    let made = decomposition::decompose(n, ends, last, before, one, two, trimmed);
+    let pairs = pairlist::ordered(made);
+    deliver(sheet, start, end, n, one, two, capacity, trimmed, ends, &owner, &size, &count, pairs, report)
+}
+
+// The lists of an accepted sheet, planned: its tree is tested once, and its chains and ends are made once.
+fn plan_lists(
+    sheet: &[u8],
+    start: &[usize],
+    end: &[usize],
+    n: usize,
+    one: &[usize],
+    two: &[usize],
+    capacity: &[u64],
+    report: &mut [u8],
+) -> Outcome
+    requires { ⌜ TakenApart (now sheet) (now start) (now end) n (now one) (now two) (now capacity) ⌝ }
+    ensures told { λ r. ⌜ r ≡ planned edition1 (now (sheet .entry)) (now (report .entry)) .outcome ⌝ }
+    ensures left { λ r. ⌜ now (report .exit) ≡ planned edition1 (now (sheet .entry)) (now (report .entry)) .buffer ⌝ }
+{
+    let tree = tree::eliminate(n, one, two, capacity);
+    let order = tree.sites;
+    let chains = links::chain(one, two);
+    let last = chains.last;
+    let before = chains.before;
+    let ends = links::ends(n, &last, &before, one, two);
+    plan_charted(sheet, start, end, n, one, two, capacity, &order, &ends, &last, &before, report)
+}
+
+// The network of an accepted sheet, taken apart and planned.
+fn plan_network(sheet: &[u8], network: Lists, report: &mut [u8]) -> Outcome
     requires { ⌜ Listed (now sheet) network ⌝ }
     ensures told { λ r. ⌜ r ≡ planned edition1 (now (sheet .entry)) (now (report .entry)) .outcome ⌝ }
     ensures left { λ r. ⌜ now (report .exit) ≡ planned edition1 (now (sheet .entry)) (now (report .entry)) .buffer ⌝ }
 {
+    let start = network.start;
+    let end = network.end;
     let one = network.one;
     let two = network.two;
     let capacity = network.capacity;
     let m = network.links;
-    let worked = working::work_out(network.sites, &one[..m], &two[..m], &capacity[..m]);
-    deliver(sheet, network, worked, report)
+    plan_lists(sheet, &start, &end, network.sites, &one[..m], &two[..m], &capacity[..m], report)
 }
 
 // Plans a sheet: writes its report into the buffer and tells its length, or refuses the sheet and leaves the buffer as it was.

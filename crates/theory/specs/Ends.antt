@@ -9,6 +9,7 @@ use lib.ListN.{length, length-map, List·getD-eq-default}
 use Rattle.network.specs.Numbers.{look, upfrom}
 use Rattle.network.specs.Network.{Links, Tree, sumAt, leaf, ends}
 use Rattle.theory.specs.Sums.{cases, is-same, is-one, is-other}
+use Rattle.theory.specs.Leaves.{Outer}
 use Rattle.theory.specs.Sites.{length-upfrom, look-values, at-site, sumAt-none}
 
 pub length-ends : (ls : Links) (n : ℕ) → length (ends ls n) ≡ suc n
@@ -35,3 +36,7 @@ module _ {ls : Links} {n : ℕ} (T : Tree ls n) where
   pub an-end-has-one-link : (v : ℕ) → look (ends ls n) v ≡ 1 → sumAt ls v (λ i. 1) ≡ 1
   unfolding leaf
   an-end-has-one-link v e = is-one (sym (an-end-is-a-leaf v) ∙ e)
+
+  -- the ends have one link each
+  pub ends-are-outer : Outer ls n (look (ends ls n))
+  ends-are-outer v p e = sym (an-end-is-a-leaf v) ∙ e

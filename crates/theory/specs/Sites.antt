@@ -3,7 +3,7 @@
 use mathlib.Core.Path.{_≡_, refl, sym, ap, _∙_}
 use mathlib.Core.Logic.{_≢_, inl, inr}
 use mathlib.Core.List.{List, [], _∷_, map}
-use Prim.Native.Nat.{ℕ, zero, suc, _+_, _*_, _≤_, _<_}
+use Prim.Native.Nat.{ℕ, zero, suc, _+_, _-_, _*_, _≤_, _<_}
 use native.Mathlib.Omega.{arith}
 use native.Mathlib.Decide.{decLe}
 use native.Mathlib.Nat.{mul-le-mul-left}
@@ -31,9 +31,16 @@ look-map f [] i l = omega arith
 look-map f (x ∷ xs) zero l = refl
 look-map f (x ∷ xs) (suc i) l = look-map f xs i (omega arith)
 
--- the list of the values f 0 .. f (n - 1) has f i at place i
+-- the list of the values f b, f (b + 1), .. has f (b + i) at place i
+pub look-from : (f : ℕ → ℕ) (b n i : ℕ) → i < n → look (map f (upfrom b n)) i ≡ f (b + i)
+look-from f b n i l = look-map f (upfrom b n) i (omega (arith, length-upfrom b n)) ∙ ap f (look-upfrom b n i l)
+
 pub look-values : (f : ℕ → ℕ) (n i : ℕ) → i < n → look (map f (upfrom 0 n)) i ≡ f i
-look-values f n i l = look-map f (upfrom 0 n) i (omega (arith, length-upfrom 0 n)) ∙ ap f (omega (arith, look-upfrom 0 n i l))
+look-values f n i l = look-from f 0 n i l ∙ ap f (omega arith)
+
+-- the value for a site stands at its number less 1
+pub look-site : (f : ℕ → ℕ) (n x : ℕ) → Site n x → look (map f (sites n)) (x - 1) ≡ f x
+look-site f n x p = look-from f 1 n (x - 1) (omega arith) ∙ ap f (omega arith)
 
 -- a list of zeros has 0 at every place, and past its end
 pub look-zeros : (m i : ℕ) → look (replicate m 0) i ≡ 0

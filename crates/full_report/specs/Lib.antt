@@ -1,4 +1,0 @@
-pub mod Parts
-pub mod Shows
-pub mod Ready
-pub mod Writes

@@ -1,0 +1,41 @@
+-- What stands ready on the way to a report: the network of an accepted sheet taken apart into lists; its order, chains and ends;
+-- and lists that show its plan and can be written.
+use mathlib.Core.Path.{_≡_}
+use mathlib.Core.List.{List, [], map}
+use Prim.Native.Nat.{ℕ}
+use lib.ListN.{length, take}
+use Rattle.network.specs.Edition.{edition1}
+use Rattle.network.specs.Numbers.{look}
+use Rattle.network.specs.Network.{ends}
+use Rattle.network.specs.Trimming.{elimination}
+use Rattle.network.specs.declared.Pairs.{Pairs}
+use Rattle.tree.specs.Offer.{links}
+use Rattle.links.specs.Chains.{Chained}
+use Rattle.sheet.specs.Sheet.{Network, accepted, readSheet}
+use Rattle.report.specs.Report.{Plan, reportOf, report}
+use Rattle.report.specs.Shown.{CanWrite}
+use Rattle.planner.specs.Shows.{starts, stops}
+
+-- the lists of the network of an accepted sheet: where its names start and stop, its number of sites, its links and their capacities
+pub record TakenApart (s starting stopping : List ℕ) (n : ℕ) (one two c : List ℕ) : Type 0 where
+  pub net : Network
+  pub read : readSheet edition1 s ≡ accepted net
+  pub started : starting ≡ starts net
+  pub stopped : stopping ≡ stops net
+  pub counted : n ≡ length (net .names)
+  pub firsts : one ≡ map (λ l. l .0) (net .links)
+  pub seconds : two ≡ map (λ l. l .1) (net .links)
+  pub sizes : c ≡ net .capacities
+
+-- the elimination order, the ends and the chains of a tree of n sites
+pub record Charted (n : ℕ) (one two order marks last before : List ℕ) : Type 0 where
+  pub ordered : take n order ≡ elimination (links one two) n
+  pub marked : look marks ≡ look (ends (links one two) n)
+  pub chained : Chained one two last before
+
+-- the report of the plan p is that of an accepted sheet, and can be written
+pub record Ready (s starting stopping : List ℕ) (p : Plan) (pairs : Pairs) : Type 0 where
+  pub net : Network
+  pub read : readSheet edition1 s ≡ accepted net
+  pub shows : reportOf p ≡ report s net
+  pub writable : CanWrite s starting stopping p pairs

@@ -1,0 +1,175 @@
+-- What is worked out of the lists of an accepted sheet is ready to be written: balanced capacities, terminal cuts and the pair list show its plan.
+use mathlib.Core.Path.{_≡_, refl, sym, ap, _∙_}
+use mathlib.Core.Logic.{inl, inr}
+use mathlib.Core.List.{List, [], _∷_, _++_, map}
+use Prim.Native.Nat.{ℕ, zero, suc, _+_, _-_, _≤_, _<_}
+use native.Mathlib.Omega.{arith}
+use native.Mathlib.Numerals.{one-add}
+use lib.ListN.{length, getD, take, drop, length-append, length-map, List·getD-map}
+use lib.Seq.{take-at, getD-take, length-take-le}
+use Rattle.network.specs.Limits.{LINKS, SITES}
+use Rattle.network.specs.Edition.{edition1}
+use Rattle.network.specs.Numbers.{look, Each}
+use Rattle.network.specs.Network.{Links, Site, Route, one, two, ends}
+use Rattle.network.specs.Trimming.{balanced}
+use Rattle.network.specs.Cuts.{cutSize, cutCount, owner}
+use Rattle.network.specs.Pairing.{pairs, pairList, ordered}
+use Rattle.network.specs.Text.{bytes}
+use Rattle.network.specs.declared.Pair.{Pair}
+use Rattle.network.specs.declared.Pairs.{Pairs}
+use Rattle.theory.specs.Owners.{owner-or-none}
+use Rattle.theory.specs.Greatest.{balanced-has-each-link}
+use Rattle.tree.specs.Offer.{links}
+use Rattle.groups.specs.Places.{places, ofTerminal, length-places, look-places, of-terminal}
+use Rattle.groups.specs.Steps.{owned}
+use Rattle.groups.specs.declared.Owned.{Owned}
+use Rattle.decomposition.specs.Visits.{Listing}
+use Rattle.pairlist.specs.Laws.{ordering-keeps-length}
+use Rattle.sheet.specs.Sheet.{Network, accepted, readSheet}
+use Rattle.sheet.specs.SheetTheorem.{IsNetwork}
+use Rattle.report.specs.Shown.{Named, AllNamed, Links as Linked, Owners, Paired, no-pair, shownBy, CanWrite}
+use Rattle.planner.specs.Small.{trimmed-are-greatest, pairs-are-sound, few-links, total-within, a-report-is-small}
+use Rattle.planner.specs.Shows.{starts, stops, ranges, trimmed, Works, planBy, the-lists-show-the-plan}
+use Rattle.planner.specs.Taken.{padded-length, the-network-is-given, the-links-are-the-networks}
+use Rattle.planner.specs.Ready.{TakenApart, Ready}
+
+module _ {s : List ℕ} {net : Network} (N : IsNetwork edition1 s net) where
+  abbrev size : ℕ
+  size = length (net .names)
+
+  abbrev ls : Links
+  ls = net .links
+
+  abbrev c : ℕ → ℕ
+  c = look (net .capacities)
+
+  abbrev terminal : ℕ → ℕ
+  terminal = look (ends ls size)
+
+  abbrev t : ℕ → ℕ
+  t = look (trimmed net)
+
+  -- ---- names
+
+  sites-are-named : AllNamed s (starts net) (stops net) size
+  sites-are-named v l h =
+      let i = v - 1 in
+      let range = N .names i (omega arith) in
+      let e = ranges net i in
+      let a : look (starts net) i ≡ getD (net .names) i (0, 0) .0 = ap (λ r. r .0) e in
+      let b : look (stops net) i ≡ getD (net .names) i (0, 0) .1 = ap (λ r. r .1) e in
+      let few : size ≤ SITES = N .few in
+      record {
+        above = l;
+        in-starts = omega (arith, padded-length SITES (map (λ r. r .0) (net .names)) (omega (arith, length-map (net .names) (λ r. r .0))));
+        in-stops = omega (arith, padded-length SITES (map (λ r. r .1) (net .names)) (omega (arith, length-map (net .names) (λ r. r .1))));
+        forward = rw (a, b) (range .start);
+        within = rw b (range .end);
+      }
+
+  named-site : (v : ℕ) → Site size v → Named s (starts net) (stops net) v
+  named-site v p = sites-are-named v (p .0) (p .1)
+
+  -- ---- links
+
+  links-join-named-sites : Linked s (starts net) (stops net) (map (λ l. l .0) ls) (map (λ l. l .1) ls) (net .capacities) (trimmed net)
+  links-join-named-sites =
+      let o = length-map ls (λ l. l .0) in
+      record {
+        twos-length = length-map ls (λ l. l .1) ∙ sym o;
+        capacities-length = N .capacities ∙ sym o;
+        shown-length = balanced-has-each-link (N .tree) terminal (net .capacities) ∙ sym o;
+        named = λ j l. let k : j < length ls = omega arith in
+            rw (List·getD-map (λ l. l .0) ls j (0, 0), List·getD-map (λ l. l .1) ls j (0, 0))
+            (named-site (one ls j) (N .tree .ends j k .0), named-site (two ls j) (N .tree .ends j k .1));
+      }
+
+  -- ---- pairs
+
+  pairs-join-named-sites : (es : List Pair) → Each (Route ls size terminal) es → (i : ℕ) → i < length es
+      → Named s (starts net) (stops net) (getD es i no-pair .first) × Named s (starts net) (stops net) (getD es i no-pair .second)
+  pairs-join-named-sites [] r i l = absurd (omega arith)
+  pairs-join-named-sites (e ∷ es) r zero l = (named-site (e .first) (r .0 .first-site), named-site (e .second) (r .0 .second-site))
+  pairs-join-named-sites (e ∷ es) r (suc i) l = pairs-join-named-sites es (r .1) i (omega arith)
+
+  -- ---- all of it
+
+  module _ (marks : List ℕ) (cuts : Owned) (ps : Pairs)
+      (marked : look marks ≡ terminal)
+      (cut : cuts ≡ owned ls size terminal c t)
+      (listed : take (ps .count) (ps .list) ≡ pairList ls size t terminal)
+      (held : ps .count ≤ length (ps .list)) where
+    place : (f : ℕ → ℕ) (i : ℕ) → i < size → look (places size f) i ≡ f (1 + i)
+    place f i l = look-places f size i l ∙ ap f (sym (one-add i))
+
+    terminal-place : (f : ℕ → ℕ) (i : ℕ) → i < size → terminal (1 + i) ≡ 1 → look (places size (ofTerminal terminal f)) i ≡ f (1 + i)
+    terminal-place f i l e = place (ofTerminal terminal f) i l ∙ of-terminal terminal f (1 + i) e
+
+    works : Works net marks (cuts .owner) (cuts .size) (cuts .count) (take (ps .count) (ps .list))
+    unfolding owned
+    works = record {
+      marked = marked;
+      own = λ i l. rw cut (place (owner ls c t terminal size) i l);
+      cut = λ i l e. rw cut (terminal-place (cutSize ls c t) i l e);
+      members = λ i l e. rw cut (terminal-place (cutCount ls c t size) i l e);
+      paired = listed;
+    }
+
+    pairs-are-few : ps .count ≤ length ls
+    pairs-are-few = omega (arith, pairs-are-sound N .few, ap length listed, length-take-le (ps .count) (ps .list) held)
+
+    owners-are-named : Owners s (starts net) (stops net) (cuts .owner) size
+    unfolding owned
+    owners-are-named = record {
+      held = rw cut (omega (arith, length-places (owner ls c t terminal size) size (N .few), N .few));
+      named = λ i l d. rw (works .own i l) (elim (owner-or-none ls c t terminal (1 + i) size) [
+        | inl r ↦ absurd (d (works .own i l ∙ r .0))
+        | inr r ↦ named-site _ (r .0)
+      ]);
+    }
+
+    pairs-can-be-written : Paired s (starts net) (stops net) (ps .list) (ps .count)
+    pairs-can-be-written = record {
+      few = omega (arith, pairs-are-few, few-links N);
+      held = held;
+      named = λ i l.
+          let named = pairs-join-named-sites (pairList ls size t terminal) (pairs-are-sound N .routes) i
+            (omega (arith, ap length listed, length-take-le (ps .count) (ps .list) held)) in
+          rw (← listed, getD-take (ps .count) (ps .list) i no-pair l) at named;
+    }
+
+    the-report-is-ready : readSheet edition1 s ≡ accepted net → Ready s (starts net) (stops net) (planBy net s marks (cuts .owner) (cuts .size) (cuts .count) ps) ps
+    unfolding owned
+    the-report-is-ready read =
+        let shows = the-lists-show-the-plan net s ps works in
+        record {
+          net = net;
+          read = read;
+          shows = shows;
+          writable = record {
+            few = N .few;
+            named = sites-are-named;
+            linked = links-join-named-sites;
+            owned = owners-are-named;
+            sized = rw cut (omega (arith, length-places (ofTerminal terminal (cutSize ls c t)) size (N .few), N .few));
+            counted = rw cut (omega (arith, length-places (ofTerminal terminal (cutCount ls c t size)) size (N .few), N .few));
+            paired = pairs-can-be-written;
+            small = rw listed (total-within N);
+            room = rw shows (omega (arith, a-report-is-small N));
+          };
+        }
+
+-- the lists of an accepted sheet, and what is worked out of them
+pub what-is-worked-out-is-ready : {s starting stopping : List ℕ} {n : ℕ} {one two c : List ℕ} → TakenApart s starting stopping n one two c
+    → (shown marks : List ℕ) (cuts : Owned) (ps : Pairs)
+    → look marks ≡ look (ends (links one two) n)
+    → shown ≡ balanced (links one two) n (look marks) c
+    → cuts ≡ owned (links one two) n (look marks) (look c) (look shown)
+    → take (ps .count) (ps .list) ≡ pairList (links one two) n (look shown) (look marks)
+    → ps .count ≤ length (ps .list)
+    → Ready s starting stopping (shownBy (bytes "plan") [] s starting stopping n one two c shown marks (cuts .owner) (cuts .size) (cuts .count) ps) ps
+what-is-worked-out-is-ready {s} {starting} {stopping} {n} {one} {two} {c} a shown marks cuts ps marked =
+    let ls = the-links-are-the-networks a in
+    let told : look marks ≡ look (ends (a .net .links) (length (a .net .names))) = rw (ls, a .counted) at marked in
+    rw (ls, told, a .counted, a .sizes, a .started, a .stopped, a .firsts, a .seconds) (λ e. rw e (λ cut listed held.
+    the-report-is-ready (the-network-is-given a) marks cuts ps told cut listed held (a .read)))
