@@ -8,7 +8,6 @@ use Rattle.tree.specs.Offer.{offer}
 use Rattle.tree.specs.declared.Offer.the-variants.{Accepted}
 use Rattle.tree.specs.Accepted.{accepted-is-a-tree-within-the-limits}
 use Rattle.cuts.specs.Outcome.{decide, outcome}
-use Rattle.cuts.proofs.Accepted.{offered}
 use Rattle.cuts.proofs.terminal_cuts.Statement.{statement}
 use Rattle.cuts.proofs.terminal_cuts.Tie as tie
 
@@ -40,13 +39,13 @@ made : tie.Need-returns-4
 unfolding outcome decide
 made c =
     let a = c .before .before .before .before .before .before .before .before .before .args in
-    c .cuts-of .ensures ∙ rw (accepted (c .before .before), eq-eqb (length (a .balanced .now)) (length (a .one .now)) (c .before .if1 .left)) refl
+    c .cuts-by-ends .ensures ∙ rw (accepted (c .before .before), eq-eqb (length (a .balanced .now)) (length (a .one .now)) (c .before .if1 .left)) refl
 
-cuts-of-requires : tie.Need-cuts-of-requires
-cuts-of-requires c κs =
+cuts-by-ends-requires : tie.Need-cuts-by-ends-requires
+cuts-by-ends-requires c κs =
     let a = c .before .before .before .before .before .before .before .before .args in
     let tree = accepted-is-a-tree-within-the-limits largest (a .n) (a .one .now) (a .two .now) (a .capacity .now) (accepted (c .before)) in
-    (tree .few, offered tree, c .if1 .left)
+    (tree, c .if1 .left)
 
 pub terminal-cuts-spec : {M : Type 1} → statement M
 terminal-cuts-spec =
@@ -60,7 +59,7 @@ terminal-cuts-spec =
     (λ c. search needs)
     (λ c κs. tt)
     unequal
-    cuts-of-requires
+    cuts-by-ends-requires
     no-tree
     too-large
     made)

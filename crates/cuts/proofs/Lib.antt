@@ -1,4 +1,0 @@
-pub mod Accepted
-pub mod Cut
-pub mod Owners
-pub mod Tally
