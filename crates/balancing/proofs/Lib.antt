@@ -1,2 +1,3 @@
 pub mod Laws
 pub mod Chaining
+pub mod Copying

@@ -3,11 +3,15 @@ use network::CHAINS;
 use network::PLACES;
 use network::SITES;
 ghost use mathlib.Core.Path.{_≡_};
-ghost use mathlib.Core.List.{[], _∷_};
+ghost use mathlib.Core.List.{[], _∷_, _++_};
 ghost use Prim.Native.Nat.{_-_, _*_, _≤_, _<_, min};
-ghost use lib.ListN.{take};
+ghost use lib.ListN.{length, take, drop};
 ghost use Rattle.network.specs.Limits.{SITES};
 ghost use Rattle.network.specs.Numbers.{look};
+ghost use Rattle.network.specs.Edition.{largest};
+ghost use Rattle.network.specs.Trimming.{elimination, balanced};
+ghost use Rattle.tree.specs.Accepted.{TreeWithin};
+ghost use Rattle.tree.specs.Offer.{links};
 ghost use Rattle.links.specs.Chains.{Chained, Limited};
 ghost use Rattle.balancing.specs.Steps.{InPlaces, cutFirst, balancedFirst};
 
@@ -54,8 +58,8 @@ fn there_and_back(i: usize, n: usize) -> usize
     2 * n - 1 - i
 }
 
-// Balances the capacities of the links: cuts them at each site of an order in turn, and back against it.
-pub fn balance(
+// Cuts the capacities at each site of an order in turn, and back against it.
+fn both_ways(
     n: usize,
     order: &[usize; SITES],
     ends: &[u8; PLACES],
@@ -72,4 +76,37 @@ pub fn balance(
         let v = order[there_and_back(i, n)];
         cut(v, ends, last, before, one, two, capacity);
     }
+}
+
+// Copies a list to the front of a lent one.
+fn copy(from: &[u64], to: &mut [u64])
+    requires { ⌜ length (now from) ≤ length (now to) ⌝ }
+    ensures { λ _. ⌜ now (to .exit) ≡ now (from .entry) ++ drop (length (now (from .entry))) (now (to .entry)) ⌝ }
+{
+    for j in 0..from.len() {
+        to[j] = from[j];
+    }
+}
+
+// The balanced capacities of a tree, at the front of a lent list: its capacities are cut along its elimination order and back, by its chains and ends.
+pub fn balance(
+    n: usize,
+    order: &[usize; SITES],
+    ends: &[u8; PLACES],
+    last: &[usize; PLACES],
+    before: &[usize; CHAINS],
+    one: &[usize],
+    two: &[usize],
+    capacity: &[u64],
+    lent: &mut [u64],
+)
+    requires { ⌜ TreeWithin largest n (now one) (now two) (now capacity)
+        × (take n (now order) ≡ elimination (links (now one) (now two)) n)
+        × Chained (now one) (now two) (now last) (now before)
+        × (length (now one) ≤ length (now lent)) ⌝ }
+    ensures { λ _. ⌜ now (lent .exit)
+        ≡ balanced (links (now (one .entry)) (now (two .entry))) n (look (now (ends .entry))) (now (capacity .entry)) ++ drop (length (now (capacity .entry))) (now (lent .entry)) ⌝ }
+{
+    copy(capacity, lent);
+    both_ways(n, order, ends, last, before, one, two, lent);
 }

@@ -100,7 +100,7 @@ module _ (p : Plan) (word : p .word ≡ bytes "plan") (none : p .before ≡ []) 
       let xs = lines (cutLine (p .names) (p .ends) (p .cutSizes) (p .cutCounts)) (sites (p .size)) in
       let ps = lines (pairLine (p .names)) (p .pairs) in
       let regroup : heading ++ ls ++ ns ++ xs ++ p .before ++ ps ≡ heading ++ (ls ++ (ns ++ (xs ++ (ps ++ [])))) =
-        rw (none, append-nil ps) (simp append-assoc) in
+      rw (none, append-nil ps) (simp append-assoc) in
       ap records regroup
       ∙ plan-back (ls ++ (ns ++ (xs ++ (ps ++ []))))
       ∙ ap (λ y. planFields p ∷ y) (lines-read-back _ (λ j. linkFields p j ∷ []) link-back (upfrom 0 (length (p .ones))) (ns ++ (xs ++ (ps ++ [])))

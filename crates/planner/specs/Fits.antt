@@ -54,5 +54,5 @@ module _ {s starting stopping : List ℕ} {p : Plan} {pairs : Pairs} (r : Ready 
       let w : Wrote b 0 text after k = rw (r .shows) at v in
       let e : k ≡ length text = omega (arith, w .next) in
       let a : after ≡ text ++ drop (length text) b =
-        w .stored ∙ sets-eq text b 0 (omega arith) ∙ ap (λ i. text ++ drop i b) (zero-add (length text)) in
+      w .stored ∙ sets-eq text b 0 (omega arith) ∙ ap (λ i. text ++ drop i b) (zero-add (length text)) in
       rw (r .read, le-leb (length text) (length b) enough, e, a)

@@ -134,7 +134,7 @@ module _ {s : List ℕ} {net : Network} (N : IsNetwork edition1 s net) where
       held = held;
       named = λ i l.
           let named = pairs-join-named-sites (pairList ls size t terminal) (pairs-are-sound N .routes) i
-            (omega (arith, ap length listed, length-take-le (ps .count) (ps .list) held)) in
+          (omega (arith, ap length listed, length-take-le (ps .count) (ps .list) held)) in
           rw (← listed, getD-take (ps .count) (ps .list) i no-pair l) at named;
     }
 

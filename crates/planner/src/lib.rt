@@ -56,7 +56,22 @@ fn fits(
     }
     let mut none = [0u8; 1];
     let length = report::write(
-        b"plan", b"", sheet, start, end, n, one, two, capacity, trimmed, ends, owner, size, count, pairs, &mut none,
+        b"plan",
+        b"",
+        sheet,
+        start,
+        end,
+        n,
+        one,
+        two,
+        capacity,
+        trimmed,
+        ends,
+        owner,
+        size,
+        count,
+        pairs,
+        &mut none,
     );
     length <= room
 }
@@ -84,9 +99,39 @@ fn deliver(
     ensures left { λ r. ⌜ now (report .exit) ≡ planned edition1 (now (sheet .entry)) (now (report .entry)) .buffer ⌝ }
 {
     let room = report.len();
-    if fits(sheet, start, end, n, one, two, capacity, trimmed, ends, owner, size, count, pairs, room) {
+    if fits(
+        sheet,
+        start,
+        end,
+        n,
+        one,
+        two,
+        capacity,
+        trimmed,
+        ends,
+        owner,
+        size,
+        count,
+        pairs,
+        room,
+    ) {
         let length = report::write(
-            b"plan", b"", sheet, start, end, n, one, two, capacity, trimmed, ends, owner, size, count, pairs, report,
+            b"plan",
+            b"",
+            sheet,
+            start,
+            end,
+            n,
+            one,
+            two,
+            capacity,
+            trimmed,
+            ends,
+            owner,
+            size,
+            count,
+            pairs,
+            report,
         );
         return Outcome::Report { length };
     }
@@ -141,7 +186,22 @@ fn plan_charted(
     let count = cuts.count;
     let made = decomposition::decompose(n, ends, last, before, one, two, trimmed);
     let pairs = pairlist::ordered(made);
-    deliver(sheet, start, end, n, one, two, capacity, trimmed, ends, &owner, &size, &count, pairs, report)
+    deliver(
+        sheet,
+        start,
+        end,
+        n,
+        one,
+        two,
+        capacity,
+        trimmed,
+        ends,
+        &owner,
+        &size,
+        &count,
+        pairs,
+        report,
+    )
 }
 
 // The lists of an accepted sheet, planned: its tree is tested once, and its chains and ends are made once.
@@ -165,7 +225,20 @@ fn plan_lists(
     let last = chains.last;
     let before = chains.before;
     let ends = links::ends(n, &last, &before, one, two);
-    plan_charted(sheet, start, end, n, one, two, capacity, &order, &ends, &last, &before, report)
+    plan_charted(
+        sheet,
+        start,
+        end,
+        n,
+        one,
+        two,
+        capacity,
+        &order,
+        &ends,
+        &last,
+        &before,
+        report,
+    )
 }
 
 // The network of an accepted sheet, taken apart and planned.
@@ -180,7 +253,16 @@ fn plan_network(sheet: &[u8], network: Lists, report: &mut [u8]) -> Outcome
     let two = network.two;
     let capacity = network.capacity;
     let m = network.links;
-    plan_lists(sheet, &start, &end, network.sites, &one[..m], &two[..m], &capacity[..m], report)
+    plan_lists(
+        sheet,
+        &start,
+        &end,
+        network.sites,
+        &one[..m],
+        &two[..m],
+        &capacity[..m],
+        report,
+    )
 }
 
 // Plans a sheet: writes its report into the buffer and tells its length, or refuses the sheet and leaves the buffer as it was.

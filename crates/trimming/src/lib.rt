@@ -5,13 +5,11 @@ ghost use mathlib.Core.Path.{_≡_};
 ghost use mathlib.Core.List.{_++_};
 ghost use Prim.Native.Nat.{_≤_};
 ghost use lib.ListN.{length, take, drop};
-ghost use Rattle.network.specs.Limits.{SITES};
-ghost use Rattle.network.specs.Numbers.{look};
-ghost use Rattle.network.specs.Network.{ends};
+ghost use Rattle.network.specs.Edition.{largest};
+ghost use Rattle.network.specs.Trimming.{elimination};
+ghost use Rattle.tree.specs.Accepted.{TreeWithin};
 ghost use Rattle.tree.specs.Offer.{links};
-ghost use Rattle.links.specs.Chains.{Placed, Limited};
-ghost use Rattle.balancing.specs.Steps.{InPlaces, balancedFirst};
-ghost use Rattle.trimming.specs.Outcome.{answer, trimmed};
+ghost use Rattle.trimming.specs.Outcome.{answer, capacities, trimmed};
 
 // What is said of an offered tree whose capacities are to be balanced.
 pub enum Trimming {
@@ -25,32 +23,23 @@ pub enum Trimming {
     Balanced,
 }
 
-// Copies a list to the front of a lent one.
-fn copy(from: &[u64], to: &mut [u64])
-    requires { ⌜ length (now from) ≤ length (now to) ⌝ }
-    ensures { λ _. ⌜ now (to .exit) ≡ now (from .entry) ++ drop (length (now (from .entry))) (now (to .entry)) ⌝ }
-{
-    for j in 0..from.len() {
-        to[j] = from[j];
-    }
-}
-
-// Balances the capacities of a tree along an order of its sites, with its ends as terminals.
+// The balanced capacities of a tree at the front of a lent list, by its elimination order; its chains and ends are made here.
 fn balance_by_ends(
     n: usize,
     order: [usize; SITES],
     one: &[usize],
     two: &[usize],
-    capacity: &mut [u64],
+    capacity: &[u64],
+    lent: &mut [u64],
 )
-    requires { ⌜ (n ≤ SITES) × InPlaces n (take n order) × Placed (now one) (now two) × Limited (now one) (now capacity) ⌝ }
-    ensures { λ _. ⌜ now (capacity .exit) ≡ balancedFirst (now (one .entry)) (now (two .entry)) (look (ends (links (now (one .entry)) (now (two .entry))) n)) (take n order) (now (capacity .entry)) ⌝ }
+    requires { ⌜ TreeWithin largest n (now one) (now two) (now capacity) × (take n order ≡ elimination (links (now one) (now two)) n) × (length (now one) ≤ length (now lent)) ⌝ }
+    ensures { λ _. ⌜ now (lent .exit) ≡ capacities n (now (one .entry)) (now (two .entry)) (now (capacity .entry)) ++ drop (length (now (capacity .entry))) (now (lent .entry)) ⌝ }
 {
     let chains = links::chain(one, two);
     let last = chains.last;
     let before = chains.before;
     let ends = links::ends(n, &last, &before, one, two);
-    balancing::balance(n, &order, &ends, &last, &before, one, two, capacity);
+    balancing::balance(n, &order, &ends, &last, &before, one, two, capacity, lent);
 }
 
 // Balances the capacities of an offered tree into a lent list.
@@ -67,8 +56,7 @@ pub fn trim(n: usize, one: &[usize], two: &[usize], capacity: &[u64], lent: &mut
             if lent.len() < one.len() {
                 return Trimming::Short;
             }
-            copy(capacity, lent);
-            balance_by_ends(n, order, one, two, lent);
+            balance_by_ends(n, order, one, two, capacity, lent);
             Trimming::Balanced
         }
     }

@@ -1,36 +1,45 @@
--- `trimming::balance_by_ends` meets its contract: the terminals are the ends.
+-- `balance_by_ends` meets its contract: the terminals are the ends.
 use mathlib.Core.Path.{ap, _∙_}
+use mathlib.Core.List.{_++_}
 use Prim.Native.Nat.{ℕ}
-use lib.ListN.{take}
-use Rattle.balancing.specs.Steps.{balancedFirst}
+use native.Mathlib.Omega.{arith}
+use lib.ListN.{length, drop}
+use borrow.Author.Needs.{needs}
+use Rattle.network.specs.Trimming.{balanced}
+use Rattle.tree.specs.Offer.{links}
+use Rattle.links.specs.Chains.{offer-placed}
+use Rattle.trimming.specs.Outcome.{capacities}
 use Rattle.trimming.proofs.balance_by_ends.Statement.{statement}
 use Rattle.trimming.proofs.balance_by_ends.Tie as tie
 
-chained : tie.Need-ends-requires
-chained c κs =
-    let made = c .before .before .before .before in
-    (made .before .before .before .before .pre .0, made .chain .ensures)
+chain-requires : tie.Need-chain-requires
+chain-requires c κs =
+    let s = c .before .before .before .before in
+    offer-placed (s .pre .0)
 
-given : tie.Need-balance-requires
-given c κs =
-    let listed = c .before .before .before .before .before in
-    let made = listed .before .before .before .before .before in
-    let s = made .before .before .before .before in
-    (s .pre .0, s .pre .1, made .chain .ensures, s .pre .3)
+ends-requires : tie.Need-ends-requires
+ends-requires c κs =
+    let made = c .before .before .before .before in
+    let s = made .before .before .before .before .before in
+    (omega (arith, s .pre .0 .few), made .chain .ensures)
+
+balance-requires : tie.Need-balance-requires
+balance-requires c κs =
+    let marked = c .before .before .before .before .before in
+    let made = marked .before .before .before .before .before in
+    let s = made .before .before .before .before .before in
+    (s .pre .0, s .pre .1, made .chain .ensures, s .pre .2)
 
 returns : tie.Need-returns
+unfolding capacities
 returns c =
     let done = c .before .before in
-    let listed = done .before .before .before .before .before .before in
-    let a = listed .before .before .before .before .before .before .before .before .before .args in
-    done .balance .ensures ∙ ap (λ (terminal : ℕ → ℕ). balancedFirst (a .one .now) (a .two .now) terminal (take (a .n) (a .t2)) (a .capacity .now)) (listed .ends .ensures)
+    let marked = done .before .before .before .before .before .before in
+    let s = marked .before .before .before .before .before .before .before .before .before .before in
+    let a = s .args in
+    done .balance .ensures
+    ∙ ap (λ (terminal : ℕ → ℕ). balanced (links (a .one .now) (a .two .now)) (a .n) terminal (a .capacity .now) ++ drop (length (a .capacity .now)) (a .lent .now))
+    (marked .ends .ensures)
 
 pub balance-by-ends-spec : {M : Type 1} → statement M
-balance-by-ends-spec =
-    tie.close
-    (tie.spec
-    (λ c κs. c .before .before .before .pre .2)
-    chained
-    given
-    (λ c. c .before .before .balance .kept .1 .1 .1 .1 .1 .1 .1 .0)
-    returns)
+balance-by-ends-spec = tie.close (tie.spec chain-requires ends-requires balance-requires (λ c. search needs) returns)

@@ -1,5 +1,5 @@
 -- `trimming::trim` meets its contract, answer by answer.
-use mathlib.Core.Path.{_≡_, refl, sym, ap, ap₂, _∙_}
+use mathlib.Core.Path.{_≡_, refl, sym, ap, _∙_}
 use native.Mathlib.Omega.{arith}
 use borrow.Author.Needs.{needs}
 use borrow.Author.Tests.{le-leb, lt-leb}
@@ -9,17 +9,12 @@ use Rattle.network.specs.Numbers.{look}
 use Rattle.network.specs.Network.{ends}
 use Rattle.network.specs.Edition.{largest}
 use Rattle.network.specs.Trimming.{elimination}
-use Rattle.theory.specs.Orders.{elimination-is-inward}
 use Rattle.theory.specs.Greatest.{balanced-has-each-link}
 use Rattle.tree.specs.Offer.{links, offer}
 use Rattle.tree.specs.Links.{length-links}
 use Rattle.tree.specs.declared.Offer.the-variants.{Accepted}
 use Rattle.tree.specs.Accepted.{TreeWithin, accepted-is-a-tree-within-the-limits, eliminated-says, eliminated-in-order}
-use Rattle.links.specs.Chains.{offer-placed}
-use Rattle.balancing.specs.Steps.{balancedFirst}
-use Rattle.balancing.specs.Along.{elimination-in-places, balanced-in-place}
 use Rattle.trimming.specs.Outcome.{decide, answer, capacities, after, trimmed}
-use Rattle.trimming.proofs.Laws.{copied-limited}
 use Rattle.trimming.proofs.trim.Statement.{statement}
 use Rattle.trimming.proofs.trim.Tie as tie
 
@@ -67,29 +62,19 @@ short c =
     let few = lt-leb (length (a .one .now)) (length (a .lent .now)) (c .if1 .taken) in
     (rw (accepted (c .before), few) refl, rw (accepted (c .before), few) refl)
 
-limited : tie.Need-balance-by-ends-requires
-limited c κs =
-    let e = c .before .before .before .before .before .before in
-    let t = tree e in (
-      omega (arith, t .few),
-      rw (order e) (elimination-in-places t),
-      offer-placed t,
-      rw (c .before .before .before .copy .ensures) (copied-limited t _ (c .before .before .before .before .before .if1 .left)),
-    )
+accepted-tree : tie.Need-balance-by-ends-requires
+accepted-tree c κs =
+    let e = c .before .before in
+    (tree e, order e, c .before .if1 .left)
 
 balanced : tie.Need-returns-4
-unfolding answer decide trimmed after capacities
+unfolding answer decide trimmed after
 balanced c =
-    let e = c .before .before .before .before .before .before .before .before .before in
+    let e = c .before .before .before .before .before in
     let a = e .before .before .before .before .before .before .before .before .args in
-    let ls = links (a .one .now) (a .two .now) in
-    let terminal = look (ends ls (a .n)) in
-    let room = c .before .before .before .before .before .before .before .before .if1 .left in
-    let enough = le-leb (length (a .one .now)) (length (a .lent .now)) room in (
+    let enough = le-leb (length (a .one .now)) (length (a .lent .now)) (c .before .before .before .before .if1 .left) in (
       rw (accepted e, enough) refl,
       rw (accepted e, enough) (c .before .before .balance-by-ends .ensures
-          ∙ ap₂ (balancedFirst (a .one .now) (a .two .now) terminal) (order e) (c .before .before .before .before .before .before .copy .ensures)
-          ∙ balanced-in-place (tree e) terminal (elimination ls (a .n)) (elimination-is-inward (tree e .tree)) (drop (length (a .capacity .now)) (a .lent .now))
           ∙ ap (λ k. capacities (a .n) (a .one .now) (a .two .now) (a .capacity .now) ++ drop k (a .lent .now)) (as-long e)),
     )
 
@@ -102,8 +87,7 @@ trim-spec =
     (λ c. search needs)
     (λ c. search needs)
     short
-    (λ c κs. omega (arith, tree (c .before .before)))
-    limited
+    accepted-tree
     no-tree
     too-large
     (λ c. c .before .before .balance-by-ends .kept .1 .1 .1 .1 .0 ∙ c .before .before .before .before .before .before .copy .kept .1 .0)

@@ -1,13 +1,13 @@
--- `trimming::copy` meets its contract: the list is filled from the front.
+-- `copy` meets its contract: the list is filled from the front.
 use mathlib.Core.Path.{_≡_, refl, ap, _∙_}
 use Prim.Native.Nat.{_≤_, _-_}
 use native.Mathlib.Omega.{arith}
 use lib.ListN.{length, length-set}
 use Rattle.network.specs.Numbers.{look}
 use Rattle.tree.specs.Places.{filled, filled-none, filled-next}
-use Rattle.trimming.proofs.Laws.{filled-copy}
-use Rattle.trimming.proofs.copy.Statement.{statement}
-use Rattle.trimming.proofs.copy.Tie as tie
+use Rattle.balancing.proofs.Copying.{filled-copy}
+use Rattle.balancing.proofs.copy.Statement.{statement}
+use Rattle.balancing.proofs.copy.Tie as tie
 
 abbrev Inv-loop : tie.InvT-loop
 Inv-loop from to₀ j₀ j-end to j = (j ≤ length from) × (length to ≡ length to₀) × (to ≡ filled (look from) j to₀)
