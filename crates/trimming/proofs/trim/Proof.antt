@@ -90,5 +90,5 @@ trim-spec =
     accepted-tree
     no-tree
     too-large
-    (λ c. c .before .before .balance-by-ends .kept .1 .1 .1 .1 .0 ∙ c .before .before .before .before .before .before .copy .kept .1 .0)
+    (λ c. search needs)
     balanced)
