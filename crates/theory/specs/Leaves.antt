@@ -1,4 +1,4 @@
--- Leaves as terminals: no leaf stands between two others, so any two leaves make a route; and a tree of leaves alone has two sites.
+-- Terminals with one link each: none stands between two others, so any two of them make a route; and a tree of such sites alone has two sites.
 -- By the lemma at a site: a leaf's one link separates it from every other site; and by counting each link at its two sites.
 use mathlib.Core.Path.{_≡_, sym}
 use mathlib.Core.Logic.{_≢_}
@@ -26,22 +26,23 @@ module _ {ls : Links} {n : ℕ} (T : Tree ls n) where
       let r = local-one T w x p q d in
       rw (leaf-has-one-link ls w (r .0) j f (r .1) l (r .2) a) at (r .3)
 
-  -- an entry between two different leaves is a route
-  pub leaf-route : (e : Pair) → Site n (e .first) → Site n (e .second) → leaf ls (e .first) ≡ 1 → leaf ls (e .second) ≡ 1 → e .first ≢ e .second
-      → Route ls n (leaf ls) e
-  leaf-route e p q f g d = record {
-    first-site = p;
-    second-site = q;
-    first-terminal = f;
-    second-terminal = g;
-    different = d;
-    free = λ w j s m wa wb l a. omega (
-      arith,
-      leaf-separates w (e .first) j s p (λ z. wa (sym z)) m l a,
-      leaf-separates w (e .second) j s q (λ z. wb (sym z)) m l a,
-      separates-triple T j w (e .first) (e .second) l s p q,
-    );
-  }
+  -- where every terminal has one link, an entry between two different terminals is a route
+  module _ (terminal : ℕ → ℕ) (single : (w : ℕ) → Site n w → terminal w ≡ 1 → leaf ls w ≡ 1) where
+    pub terminals-with-one-link-make-a-route : (e : Pair) → Site n (e .first) → Site n (e .second)
+        → terminal (e .first) ≡ 1 → terminal (e .second) ≡ 1 → e .first ≢ e .second → Route ls n terminal e
+    terminals-with-one-link-make-a-route e p q f g d = record {
+      first-site = p;
+      second-site = q;
+      first-terminal = f;
+      second-terminal = g;
+      different = d;
+      free = λ w j s m wa wb l a. omega (
+        arith,
+        leaf-separates w (e .first) j s p (λ z. wa (sym z)) (single w s m) l a,
+        leaf-separates w (e .second) j s q (λ z. wb (sym z)) (single w s m) l a,
+        separates-triple T j w (e .first) (e .second) l s p q,
+      );
+    }
 
   -- ---- counting links at sites
 
