@@ -89,10 +89,7 @@ fn of_links(one: &[usize], two: &[usize], capacity: &[u64], balanced: &[u64]) ->
     let mut labels = labels::own_labels();
     join_kept(one, two, capacity, balanced, &mut labels);
     let leaving = sums_leaving(one, two, capacity, &labels);
-    Tally {
-        labels,
-        leaving,
-    }
+    Tally { labels, leaving }
 }
 
 // For each label the places of its sites among the first n, as a set of WORDS words: that of label l from word WORDS l on. Place i is that of site i + 1.
@@ -195,12 +192,7 @@ fn terminal_sizes(
 }
 
 // The cuts of the terminals among n sites, by the labels of the sites, the ends and the sums at the labels.
-fn cuts_by(
-    n: usize,
-    labels: &[u16; PLACES],
-    ends: &[u8; PLACES],
-    leaving: &[u64; PLACES],
-) -> Owned
+fn cuts_by(n: usize, labels: &[u16; PLACES], ends: &[u8; PLACES], leaving: &[u64; PLACES]) -> Owned
     requires { ⌜ (n ≤ SITES) × ((x : ℕ) → look (now labels) x ≤ SITES) ⌝ }
     ensures { λ r. ⌜ r ≡ cutsBy n (now (labels .entry)) (now (ends .entry)) (now (leaving .entry)) ⌝ }
 {

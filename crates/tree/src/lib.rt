@@ -1,7 +1,7 @@
 // A tree that is offered as lists: whether it is one within the limits of the edition, and the elimination order of its sites.
 use elimination::Order;
-use network::SIZE;
 use network::SITES;
+use network::SIZE;
 ghost use mathlib.Core.Path.{_≡_};
 ghost use Prim.Native.Nat.{ℕ, _<_};
 ghost use lib.ListN.{length};
