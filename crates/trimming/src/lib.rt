@@ -44,7 +44,8 @@ fn balance_by_ends(
     capacity: &mut [u64],
 )
     requires { ⌜ (n ≤ SITES) × InPlaces n (take n order) × Placed (now one) (now two) × Limited (now one) (now capacity) ⌝ }
-    ensures { λ _. ⌜ now (capacity .exit) ≡ balancedFirst (now (one .entry)) (now (two .entry)) (look (ends (links (now (one .entry)) (now (two .entry))) n)) (take n order) (now (capacity .entry)) ⌝ }
+    ensures { λ _. ⌜ now (capacity .exit)
+        ≡ balancedFirst (now (one .entry)) (now (two .entry)) (look (ends (links (now (one .entry)) (now (two .entry))) n)) (take n order) (now (capacity .entry)) ⌝ }
 {
     let chains = links::chain(one, two);
     let last = chains.last;
@@ -55,7 +56,8 @@ fn balance_by_ends(
 
 // Balances the capacities of an offered tree into a lent list.
 pub fn trim(n: usize, one: &[usize], two: &[usize], capacity: &[u64], lent: &mut [u64]) -> Trimming
-    ensures { λ r. ⌜ (r ≡ answer n (now (one .entry)) (now (two .entry)) (now (capacity .entry)) (now (lent .entry))) × (now (lent .exit) ≡ trimmed n (now (one .entry)) (now (two .entry)) (now (capacity .entry)) (now (lent .entry))) ⌝ }
+    ensures { λ r. ⌜ (r ≡ answer n (now (one .entry)) (now (two .entry)) (now (capacity .entry)) (now (lent .entry)))
+        × (now (lent .exit) ≡ trimmed n (now (one .entry)) (now (two .entry)) (now (capacity .entry)) (now (lent .entry))) ⌝ }
 {
     let tree = tree::eliminate(n, one, two, capacity);
     let offer = tree.offer;

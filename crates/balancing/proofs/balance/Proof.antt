@@ -8,7 +8,8 @@ use lib.Seq.{take-suc, take-all}
 use lib.ListN.{length, take}
 use Rattle.network.specs.Numbers.{look}
 use Rattle.balancing.specs.Steps.{bothWays, cutFirst}
-use Rattle.balancing.proofs.Laws.{both-ways-balance, first-none, first-more, first-limited, length-both-ways, on-the-way, in-places-on-the-way, places-enough}
+use Rattle.balancing.proofs.Laws.{both-ways-balance, first-none, first-more, first-limited}
+use Rattle.balancing.proofs.Laws.{length-both-ways, on-the-way, in-places-on-the-way, places-enough}
 use Rattle.balancing.proofs.balance.Statement.{statement}
 use Rattle.balancing.proofs.balance.Tie as tie
 
@@ -42,7 +43,8 @@ limited c κs =
     let a = s .args in (
       rw (c .before .before .there-and-back .ensures) (in-places-on-the-way (a .n) (a .order .now) (enough s) (t .loop .i) (omega arith) (s .pre .1)),
       s .pre .2,
-      rw (t .loop .inv .2) (first-limited (a .one .now) (a .two .now) (look (a .ends .now)) (s .pre .2 .placed .seconds) (take (t .loop .i) (way s)) (a .capacity .now) (s .pre .3)),
+      rw (t .loop .inv .2)
+          (first-limited (a .one .now) (a .two .now) (look (a .ends .now)) (s .pre .2 .placed .seconds) (take (t .loop .i) (way s)) (a .capacity .now) (s .pre .3)),
     )
 
 next : tie.Need-loop-again Inv-loop μ-loop
@@ -51,20 +53,24 @@ next c =
     let s = t .before .before .before .before in
     let a = s .args in
     let i = t .loop .i in
-    let site = ap (look (a .order .now)) (c .before .before .before .before .before .there-and-back .ensures) ∙ on-the-way (a .n) (a .order .now) (enough s) i (omega arith) in (
+    let place = c .before .before .before .before .before .there-and-back .ensures in
+    let site = ap (look (a .order .now)) place ∙ on-the-way (a .n) (a .order .now) (enough s) i (omega arith) in
+    let same = s .pre .2 .placed .seconds in
+    let terminal = look (a .ends .now) in (
       omega arith,
       c .before .before .cut .kept .1 .1 .1 .1 .1 .1 .0 ∙ t .loop .inv .1,
       c .before .before .cut .ensures
           ∙ ap₂ (λ v l. cutFirst (a .one .now) (a .two .now) (look (a .ends .now)) (v ∷ []) l) site (t .loop .inv .2)
-          ∙ first-more (a .one .now) (a .two .now) (look (a .ends .now)) (s .pre .2 .placed .seconds) (take i (way s)) (look (way s) i ∷ []) (a .capacity .now) (s .pre .3 .places)
-          ∙ ap (λ vs. cutFirst (a .one .now) (a .two .now) (look (a .ends .now)) vs (a .capacity .now)) (rw (add-one i) (sym (take-suc (way s) i 0 (omega (arith, long s))))),
+          ∙ first-more (a .one .now) (a .two .now) terminal same (take i (way s)) (look (way s) i ∷ []) (a .capacity .now) (s .pre .3 .places)
+          ∙ ap (λ vs. cutFirst (a .one .now) (a .two .now) terminal vs (a .capacity .now)) (rw (add-one i) (sym (take-suc (way s) i 0 (omega (arith, long s))))),
     )
 
 at-end : tie.Need-returns Inv-loop μ-loop
 at-end c =
     let s = c .before .before .before .before .before in
     let a = s .args in
-    c .before .loop .inv .2 ∙ ap (λ vs. cutFirst (a .one .now) (a .two .now) (look (a .ends .now)) vs (a .capacity .now)) (take-all (c .before .loop .i) (way s) (omega (arith, long s)))
+    c .before .loop .inv .2
+    ∙ ap (λ vs. cutFirst (a .one .now) (a .two .now) (look (a .ends .now)) vs (a .capacity .now)) (take-all (c .before .loop .i) (way s) (omega (arith, long s)))
     ∙ both-ways-balance (a .one .now) (a .two .now) (look (a .ends .now)) (s .pre .2 .placed .seconds) (take (a .n) (a .order .now)) (a .capacity .now)
 
 pub balance-spec : {M : Type 1} → statement M

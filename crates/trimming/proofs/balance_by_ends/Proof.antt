@@ -22,8 +22,10 @@ returns : tie.Need-returns
 returns c =
     let done = c .before .before in
     let listed = done .before .before .before .before .before .before in
-    let a = listed .before .before .before .before .before .before .before .before .before .args in
-    done .balance .ensures ∙ ap (λ (terminal : ℕ → ℕ). balancedFirst (a .one .now) (a .two .now) terminal (take (a .n) (a .t2)) (a .capacity .now)) (listed .ends .ensures)
+    let made = listed .before .before .before .before .before in
+    let a = made .before .before .before .before .args in
+    done .balance .ensures
+    ∙ ap (λ (terminal : ℕ → ℕ). balancedFirst (a .one .now) (a .two .now) terminal (take (a .n) (a .t2)) (a .capacity .now)) (listed .ends .ensures)
 
 pub balance-by-ends-spec : {M : Type 1} → statement M
 balance-by-ends-spec =
