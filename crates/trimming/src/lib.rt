@@ -45,7 +45,8 @@ fn balance_by_ends(
 )
     requires { ⌜ (n ≤ SITES) × InPlaces n (take n order) × Placed (now one) (now two) × Limited (now one) (now capacity) ⌝ }
     ensures { λ _. ⌜ now (capacity .exit)
-        ≡ balancedFirst (now (one .entry)) (now (two .entry)) (look (ends (links (now (one .entry)) (now (two .entry))) n)) (take n order) (now (capacity .entry)) ⌝ }
+        ≡ balancedFirst (now (one .entry)) (now (two .entry)) (look (ends (links (now (one .entry)) (now (two .entry))) n)) (take n order)
+        (now (capacity .entry)) ⌝ }
 {
     let chains = links::chain(one, two);
     let last = chains.last;

@@ -44,7 +44,8 @@ limited c κs =
       rw (c .before .before .there-and-back .ensures) (in-places-on-the-way (a .n) (a .order .now) (enough s) (t .loop .i) (omega arith) (s .pre .1)),
       s .pre .2,
       rw (t .loop .inv .2)
-          (first-limited (a .one .now) (a .two .now) (look (a .ends .now)) (s .pre .2 .placed .seconds) (take (t .loop .i) (way s)) (a .capacity .now) (s .pre .3)),
+          (first-limited (a .one .now) (a .two .now) (look (a .ends .now)) (s .pre .2 .placed .seconds) (take (t .loop .i) (way s)) (a .capacity .now)
+          (s .pre .3)),
     )
 
 next : tie.Need-loop-again Inv-loop μ-loop
@@ -62,7 +63,8 @@ next c =
       c .before .before .cut .ensures
           ∙ ap₂ (λ v l. cutFirst (a .one .now) (a .two .now) (look (a .ends .now)) (v ∷ []) l) site (t .loop .inv .2)
           ∙ first-more (a .one .now) (a .two .now) terminal same (take i (way s)) (look (way s) i ∷ []) (a .capacity .now) (s .pre .3 .places)
-          ∙ ap (λ vs. cutFirst (a .one .now) (a .two .now) terminal vs (a .capacity .now)) (rw (add-one i) (sym (take-suc (way s) i 0 (omega (arith, long s))))),
+          ∙ ap (λ vs. cutFirst (a .one .now) (a .two .now) terminal vs (a .capacity .now))
+          (rw (add-one i) (sym (take-suc (way s) i 0 (omega (arith, long s))))),
     )
 
 at-end : tie.Need-returns Inv-loop μ-loop
@@ -70,7 +72,8 @@ at-end c =
     let s = c .before .before .before .before .before in
     let a = s .args in
     c .before .loop .inv .2
-    ∙ ap (λ vs. cutFirst (a .one .now) (a .two .now) (look (a .ends .now)) vs (a .capacity .now)) (take-all (c .before .loop .i) (way s) (omega (arith, long s)))
+    ∙ ap (λ vs. cutFirst (a .one .now) (a .two .now) (look (a .ends .now)) vs (a .capacity .now))
+    (take-all (c .before .loop .i) (way s) (omega (arith, long s)))
     ∙ both-ways-balance (a .one .now) (a .two .now) (look (a .ends .now)) (s .pre .2 .placed .seconds) (take (a .n) (a .order .now)) (a .capacity .now)
 
 pub balance-spec : {M : Type 1} → statement M

@@ -70,9 +70,9 @@ tested : (c : tie.After-is-heavy Inv-loop μ-loop) → let t = c .before .before
 tested c =
     let t = c .before .before .before in
     let s = begun t in
-    let here = t .loop .inv .0 .1 (c .before .before .loop-test .taken) in
     c .is-heavy .ensures
-    ∙ rw (known t .1) (sym (heavy-by-sum (ls s) (look (s .args .capacity .now)) (s .args .v) (t .loop .p - 1) (omega (arith, number s)) here))
+    ∙ rw (known t .1) (sym (heavy-by-sum (ls s) (look (s .args .capacity .now)) (s .args .v) (t .loop .p - 1) (omega (arith, number s))
+    (t .loop .inv .0 .1 (c .before .before .loop-test .taken))))
 
 found : tie.Need-returns-2 Inv-loop μ-loop
 found c =
@@ -117,7 +117,8 @@ none c =
     let t = c .before in
     let s = begun t in
     let a = s .args in
-    sym (none-is-heavy (ls s) (look (a .ends .now)) (look (a .capacity .now)) (a .v) (known t .0) (λ j l. t .loop .inv .1 j (omega arith) (omega (arith, number s))))
+    sym (none-is-heavy (ls s) (look (a .ends .now)) (look (a .capacity .now)) (a .v) (known t .0)
+    (λ j l. t .loop .inv .1 j (omega arith) (omega (arith, number s))))
 
 pub heavy-at-spec : {M : Type 1} → statement M
 heavy-at-spec =
