@@ -1,10 +1,11 @@
 -- `heavy::heavy_at` meets its contract: no link of the chain that is behind is heavy, and none that is not in the chain.
-use mathlib.Core.Path.{_≡_, sym, _∙_}
+use mathlib.Core.Path.{_≡_, sym, ap, _∙_}
 use mathlib.Core.Bool.{false}
 use mathlib.Core.Logic.{_≢_}
 use Prim.Native.Nat.{ℕ, _-_, _≤_, _<_}
 use native.Mathlib.Omega.{arith}
 use native.Mathlib.Decide.{decLt}
+use lib.Dec.{ltb}
 use lib.ListN.{length}
 use Rattle.network.specs.Numbers.{look}
 use Rattle.network.specs.Network.{Links, sumAt}
@@ -70,9 +71,11 @@ tested : (c : tie.After-is-heavy Inv-loop μ-loop) → let t = c .before .before
 tested c =
     let t = c .before .before .before in
     let s = begun t in
+    let one = look (s .args .capacity .now) (t .loop .p - 1) in
+    let here = t .loop .inv .0 .1 (c .before .before .loop-test .taken) in
     c .is-heavy .ensures
-    ∙ rw (known t .1) (sym (heavy-by-sum (ls s) (look (s .args .capacity .now)) (s .args .v) (t .loop .p - 1) (omega (arith, number s))
-    (t .loop .inv .0 .1 (c .before .before .loop-test .taken))))
+    ∙ ap (λ sum. ltb (sum - one) one) (known t .1)
+    ∙ sym (heavy-by-sum (ls s) (look (s .args .capacity .now)) (s .args .v) (t .loop .p - 1) (omega (arith, number s)) here)
 
 found : tie.Need-returns-2 Inv-loop μ-loop
 found c =
