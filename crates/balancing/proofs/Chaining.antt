@@ -28,7 +28,8 @@ cut-next {f} {m} {p} {q} {was} {now} {value} c h k long e l same = record {
   ahead = λ i r. getD-set-other now (p - 1) i value 0 (λ z. omega arith) ∙ c .ahead i (omega arith);
   done = λ i r s. same? i (p - 1)
       (λ z. rw z (getD-set-same now (p - 1) value 0 (omega (arith, c .long)) ∙ e))
-      (λ z. getD-set-other now (p - 1) i value 0 z ∙ cases (decLt i (p - 1)) (λ y. c .ahead i (omega arith) ∙ sym (same i r y)) (λ y. c .done i (omega arith) s));
+      (λ z. getD-set-other now (p - 1) i value 0 z
+      ∙ cases (decLt i (p - 1)) (λ y. c .ahead i (omega arith) ∙ sym (same i r y)) (λ y. c .done i (omega arith) s));
   past = λ i r. getD-set-other now (p - 1) i value 0 (λ z. omega arith) ∙ c .past i r;
 }
 
@@ -41,4 +42,5 @@ cut-end f m was now h c =
     (λ k. c .done i (omega arith) k ∙ sym (List·getD-append front (drop m was) 0 i (omega arith) ∙ look-values f m i k))
     (λ k. let seam : i ≡ length front + (i - m) = omega arith in
     let behind : m + (i - m) ≡ i = omega arith in
-    c .past i (omega arith) ∙ sym (ap (look (front ++ drop m was)) seam ∙ getD-append-add front (drop m was) (i - m) 0 ∙ getD-drop m was (i - m) 0 ∙ ap (look was) behind)))
+    c .past i (omega arith)
+    ∙ sym (ap (look (front ++ drop m was)) seam ∙ getD-append-add front (drop m was) (i - m) 0 ∙ getD-drop m was (i - m) 0 ∙ ap (look was) behind)))

@@ -32,7 +32,8 @@ module _ (ls : Links) (terminal : ℕ → ℕ) (v : ℕ) (c : ℕ → ℕ) (j : 
   unfolding cutAt
   cut-terminal e = pick-same e _ _
 
-cut-same : (ls : Links) (terminal : ℕ → ℕ) (v : ℕ) (c d : ℕ → ℕ) → ((i : ℕ) → i < length ls → c i ≡ d i) → (j : ℕ) → j < length ls → cutAt ls terminal v c j ≡ cutAt ls terminal v d j
+cut-same : (ls : Links) (terminal : ℕ → ℕ) (v : ℕ) (c d : ℕ → ℕ) → ((i : ℕ) → i < length ls → c i ≡ d i)
+    → (j : ℕ) → j < length ls → cutAt ls terminal v c j ≡ cutAt ls terminal v d j
 unfolding cutAt
 cut-same ls terminal v c d h j l = rw (h j l, sumAt-same ls v c d (λ i k a. h i k)) refl
 
@@ -83,7 +84,11 @@ module _ (a b : List ℕ) (terminal : ℕ → ℕ) (same : length b ≡ length a
       let ls = links a b in
       let done = cutSites ls terminal vs (take (length a) l) in
       let long = length-done vs l h in
-      rw (take-at done (drop (length a) l) (length a) long, drop-at done (drop (length a) l) (length a) long, cut-sites-append ls terminal vs ws (take (length a) l)) refl
+      rw (
+        take-at done (drop (length a) l) (length a) long,
+        drop-at done (drop (length a) l) (length a) long,
+        cut-sites-append ls terminal vs ws (take (length a) l),
+      ) refl
 
   -- along an order and back they are balanced
   pub both-ways-balance : (order l : List ℕ) → cutFirst a b terminal (bothWays order) l ≡ balancedFirst a b terminal order l
@@ -140,7 +145,8 @@ module _ (n : ℕ) (order : List ℕ) (h : n ≤ length order) (i : ℕ) (l : i 
       ap (look order) place ∙ sym (List·getD-append o (reverse o) 0 i (omega arith) ∙ getD-take n order i 0 k))
       (λ k. let seam : i ≡ length o + (i - n) = omega arith in
       let place : length o - 1 - (i - n) ≡ min i (2 * n - 1 - i) = omega arith in
-      sym (ap (look (o ++ reverse o)) seam ∙ getD-append-add o (reverse o) (i - n) 0 ∙ look-reverse o (i - n) (omega arith) ∙ ap (look o) place ∙ getD-take n order (min i (2 * n - 1 - i)) 0 (omega arith)))
+      sym (ap (look (o ++ reverse o)) seam ∙ getD-append-add o (reverse o) (i - n) 0 ∙ look-reverse o (i - n) (omega arith)
+      ∙ ap (look o) place ∙ getD-take n order (min i (2 * n - 1 - i)) 0 (omega arith)))
 
   -- each of them is a place of the order
   pub in-places-on-the-way : InPlaces n (take n order) → look order (min i (2 * n - 1 - i)) ≤ SITES

@@ -33,7 +33,11 @@ module _ {n : ℕ} {a b c : List ℕ} (w : TreeWithin largest n a b c) where
         each = length-elimination (links a b) n;
         low = λ i h. omega (
           arith,
-          sites-site n (look order i) (omega (arith, elimination-takes-only-sites (w .tree) (look order i), count-look order i (omega (arith, length-elimination (links a b) n)))),
+          sites-site n (look order i) (omega (
+            arith,
+            elimination-takes-only-sites (w .tree) (look order i),
+            count-look order i (omega (arith, length-elimination (links a b) n)),
+          )),
         );
       }
 

@@ -70,7 +70,8 @@ fn both_ways(
     capacity: &mut [u64],
 )
     requires { ⌜ (n ≤ SITES) × InPlaces n (take n (now order)) × Chained (now one) (now two) (now last) (now before) × Limited (now one) (now capacity) ⌝ }
-    ensures { λ _. ⌜ now (capacity .exit) ≡ balancedFirst (now (one .entry)) (now (two .entry)) (look (now (ends .entry))) (take n (now (order .entry))) (now (capacity .entry)) ⌝ }
+    ensures { λ _. ⌜ now (capacity .exit)
+        ≡ balancedFirst (now (one .entry)) (now (two .entry)) (look (now (ends .entry))) (take n (now (order .entry))) (now (capacity .entry)) ⌝ }
 {
     for i in 0..2 * n {
         let v = order[there_and_back(i, n)];

@@ -23,7 +23,8 @@ use Rattle.elimination.specs.Toward.{takenToward, eliminationToward, ord
 use Rattle.elimination.specs.Steps.{Proper, Counted, share, farEnd, Over, Ready, Took, Eliminated}
 use Rattle.elimination.specs.Weights.{weigh}
 use Rattle.elimination.specs.Rooted.{removed, Takes, takes-next, takes-last, length-elimination-toward}
-use Rattle.elimination.proofs.Untaken.{Untaken, low-is-untaken, lowest-is-first, stuck-is-no-tree, key-is-share, link, end, end-has-link, taken-alone, taken-over}
+use Rattle.elimination.proofs.Untaken.{Untaken, low-is-untaken, lowest-is-first, stuck-is-no-tree, key-is-share}
+use Rattle.elimination.proofs.Untaken.{link, end, end-has-link, taken-alone, taken-over}
 
 -- ---- the places of the order
 
@@ -101,7 +102,8 @@ module _ {ls : Links} {n root m i : ℕ} {order keys : List ℕ} (g : Going ls n
       let all : g .before ≡ takenToward ls root (n - c) (sites n) = sym (append-nil (g .before)) ∙ (rw none at (g .done)) in
       let last = takes-last ls apart (g .us) root (g .untaken .single) (omega (arith, g .long, g .kept, sites-single n root)) in
       let t = (rw none at (g .inward)) (rw (g .kept) at last) in (
-        g .places ∙ rw (all, e, ending-rest m n root big few some) (sym (append-assoc (takenToward ls root (n - c) (sites n)) (replicate c root) (replicate (m - n) 0))),
+        g .places ∙ rw (all, e, ending-rest m n root big few some)
+            (sym (append-assoc (takenToward ls root (n - c) (sites n)) (replicate c root) (replicate (m - n) 0))),
         record { inward = t .inward; all = λ x p. omega (arith, t .every x, sites-once n x p) },
       )
 
@@ -160,7 +162,8 @@ module _ {n : ℕ} {a b : List ℕ} (p : Proper n a b) where
         position = omega (arith, link (g .untaken) v (taking .0) apart some low .position, proper-length)
 
         far-end : one (links a b) (look keys v - 65536) + two (links a b) (look keys v - 65536) - v ≡ farEnd a b (look keys v) v
-        far-end = ap₂ (λ x y. x + y - v) (links-one a b (look keys v - 65536) position (omega (arith, position))) (links-two a b (look keys v - 65536) position (omega (arith, position)))
+        far-end = ap₂ (λ x y. x + y - v) (links-one a b (look keys v - 65536) position (omega (arith, position)))
+            (links-two a b (look keys v - 65536) position (omega (arith, position)))
 
         pub over : Over n a b keys v
         over =

@@ -58,7 +58,8 @@ raised l a b d x p q apart =
     same? a x
     (λ e. rw (pick-same e, ← e) (getD-set-other r b a s 0 apart ∙ getD-set-same l a (look l a + d) 0 p ∙ omega arith))
     (λ f. same? b x
-    (λ e. rw (pick-other f, is-same e, ← e) (getD-set-same r b s 0 (omega (arith, length-set l a (look l a + d))) ∙ rw (getD-set-other l a b (look l a + d) 0 (λ z. apart (sym z))) (omega arith)))
+    (λ e. rw (pick-other f, is-same e, ← e)
+    (getD-set-same r b s 0 (omega (arith, length-set l a (look l a + d))) ∙ rw (getD-set-other l a b (look l a + d) 0 (λ z. apart (sym z))) (omega arith)))
     (λ e. rw (pick-other f, is-other e) (getD-set-other r b x s 0 (λ z. e (sym z)) ∙ getD-set-other l a x (look l a + d) 0 (λ z. f (sym z)) ∙ omega arith)))
 
 -- ---- the untaken sites, and the list of keys
@@ -156,7 +157,8 @@ module _ {ls : Links} {n root : ℕ} {us keys : List ℕ} (u : Untaken ls n root
         (length-set keys v 131072 ∙ u .places)
         (getD-set-same keys v 131072 0 (omega (arith, u .places, u .few)))
         (λ x d c. getD-set-other keys v x 131072 0 d)
-        (λ x d c. getD-set-other keys v x 131072 0 d ∙ untaken-key x c ∙ ap (λ s. s + is root x * 131072) (weigh-alone ls us (remove v us) v here was none share x))
+        (λ x d c. getD-set-other keys v x 131072 0 d ∙ untaken-key x c
+        ∙ ap (λ s. s + is root x * 131072) (weigh-alone ls us (remove v us) v here was none share x))
 
     -- over the link whose share is its key, to the site at its other end: the key of that site goes down by the share
     module _ (apart : (i : ℕ) → i < length ls → one ls i ≢ two ls i) (some : look keys v ≢ 0) (low : look keys v < 131072) where

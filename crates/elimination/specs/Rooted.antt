@@ -1,5 +1,6 @@
 -- The order toward a root in a tree: an order of all sites from outside inward, which ends at the root; without a root it is the elimination order.
--- Never stuck: were the root the only untaken site with fewer than two links, then without it so would be the site at its one link's other end, and so on until no site is left.
+-- Never stuck: were the root the only untaken site with fewer than two links, then without it so would be the site at its one
+-- link's other end, and so on until no site is left.
 use mathlib.Core.Path.{_≡_, refl, sym, ap, ap₂, _∙_, fun-ext}
 use mathlib.Core.Logic.{_≢_, inl, inr}
 use mathlib.Core.List.{List, [], _∷_, _++_, append-nil}
@@ -58,7 +59,8 @@ pub record Takes (ls : Links) (us order : List ℕ) : Type 0 where
   pub every : (x : ℕ) → count order x ≡ count us x
   pub inward : Inward ls order
 
-pub takes-next : {ls : Links} {us : List ℕ} {v : ℕ} {vs : List ℕ} → count us v ≡ 1 → sumAt ls v (unvisited ls us) ≤ 1 → Takes ls (remove v us) vs → Takes ls us (v ∷ vs)
+pub takes-next : {ls : Links} {us : List ℕ} {v : ℕ} {vs : List ℕ} → count us v ≡ 1 → sumAt ls v (unvisited ls us) ≤ 1 → Takes ls (remove v us) vs
+    → Takes ls us (v ∷ vs)
 unfolding count unvisited
 takes-next {ls} {us} {v} {vs} here low t =
     let was : (x : ℕ) → count us x ≡ is v x + count (remove v us) x = λ x. remove-count us v x (omega arith) in
@@ -162,7 +164,8 @@ module _ {ls : Links} {n : ℕ} (T : Tree ls n) where
   pub elimination-toward-a-root-is-inward : (root : ℕ) → InwardOrder ls n (eliminationToward ls n root)
   unfolding eliminationToward
   elimination-toward-a-root-is-inward root =
-      let t = takes-toward root (n - count (sites n) root) (sites n) (omega (arith, length-upfrom 1 n, sites-single n root, T .big)) (sites-site n) (sites-single n) in
+      let t = takes-toward root (n - count (sites n) root) (sites n) (omega (arith, length-upfrom 1 n, sites-single n root, T .big)) (sites-site n)
+      (sites-single n) in
       record { inward = t .inward; all = λ x p. omega (arith, t .every x, sites-once n x p) }
 
 -- ---- the root, and how many sites there are, whatever the links
@@ -176,7 +179,8 @@ taken-alike : (ls : Links) (root k : ℕ) (us : List ℕ) → count us root ≡ 
 unfolding takenToward taken
 taken-alike ls root zero us e = refl
 taken-alike ls root (suc k) us e =
-    rw (remove-none us root e) (ap (λ l. first ls us us ∷ l) (taken-alike ls root k (remove (first ls us us) us) (omega (arith, removed us (first ls us us) root))))
+    rw (remove-none us root e) (ap (λ l. first ls us us ∷ l)
+    (taken-alike ls root k (remove (first ls us us) us) (omega (arith, removed us (first ls us us) root))))
 
 -- a root that is no site changes nothing
 pub without-a-root : (ls : Links) (n root : ℕ) → (Site n root → ⊥) → eliminationToward ls n root ≡ elimination ls n

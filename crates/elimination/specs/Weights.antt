@@ -49,7 +49,8 @@ module _ (ls : Links) where
     pub weigh-alone : sumAt ls v (unvisited ls us) ≡ 0 → (h : ℕ → ℕ) (x : ℕ) → weigh ls us h x ≡ weigh ls rest h x
     unfolding sumAt
     weigh-alone e h x =
-        let none : (i : ℕ) → i < length ls → at ls v i * unvisited ls us i ≡ 0 = λ i l. omega (arith, sum-ge (length ls) i (λ i. at ls v i * unvisited ls us i) l) in
+        let none : (i : ℕ) → i < length ls
+        → at ls v i * unvisited ls us i ≡ 0 = λ i l. omega (arith, sum-ge (length ls) i (λ i. at ls v i * unvisited ls us i) l) in
         omega (
           arith,
           weigh-off h x,

@@ -55,7 +55,8 @@ module _ (cut cut′ : ℕ → ℕ → ℕ) (labels : List ℕ) (e : (l i : ℕ)
   owners-alike start ends zero = owners-none cut labels start ends ∙ sym (owners-none cut′ labels start ends)
   owners-alike start ends (suc k) = same? (look ends (suc k)) 1
       (λ o. owners-more cut labels start ends k o
-      ∙ rw (owners-alike start ends k) (claims-same (ownersTo cut′ labels start ends k) (cut (look labels (suc k))) (cut′ (look labels (suc k))) (suc k) (e (look labels (suc k))))
+      ∙ rw (owners-alike start ends k) (claims-same (ownersTo cut′ labels start ends k) (cut (look labels (suc k))) (cut′ (look labels (suc k))) (suc k)
+      (e (look labels (suc k))))
       ∙ sym (owners-more cut′ labels start ends k o))
       (λ d. owners-same cut labels start ends k d ∙ owners-alike start ends k ∙ sym (owners-same cut′ labels start ends k d))
 
@@ -101,7 +102,8 @@ module _ (ls : Links) (n : ℕ) (c t : ℕ → ℕ) (few : n ≤ SITES) {labels 
         let claims = claim (places n (owners i)) cut (suc i) in
         places-is (owners (suc i)) n (map claims (upfrom 0 SITES)) few (length-map (upfrom 0 SITES) claims ∙ length-upfrom 0 SITES)
         (λ k h. look-values claims SITES k (omega arith) ∙ rw (look-places (owners i) n k h, cut-in k h) (sym (owner-terminal ls c t (look ends) (suc k) i m)))
-        (λ k le h. look-values claims SITES k h ∙ rw (past-places (owners i) n k le, cut-past k le) (pick-same {u = 0} refl _ _ ∙ pick-other {u = 0} {v = 1} (λ z. omega arith) _ _))
+        (λ k le h. look-values claims SITES k h
+        ∙ rw (past-places (owners i) n k le, cut-past k le) (pick-same {u = 0} refl _ _ ∙ pick-other {u = 0} {v = 1} (λ z. omega arith) _ _))
 
   no-owner : (x : ℕ) → owners 0 x ≡ 0
   unfolding ownerAmong upfrom

@@ -58,12 +58,14 @@ module _ (a b c t : List ℕ) (same : length b ≡ length a) where
       rw past (sym (map-id (upfrom 0 PLACES)))
 
   module _ {now : List ℕ} (j : ℕ) (h : j < length a) (e : now ≡ groupsFrom a b c t (j + 1)) where
-    pub groups-in : look a j < PLACES → look b j < PLACES → look t j < look c j → map (relabel (look now (look a j)) (look now (look b j))) now ≡ groupsFrom a b c t j
+    pub groups-in : look a j < PLACES → look b j < PLACES → look t j < look c j
+        → map (relabel (look now (look a j)) (look now (look b j))) now ≡ groupsFrom a b c t j
     groups-in p q l =
         let u : ℕ → ℕ = λ i. less (look t i) (look c i) in
         let from : keptFrom u (links a b) j ≡ (look a j, look b j) ∷ keptFrom u (links a b) (j + 1) =
         kept-next u (links a b) j (omega (arith, length-links a b (sym same)))
-        ∙ rw (less-one l, pick-same {u = 1} refl) (ap₂ (λ x y. (x, y) ∷ keptFrom u (links a b) (j + 1)) (links-one a b j h (omega arith)) (links-two a b j h (omega arith))) in
+        ∙ rw (less-one l, pick-same {u = 1} refl)
+        (ap₂ (λ x y. (x, y) ∷ keptFrom u (links a b) (j + 1)) (links-one a b j h (omega arith)) (links-two a b j h (omega arith))) in
         rw from (relabelled PLACES (keptFrom u (links a b) (j + 1)) (look a j) (look b j) p q e)
 
     pub groups-out : look c j ≤ look t j → now ≡ groupsFrom a b c t j

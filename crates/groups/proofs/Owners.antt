@@ -20,7 +20,8 @@ use Rattle.tree.specs.Places.{same-values}
 use Rattle.groups.specs.Steps.{claim}
 
 -- a cut is told by its places
-pub claims-same : (old : List ℕ) (cut cut′ : ℕ → ℕ) (a : ℕ) → ((i : ℕ) → cut i ≡ cut′ i) → map (claim old cut a) (upfrom 0 SITES) ≡ map (claim old cut′ a) (upfrom 0 SITES)
+pub claims-same : (old : List ℕ) (cut cut′ : ℕ → ℕ) (a : ℕ) → ((i : ℕ) → cut i ≡ cut′ i)
+    → map (claim old cut a) (upfrom 0 SITES) ≡ map (claim old cut′ a) (upfrom 0 SITES)
 unfolding claim
 claims-same old cut cut′ a e = same-values (claim old cut a) (claim old cut′ a) SITES (λ i h. rw (e i) refl)
 
@@ -107,7 +108,8 @@ module _ (ls : Links) (c t terminal : ℕ → ℕ) (x : ℕ) where
       (λ e. rw (among-first b (upfrom (suc b) (suc k)) e, among-first b (upfrom (suc b) k) e) (sym (pick-other {u = b} {v = 0} (λ z. omega arith) _ _)))
       (λ d. rw (among-rest b (upfrom (suc b) (suc k)) d, among-rest b (upfrom (suc b) k) d, add-suc, ← (suc-add b k)) (owner-last (suc b) k (omega arith))))
 
-  pub owner-terminal : (k : ℕ) → terminal (suc k) ≡ 1 → among (sites (suc k)) ≡ pick (among (sites k)) 0 (pick (inCut ls c t (suc k) x) 1 (suc k) 0) (among (sites k))
+  pub owner-terminal : (k : ℕ) → terminal (suc k) ≡ 1
+      → among (sites (suc k)) ≡ pick (among (sites k)) 0 (pick (inCut ls c t (suc k) x) 1 (suc k) 0) (among (sites k))
   owner-terminal k e = owner-last 1 k (omega arith) ∙ rw (one-add k, is-same e, one-mul) refl
 
   pub owner-inner : (k : ℕ) → terminal (suc k) ≢ 1 → among (sites k) ≡ among (sites (suc k))

@@ -75,7 +75,11 @@ module _ {labels a b : List ℕ} (k : Placed a b) (c t : List ℕ) (grouped : la
   pub labels-small : (x : ℕ) → look labels x ≤ SITES
   labels-small x = cases (decLt x PLACES)
       (λ h. rw (look-group x (omega arith)) (group-small x (omega arith)))
-      (λ h. omega (arith, List·getD-eq-default labels 0 {n = x} (omega (arith, ap length grouped, length-map (upfrom 0 PLACES) label-of, length-upfrom 0 PLACES))))
+      (λ h. omega (
+        arith,
+        List·getD-eq-default labels 0 {n = x}
+            (omega (arith, ap length grouped, length-map (upfrom 0 PLACES) label-of, length-upfrom 0 PLACES)),
+      ))
 
   -- the sum at the label of a site is the size of the cut with that label
   pub leaving-is-size : (x : ℕ) → x ≤ SITES → leaving labels a b c (look labels x) ≡ cutSize (links a b) (look c) (look t) x

@@ -54,14 +54,20 @@ module _ (words labels : List ℕ) (k : ℕ) (h : k < SITES) (small : look label
   module _ (l i : ℕ) (before : inWords words l i ≡ labelled k labels l i) (p : i < SITES) where
     -- the word that is changed, and any other
     changed : l * WORDS + i / 64 ≡ here → bit (look next (l * WORDS + i / 64)) (i % 64) ≡ labelled (k + 1) labels l i
-    changed e = rw (e, getD-set-same words here (bitOr (look words here) (1 * 2 ^ (k % 64) % 2 ^ 64)) 0 (omega arith), or-bit (look words here) (k % 64) (i % 64) (omega arith)) (same? i k
-        (λ q. pick-same (ap (λ n. n % 64) q) _ _ ∙ sym (ap (labelled (k + 1) labels l) q ∙ labelled-here l ∙ is-same {u = look labels (k + 1)} {v = l} (omega arith)))
+    changed e = rw (
+      e,
+      getD-set-same words here (bitOr (look words here) (1 * 2 ^ (k % 64) % 2 ^ 64)) 0 (omega arith),
+      or-bit (look words here) (k % 64) (i % 64) (omega arith),
+    ) (same? i k
+        (λ q. pick-same (ap (λ n. n % 64) q) _ _
+        ∙ sym (ap (labelled (k + 1) labels l) q ∙ labelled-here l ∙ is-same {u = look labels (k + 1)} {v = l} (omega arith)))
         (λ d. pick-other {u = i % 64} {v = k % 64} (λ z. d (omega arith)) _ _
         ∙ ap (λ w. bit (look words w) (i % 64)) (sym e) ∙ sym (in-low words l i p) ∙ before ∙ labelled-other l i d))
 
     kept : l * WORDS + i / 64 ≢ here → bit (look next (l * WORDS + i / 64)) (i % 64) ≡ labelled (k + 1) labels l i
     kept n = rw (getD-set-other words here (l * WORDS + i / 64) (bitOr (look words here) (1 * 2 ^ (k % 64) % 2 ^ 64)) 0 n) (same? i k
-        (λ q. sym (in-low words l i p) ∙ before ∙ ap (labelled k labels l) q ∙ labelled-none l ∙ sym (ap (labelled (k + 1) labels l) q ∙ labelled-here l ∙ is-other (λ z. n (rw (q, z) refl))))
+        (λ q. sym (in-low words l i p) ∙ before ∙ ap (labelled k labels l) q ∙ labelled-none l
+        ∙ sym (ap (labelled (k + 1) labels l) q ∙ labelled-here l ∙ is-other (λ z. n (rw (q, z) refl))))
         (λ d. sym (in-low words l i p) ∙ before ∙ labelled-other l i d))
 
   pub words-next : (l i : ℕ) → inWords words l i ≡ labelled k labels l i → inWords next l i ≡ labelled (k + 1) labels l i

@@ -65,10 +65,12 @@ module _ (f : ℕ → ℕ) where
   unfolding places
   past-places n i h =
       let e : i ≡ length (map f (sites n)) + (i - n) = omega (arith, length-sites n) in
-      ap (look (map f (sites n) ++ replicate (SITES - n) 0)) e ∙ getD-append-add (map f (sites n)) (replicate (SITES - n) 0) (i - n) 0 ∙ look-zeros (SITES - n) (i - n)
+      ap (look (map f (sites n) ++ replicate (SITES - n) 0)) e ∙ getD-append-add (map f (sites n)) (replicate (SITES - n) 0) (i - n) 0
+      ∙ look-zeros (SITES - n) (i - n)
 
   -- a list of SITES places is told by what it holds at the sites
-  pub places-is : (n : ℕ) (l : List ℕ) → n ≤ SITES → length l ≡ SITES → ((i : ℕ) → i < n → look l i ≡ f (suc i)) → ((i : ℕ) → n ≤ i → i < SITES → look l i ≡ 0) → l ≡ places n f
+  pub places-is : (n : ℕ) (l : List ℕ) → n ≤ SITES → length l ≡ SITES → ((i : ℕ) → i < n → look l i ≡ f (suc i))
+      → ((i : ℕ) → n ≤ i → i < SITES → look l i ≡ 0) → l ≡ places n f
   places-is n l h e at past = ext-getD 0 l (places n f) (e ∙ sym (length-places n h)) (λ i lt. cases (decLt i n)
       (λ k. at i k ∙ sym (look-places n i k))
       (λ k. past i (omega arith) (omega arith) ∙ sym (past-places n i (omega arith))))
@@ -93,7 +95,8 @@ module _ (f : ℕ → ℕ) where
 -- the places of terminals, one site more
 module _ (terminal f : ℕ → ℕ) {now : List ℕ} (i : ℕ) (h : i < SITES) (e : now ≡ places i (ofTerminal terminal f)) where
   pub places-terminal : {v : ℕ} → terminal (i + 1) ≡ 1 → v ≡ f (i + 1) → set now i v ≡ places (i + 1) (ofTerminal terminal f)
-  places-terminal = rw (add-one i, e) (λ o g. ap (set (places i (ofTerminal terminal f)) i) (g ∙ sym (of-terminal terminal f (suc i) o)) ∙ places-next (ofTerminal terminal f) i h)
+  places-terminal = rw (add-one i, e) (λ o g. ap (set (places i (ofTerminal terminal f)) i) (g ∙ sym (of-terminal terminal f (suc i) o))
+      ∙ places-next (ofTerminal terminal f) i h)
 
   pub places-inner : terminal (i + 1) ≢ 1 → now ≡ places (i + 1) (ofTerminal terminal f)
   places-inner = rw (add-one i) (λ d. e ∙ places-skip (ofTerminal terminal f) i h (of-inner terminal f (suc i) d))
@@ -106,7 +109,8 @@ places-same f g n h e = places-upto f g n h (λ i lt. e (suc i))
 
 -- where f is 0 there are zeros only
 pub places-zero : (f : ℕ → ℕ) (n : ℕ) → n ≤ SITES → ((x : ℕ) → f x ≡ 0) → replicate SITES 0 ≡ places n f
-places-zero f n h z = places-is f n (replicate SITES 0) h (length-replicate {A = ℕ} SITES 0) (λ i lt. look-zeros SITES i ∙ sym (z (suc i))) (λ i le lt. look-zeros SITES i)
+places-zero f n h z = places-is f n (replicate SITES 0) h (length-replicate {A = ℕ} SITES 0) (λ i lt. look-zeros SITES i ∙ sym (z (suc i)))
+    (λ i le lt. look-zeros SITES i)
 
 pub places-sum : (f : ℕ → ℕ) (n : ℕ) → n ≤ SITES → sum SITES (look (places n f)) ≡ over (sites n) f
 places-sum f n h =

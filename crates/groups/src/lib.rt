@@ -40,7 +40,8 @@ const NONE: usize = 0;
 // Joins the sites of the links whose balanced capacity is below the given one, the last link first.
 fn join_kept(one: &[usize], two: &[usize], capacity: &[u64], balanced: &[u64], labels: &mut [u16])
     requires { ⌜ (now labels ≡ upfrom 0 PLACES) × Placed (now one) (now two) × Limited (now one) (now capacity) × (length (now balanced) ≡ length (now one)) ⌝ }
-    ensures { λ _. ⌜ now (labels .exit) ≡ map (group (links (now (one .entry)) (now (two .entry))) (look (now (capacity .entry))) (look (now (balanced .entry)))) (upfrom 0 PLACES) ⌝ }
+    ensures { λ _. ⌜ now (labels .exit) ≡ map
+        (group (links (now (one .entry)) (now (two .entry))) (look (now (capacity .entry))) (look (now (balanced .entry)))) (upfrom 0 PLACES) ⌝ }
 {
     let mut j = one.len();
     while 0 < j {
@@ -54,7 +55,8 @@ fn join_kept(one: &[usize], two: &[usize], capacity: &[u64], balanced: &[u64], l
 // Adds d at the labels of two sites, nothing where they have the same label.
 fn add_at_labels(sums: &mut [u64; PLACES], labels: &[u16; PLACES], one: usize, two: usize, d: u64)
     requires { ⌜ Addable (now sums) (now labels) one two d ⌝ }
-    ensures { λ _. ⌜ (length (now (sums .exit)) ≡ PLACES) × ((l : ℕ) → look (now (sums .exit)) l ≡ look (now (sums .entry)) l + leaves (now (labels .entry)) one two l * d) ⌝ }
+    ensures { λ _. ⌜ (length (now (sums .exit)) ≡ PLACES)
+        × ((l : ℕ) → look (now (sums .exit)) l ≡ look (now (sums .entry)) l + leaves (now (labels .entry)) one two l * d) ⌝ }
 {
     let a = labels[one] as usize;
     let b = labels[two] as usize;
@@ -84,7 +86,8 @@ fn sums_leaving(
 // The groups of a tree's sites, by the given and the balanced capacities of its links.
 fn of_links(one: &[usize], two: &[usize], capacity: &[u64], balanced: &[u64]) -> Tally
     requires { ⌜ Placed (now one) (now two) × Limited (now one) (now capacity) × (length (now balanced) ≡ length (now one)) ⌝ }
-    ensures { λ r. ⌜ Tallied (links (now (one .entry)) (now (two .entry))) (look (now (capacity .entry))) (look (now (balanced .entry))) (r .labels) (r .leaving) ⌝ }
+    ensures { λ r. ⌜ Tallied (links (now (one .entry)) (now (two .entry))) (look (now (capacity .entry))) (look (now (balanced .entry))) (r .labels)
+        (r .leaving) ⌝ }
 {
     let mut labels = labels::own_labels();
     join_kept(one, two, capacity, balanced, &mut labels);
@@ -144,7 +147,8 @@ fn take_cut(
     a: usize,
 ) -> usize
     requires { ⌜ (length (now owner) ≡ SITES) × (a ≤ SITES) × (look (now labels) a ≤ SITES) ⌝ }
-    ensures { λ r. ⌜ (now (owner .exit) ≡ map (claim (now (owner .entry)) (inWords (now (words .entry)) (look (now (labels .entry)) a)) a) (upfrom 0 SITES)) × (r ≡ members (inWords (now (words .entry))) (now (labels .entry)) a) ⌝ }
+    ensures { λ r. ⌜ (now (owner .exit) ≡ map (claim (now (owner .entry)) (inWords (now (words .entry)) (look (now (labels .entry)) a)) a) (upfrom 0 SITES))
+        × (r ≡ members (inWords (now (words .entry))) (now (labels .entry)) a) ⌝ }
 {
     let cut = cut_of(words, labels[a]);
     put_owner(owner, cut, a);
@@ -160,7 +164,8 @@ fn put_owners(
     ends: &[u8; PLACES],
 ) -> [usize; SITES]
     requires { ⌜ (length (now owner) ≡ SITES) × (n ≤ SITES) × ((x : ℕ) → look (now labels) x ≤ SITES) ⌝ }
-    ensures { λ r. ⌜ (now (owner .exit) ≡ ownersTo (inWords (now (words .entry))) (now (labels .entry)) (now (owner .entry)) (now (ends .entry)) n) × (r ≡ places n (ofTerminal (look (now (ends .entry))) (members (inWords (now (words .entry))) (now (labels .entry))))) ⌝ }
+    ensures { λ r. ⌜ (now (owner .exit) ≡ ownersTo (inWords (now (words .entry))) (now (labels .entry)) (now (owner .entry)) (now (ends .entry)) n)
+        × (r ≡ places n (ofTerminal (look (now (ends .entry))) (members (inWords (now (words .entry))) (now (labels .entry))))) ⌝ }
 {
     let mut count = [0usize; SITES];
     for i in 0..n {
@@ -213,7 +218,8 @@ pub fn cuts_of(
     balanced: &[u64],
 ) -> Owned
     requires { ⌜ (n ≤ SITES) × Placed (now one) (now two) × Limited (now one) (now capacity) × (length (now balanced) ≡ length (now one)) ⌝ }
-    ensures { λ r. ⌜ r ≡ owned (links (now (one .entry)) (now (two .entry))) n (look (now (ends .entry))) (look (now (capacity .entry))) (look (now (balanced .entry))) ⌝ }
+    ensures { λ r. ⌜ r ≡ owned (links (now (one .entry)) (now (two .entry))) n (look (now (ends .entry))) (look (now (capacity .entry)))
+        (look (now (balanced .entry))) ⌝ }
 {
     let tally = of_links(one, two, capacity, balanced);
     let labels = tally.labels;

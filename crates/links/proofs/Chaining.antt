@@ -16,10 +16,12 @@ use Rattle.links.specs.Chains.{Placed, lastAt}
 -- the number y stored for both sites of a link
 stored : (l : List ℕ) (a b y x : ℕ) → a < length l → b < length l → look (set (set l a y) b y) x ≡ pick (pick a x 1 (is b x)) 1 y (look l x)
 stored l a b y x p q = same? b x
-    (λ e. rw (← e) (getD-set-same (set l a y) b y 0 (omega (arith, length-set l a y)) ∙ sym (pick-same (rw (is-same {u = b} refl) (pick-const a b 1)) y (look l b))))
+    (λ e. rw (← e) (getD-set-same (set l a y) b y 0 (omega (arith, length-set l a y))
+    ∙ sym (pick-same (rw (is-same {u = b} refl) (pick-const a b 1)) y (look l b))))
     (λ d. getD-set-other (set l a y) b x y 0 (λ z. d (sym z)) ∙ same? a x
     (λ e. rw (← e) (getD-set-same l a y 0 p ∙ sym (pick-same (pick-same refl 1 (is b a)) y (look l a))))
-    (λ e. getD-set-other l a x y 0 (λ z. e (sym z)) ∙ sym (pick-other {u = pick a x 1 (is b x)} {v = 1} (λ z. omega (arith, rw (pick-other e, is-other d) at z)) y (look l x))))
+    (λ e. getD-set-other l a x y 0 (λ z. e (sym z))
+    ∙ sym (pick-other {u = pick a x 1 (is b x)} {v = 1} (λ z. omega (arith, rw (pick-other e, is-other d) at z)) y (look l x))))
 
 -- the first j links are chained
 pub record ChainedTo (a b : List ℕ) (j : ℕ) (last before : List ℕ) : Type 0 where
@@ -32,7 +34,8 @@ unfolding lastAt
 chain-start a b = record { places = (refl, refl); lasts = λ v h. getD-replicate PLACES v 0 0 (omega arith); befores = λ i l. absurd (omega arith) }
 
 pub chain-next : {a b : List ℕ} {j : ℕ} {last before : List ℕ} → Placed a b → j < length a → ChainedTo a b j last before
-    → ChainedTo a b (j + 1) (set (set last (look a j) (j + 1)) (look b j) (j + 1)) (set (set before (2 * j) (look last (look a j))) (2 * j + 1) (look last (look b j)))
+    → ChainedTo a b (j + 1) (set (set last (look a j) (j + 1)) (look b j) (j + 1))
+    (set (set before (2 * j) (look last (look a j))) (2 * j + 1) (look last (look b j)))
 unfolding lastAt
 chain-next {a} {b} {j} {last} {before} p h c =
     let s = p .sites j h in
@@ -45,7 +48,9 @@ chain-next {a} {b} {j} {last} {before} p h c =
           ∙ ap₂ (λ t u. pick t 1 (suc j) u) (sym (links-at-site a b v j h (omega (arith, p .seconds)))) (c .lasts v l));
       befores = λ i l. same? i j
           (λ e. rw e (
-            getD-set-other inner (2 * j + 1) (2 * j) y 0 (λ z. omega arith) ∙ getD-set-same before (2 * j) x 0 (omega (arith, c .places, p .few)) ∙ c .lasts (look a j) (s .0),
+            getD-set-other inner (2 * j + 1) (2 * j) y 0 (λ z. omega arith)
+                ∙ getD-set-same before (2 * j) x 0 (omega (arith, c .places, p .few))
+                ∙ c .lasts (look a j) (s .0),
             getD-set-same inner (2 * j + 1) y 0 (omega (arith, c .places, p .few, length-set before (2 * j) x)) ∙ c .lasts (look b j) (s .1),
           ))
           (λ d. let k = c .befores i (omega arith) in (

@@ -1,5 +1,6 @@
 -- The links at a site as a chain, the last first: what the functions are given and give, and the laws of a walk along a chain.
--- Between a link of the chain and the one before it no link is at the site: a walk along the chain meets every link there, and sums what a sum over all links sums.
+-- Between a link of the chain and the one before it no link is at the site: a walk along the chain meets every link there,
+-- and sums what a sum over all links sums.
 use mathlib.Core.Path.{_≡_, refl, sym, ap, _∙_}
 use mathlib.Core.Logic.{_≢_}
 use mathlib.Core.List.{List}

@@ -45,7 +45,8 @@ pub fn link_before(
     before: &[usize; CHAINS],
 ) -> usize
     requires { ⌜ (j < length (now one)) × (j < length (now two)) × (j < SITES) ⌝ }
-    ensures { λ r. ⌜ r ≡ pick (look (now (one .entry)) j) v (look (now (before .entry)) (2 * j)) (pick (look (now (two .entry)) j) v (look (now (before .entry)) (2 * j + 1)) 0) ⌝ }
+    ensures { λ r. ⌜ r ≡ pick (look (now (one .entry)) j) v (look (now (before .entry)) (2 * j))
+        (pick (look (now (two .entry)) j) v (look (now (before .entry)) (2 * j + 1)) 0) ⌝ }
 {
     if one[j] == v {
         return before[2 * j];

@@ -134,7 +134,8 @@ module _ {ls : Links} {n : ℕ} (T : Tree ls n) (terminal : ℕ → ℕ) where
       omega (
         arith,
         twice-total es h,
-        over-eq (sites n) (λ w. is (terminal w) 1 * sumAt ls w (load ls es)) (λ w. parts * (is (terminal w) 1 * sumAt ls w t)) (λ w q. rw (full w) (omega arith)),
+        over-eq (sites n) (λ w. is (terminal w) 1 * sumAt ls w (load ls es)) (λ w. parts * (is (terminal w) 1 * sumAt ls w t))
+            (λ w q. rw (full w) (omega arith)),
         over-mul (sites n) parts (λ w. is (terminal w) 1 * sumAt ls w t),
       )
 

@@ -44,7 +44,8 @@ module _ {ls : Links} {n : ℕ} (T : Tree ls n) (v j : ℕ) (pv : Site n v) (l :
         arith,
         through x y p q e,
         through y x q p d,
-        sum-eq (length ls) (λ i. at ls v i * separates ls i x y) (λ i. at ls v i * separates ls i y x) (λ i k. ap (λ c. at ls v i * c) (differ-comm (side ls i x) (side ls i y))),
+        sum-eq (length ls) (λ i. at ls v i * separates ls i x y) (λ i. at ls v i * separates ls i y x)
+            (λ i k. ap (λ c. at ls v i * c) (differ-comm (side ls i x) (side ls i y))),
         separates-triple T j v x y l pv p q,
         differ-triangle X Z Y,
         differ-comm X Z,

@@ -13,7 +13,8 @@ use Rattle.network.specs.Network.{Links, Site, Tree, sites, one, two, at, sumAt
 use Rattle.network.specs.Trimming.{unvisited, first, remove, taken, elimination, Inward, InwardOrder}
 use Rattle.theory.specs.Sums.{pick-same, pick-other, is-same, is-other, is-iff, same?, cases, sum-add, sum-le}
 use Rattle.theory.specs.Trees.{loopless, far-one, local}
-use Rattle.theory.specs.Sites.{length-upfrom, count-low, sites-once, sites-site, sites-single, over-add, over-mul, over-one, over-le, over-eq, over-is, exchange}
+use Rattle.theory.specs.Sites.{length-upfrom, count-low, sites-once, sites-site, sites-single, over-add}
+use Rattle.theory.specs.Sites.{over-mul, over-one, over-le, over-eq, over-is, exchange}
 
 -- each site is the lowest of those that could be taken when it was
 abbrev pub Lowest : Links → List ℕ → Type 0

@@ -153,7 +153,8 @@ module _ (ls : Links) where
   unfolding others sumAt
   others-add v j f l a = omega (
     arith,
-    rw (pick-same {u = j} refl, a) at (sum-eq-but (length ls) j (λ i. pick i j 0 (at ls v i * f i)) (λ i. at ls v i * f i) l (λ i k d. pick-other d 0 (at ls v i * f i))),
+    rw (pick-same {u = j} refl, a) at (sum-eq-but (length ls) j (λ i. pick i j 0 (at ls v i * f i)) (λ i. at ls v i * f i) l
+        (λ i k d. pick-other d 0 (at ls v i * f i))),
   )
 
 module _ {ls : Links} {n : ℕ} (T : Tree ls n) (v : ℕ) where

@@ -82,7 +82,8 @@ module _ (most n : ℕ) (a b : List ℕ) where
   unfolding isTree
   is-tree-is-a-tree e =
       let ls = links a b in
-      let t6 = both-true (leb 2 n && leb n most && eqb n (suc (length a)) && eqb n (suc (length b)) && within 1 n a && within 1 n b) (labelled ls (label ls 1) (sites n)) e in
+      let t6 = both-true (leb 2 n && leb n most && eqb n (suc (length a)) && eqb n (suc (length b)) && within 1 n a && within 1 n b)
+      (labelled ls (label ls 1) (sites n)) e in
       let t5 = both-true (leb 2 n && leb n most && eqb n (suc (length a)) && eqb n (suc (length b)) && within 1 n a) (within 1 n b) (t6 .0) in
       let t4 = both-true (leb 2 n && leb n most && eqb n (suc (length a)) && eqb n (suc (length b))) (within 1 n a) (t5 .0) in
       let t3 = both-true (leb 2 n && leb n most && eqb n (suc (length a))) (eqb n (suc (length b))) (t4 .0) in
@@ -198,7 +199,8 @@ module _ (n : ℕ) (a b c : List ℕ) where
     eliminated-toward-is-inward e =
         rw (eliminated-toward-in-order e) (elimination-toward-a-root-is-inward (accepted-is-a-tree-within-the-limits largest n a b c e .tree) root)
 
-    pub eliminated-toward-ends-at-the-root : offer largest n a b c ≡ Accepted → Site n root → look (take n (eliminatedToward n a b c root .sites)) (n - 1) ≡ root
+    pub eliminated-toward-ends-at-the-root : offer largest n a b c ≡ Accepted → Site n root
+        → look (take n (eliminatedToward n a b c root .sites)) (n - 1) ≡ root
     eliminated-toward-ends-at-the-root e p = rw (eliminated-toward-in-order e) (ends-at-the-root (links a b) n root p)
 
     -- a root that is no site changes nothing

@@ -54,7 +54,12 @@ module _ {n : ℕ} {one two c : List ℕ} (w : TreeWithin largest n one two c) w
         firsts = w .firsts;
         seconds = w .seconds;
         capacities = omega (arith, p .each);
-        limited = λ j h. omega (arith, p .each, p .greatest .below j (omega (arith, p .each, length-links one two (omega arith))), w .limited j (omega (arith, p .each)));
+        limited = λ j h. omega (
+          arith,
+          p .each,
+          p .greatest .below j (omega (arith, p .each, length-links one two (omega arith))),
+          w .limited j (omega (arith, p .each)),
+        );
       }
 
 module _ (n : ℕ) (one two c lent : List ℕ) (e : answer n one two c lent ≡ Balanced) where
@@ -68,13 +73,15 @@ module _ (n : ℕ) (one two c lent : List ℕ) (e : answer n one two c lent ≡ 
   list-after = rw (e, capacities-keep-the-promise within .each) refl
 
   first-places : take (length one) (trimmed n one two c lent) ≡ capacities n one two c
-  first-places = ap (take (length one)) list-after ∙ take-at (capacities n one two c) (drop (length one) lent) (length one) (capacities-keep-the-promise within .each)
+  first-places = ap (take (length one)) list-after
+      ∙ take-at (capacities n one two c) (drop (length one) lent) (length one) (capacities-keep-the-promise within .each)
 
   pub trimming-keeps-its-promise : Promise n one two c (take (length one) (trimmed n one two c lent))
   trimming-keeps-its-promise = rw first-places (capacities-keep-the-promise within)
 
   pub later-places-stay : drop (length one) (trimmed n one two c lent) ≡ drop (length one) lent
-  later-places-stay = ap (drop (length one)) list-after ∙ drop-at (capacities n one two c) (drop (length one) lent) (length one) (capacities-keep-the-promise within .each)
+  later-places-stay = ap (drop (length one)) list-after
+      ∙ drop-at (capacities n one two c) (drop (length one) lent) (length one) (capacities-keep-the-promise within .each)
 
   -- handed its own answer as capacities, trimming gives that answer back
   pub its-answer-is-accepted : offer largest n one two (take (length one) (trimmed n one two c lent)) ≡ offered.Accepted
@@ -102,7 +109,8 @@ short-is-short offered.Accepted false e = (refl, refl)
 
 module _ (n : ℕ) (one two c lent : List ℕ) where
   -- 9 is told after every other cause, for fewer lent places than links
-  pub nine-means-too-few-places : told (answer n one two c lent) (length one) .number ≡ 9 → (offer largest n one two c ≡ offered.Accepted) × (length lent < length one)
+  pub nine-means-too-few-places : told (answer n one two c lent) (length one) .number ≡ 9
+      → (offer largest n one two c ≡ offered.Accepted) × (length lent < length one)
   unfolding answer
   nine-means-too-few-places e =
       let t = short-is-short (offer largest n one two c) (leb (length one) (length lent)) (nine-is-short (answer n one two c lent) (length one) e) in

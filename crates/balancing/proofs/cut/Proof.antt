@@ -24,6 +24,10 @@ Inv-loop v ends last before one two capacity₀ sum p₀ capacity p =
 abbrev μ-loop : tie.MeasureT-loop
 μ-loop v ends last before one two capacity₀ sum p₀ capacity p = p
 
+-- where the loop began
+abbrev begun : tie.At-loop Inv-loop μ-loop → tie.Start Inv-loop μ-loop
+begun t = t .before .before .before .before .before .before .before .before .before
+
 terminal : tie.Need-returns Inv-loop μ-loop
 terminal c =
     let s = c .before .before .before .before .before in
@@ -43,7 +47,7 @@ start c =
 
 -- what is known from before the loop: v is no terminal, and the sum is that of the links at v
 known : (t : tie.At-loop Inv-loop μ-loop) →
-    let a = t .before .before .before .before .before .before .before .before .before .args in
+    let a = begun t .args in
     let ls = links (a .one .now) (a .two .now) in
     (look (a .ends .now) (a .v) ≢ 1) × (t .before .before .sum-at .result ≡ sumAt ls (a .v) (look (a .capacity .now)))
 known t = (t .before .before .before .before .if1 .left, t .before .before .sum-at .ensures)
@@ -52,7 +56,7 @@ known t = (t .before .before .before .before .if1 .left, t .before .before .sum-
 fits : tie.Need-keep-requires Inv-loop μ-loop
 fits c κs =
     let t = c .before .before in
-    let s = t .before .before .before .before .before .before .before .before .before in
+    let s = begun t in
     let a = s .args in
     let ls = links (a .one .now) (a .two .now) in
     let j = t .loop .p - 1 in
@@ -60,28 +64,30 @@ fits c κs =
       arith,
       t .loop .inv .1 .ahead j (omega arith),
       known t .1,
-      others-add ls (a .v) j (look (a .capacity .now)) (omega (arith, length-links (a .one .now) (a .two .now) (sym (s .pre .1 .placed .seconds)))) (t .loop .inv .0 .1 (c .before .loop-test .taken)),
+      others-add ls (a .v) j (look (a .capacity .now)) (omega (arith, length-links (a .one .now) (a .two .now) (sym (s .pre .1 .placed .seconds))))
+          (t .loop .inv .0 .1 (c .before .loop-test .taken)),
     )
 
 -- the link before
 back : (c : tie.After-link-before Inv-loop μ-loop) → let t = c .before .before .before .before in
-    let a = t .before .before .before .before .before .before .before .before .before .args in
+    let a = begun t .args in
     c .link-before .result ≡ lastAt (links (a .one .now) (a .two .now)) (t .loop .p - 1) (a .v)
 back c =
     let t = c .before .before .before .before in
-    let s = t .before .before .before .before .before .before .before .before .before in
-    walk-goes-on (s .pre .1) (s .args .v) (t .loop .p - 1) (c .link-before .result) (omega arith) (t .loop .inv .0 .1 (c .before .before .before .loop-test .taken)) (c .link-before .ensures)
+    let s = begun t in
+    let here = t .loop .inv .0 .1 (c .before .before .before .loop-test .taken) in
+    walk-goes-on (s .pre .1) (s .args .v) (t .loop .p - 1) (c .link-before .result) (omega arith) here (c .link-before .ensures)
 
 falls : tie.Need-loop-less Inv-loop μ-loop
 falls c =
     let t = c .before .before .before .before in
-    let a = t .before .before .before .before .before .before .before .before .before .args in
+    let a = begun t .args in
     omega (arith, back c, last-le (links (a .one .now) (a .two .now)) (a .v) (t .loop .p - 1))
 
 next : tie.Need-loop-again Inv-loop μ-loop
 next c =
     let t = c .before .before .before .before in
-    let s = t .before .before .before .before .before .before .before .before .before in
+    let s = begun t in
     let a = s .args in
     let ls = links (a .one .now) (a .two .now) in
     let j = t .loop .p - 1 in
@@ -91,7 +97,8 @@ next c =
     rw (back c) (
       on-last ls (a .v) (length (a .one .now)) j (omega arith),
       cut-next (t .loop .inv .1) (omega arith) (omega arith) (s .pre .2 .places)
-          (c .before .keep .ensures ∙ cut-inner ls (look (a .ends .now)) (a .v) (look (a .capacity .now)) j (k .0) here (t .loop .inv .1 .ahead j (omega arith)) (k .1))
+          (c .before .keep .ensures
+          ∙ cut-inner ls (look (a .ends .now)) (a .v) (look (a .capacity .now)) j (k .0) here (t .loop .inv .1 .ahead j (omega arith)) (k .1))
           (omega arith)
           (λ i h l. cutAt-away ls (look (a .ends .now)) (a .v) (look (a .capacity .now)) i (last-none ls (a .v) j i h l)),
     )
@@ -99,11 +106,12 @@ next c =
 at-end : tie.Need-returns-2 Inv-loop μ-loop
 at-end c =
     let t = c .before in
-    let s = t .before .before .before .before .before .before .before .before .before in
+    let s = begun t in
     let a = s .args in
     let ls = links (a .one .now) (a .two .now) in
     let none : t .loop .p ≡ 0 = omega arith in
-    cut-end (cutAt ls (look (a .ends .now)) (a .v) (look (a .capacity .now))) (length (a .one .now)) (a .capacity .now) (t .loop .capacity) (s .pre .2 .places) (rw none at (t .loop .inv .1))
+    let cuts = cutAt ls (look (a .ends .now)) (a .v) (look (a .capacity .now)) in
+    cut-end cuts (length (a .one .now)) (a .capacity .now) (t .loop .capacity) (s .pre .2 .places) (rw none at (t .loop .inv .1))
     ∙ cut-filled (a .one .now) (a .two .now) (look (a .ends .now)) (s .pre .1 .placed .seconds) (a .v) (a .capacity .now)
 
 pub cut-spec : {M : Type 1} → statement M
@@ -126,7 +134,7 @@ cut-spec =
     (λ c. omega arith)
     (λ c. omega (arith, c .before .before .before .loop .inv .1 .long))
     (λ c. omega arith)
-    (λ c κs. let f = c .before .before .before .before .before .before .before .before .before .before .before .before .pre .1 .placed in (omega arith, omega arith, omega arith))
+    (λ c κs. let f = begun (c .before .before .before) .pre .1 .placed in (omega arith, omega arith, omega arith))
     falls
     next
     (λ c. c .before .loop .inv .1 .long)

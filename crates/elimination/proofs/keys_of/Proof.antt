@@ -26,10 +26,13 @@ abbrev μ-loop : tie.MeasureT-loop
 μ-loop one two root keys₀ j₀ j-end keys j = length one - j
 
 -- at first there is only what the root has more
-only-root : (m root x : ℕ) → root < m → let l : List ℕ = set (replicate m 0) root 131072 in (look l x ≤ 0 * 65791 + 131072) × (look l x ≡ 0 + is root x * 131072)
+only-root : (m root x : ℕ) → root < m → let l : List ℕ = set (replicate m 0) root 131072 in (look l x ≤ 0 * 65791 + 131072)
+    × (look l x ≡ 0 + is root x * 131072)
 only-root m root x h = same? root x
-    (λ e. let k = getD-set-same {A = ℕ} (replicate m 0) root 131072 0 (omega (arith, length-replicate {A = ℕ} m 0)) in rw (is-same e, ← e) (omega (arith, k), omega (arith, k)))
-    (λ d. let k = getD-set-other {A = ℕ} (replicate m 0) root x 131072 0 (λ z. d (sym z)) ∙ look-zeros m x in rw (is-other d) (omega (arith, k), omega (arith, k)))
+    (λ e. let k = getD-set-same {A = ℕ} (replicate m 0) root 131072 0 (omega (arith, length-replicate {A = ℕ} m 0)) in rw (is-same e, ← e)
+    (omega (arith, k), omega (arith, k)))
+    (λ d. let k = getD-set-other {A = ℕ} (replicate m 0) root x 131072 0 (λ z. d (sym z))
+    ∙ look-zeros m x in rw (is-other d) (omega (arith, k), omega (arith, k)))
 
 start : tie.Need-loop-holds Inv-loop μ-loop
 unfolding sum
@@ -66,7 +69,8 @@ at-end : tie.Need-returns Inv-loop μ-loop
 unfolding sumAt
 at-end c =
     let s = c .before .before .before .before in
-    let all : c .before .loop .j ≡ length (links (s .args .one .now) (s .args .two .now)) = omega (arith, length-links (s .args .one .now) (s .args .two .now) (omega arith)) in
+    let all : c .before .loop .j ≡ length (links (s .args .one .now) (s .args .two .now)) = omega
+    (arith, length-links (s .args .one .now) (s .args .two .now) (omega arith)) in
     record { places = c .before .loop .inv .1; key = λ x. rw all at (c .before .loop .inv .2 x .1) }
 
 pub keys-of-spec : {M : Type 1} → statement M

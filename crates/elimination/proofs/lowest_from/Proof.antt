@@ -24,8 +24,12 @@ found c =
 
 next : tie.Need-loop-again Inv-loop μ-loop
 next c =
-    let top = c .before .before .before in
-    (omega arith, omega arith, below-more (λ y. top .before .args .from ≤ y → 131072 ≤ look (top .before .args .keys .now) y) (top .loop .x) (top .loop .inv .2) (λ h. c .if1 .left))
+    let top = c .before .before .before in (
+      omega arith,
+      omega arith,
+      below-more (λ y. top .before .args .from ≤ y → 131072 ≤ look (top .before .args .keys .now) y) (top .loop .x)
+          (top .loop .inv .2) (λ h. c .if1 .left),
+    )
 
 none : tie.Need-returns-2 Inv-loop μ-loop
 none c = record {

@@ -33,7 +33,8 @@ start c =
 stuck : tie.Need-returns Inv-loop μ-loop
 stuck c =
     let t = c .before .before .before .before in
-    none-found (t .before .before .before .before .pre .0) (t .loop .inv .1) (omega (arith, t .before .others .ensures, c .before .before .before .loop-test .taken))
+    none-found (t .before .before .before .before .pre .0) (t .loop .inv .1)
+    (omega (arith, t .before .others .ensures, c .before .before .before .loop-test .taken))
     (λ x p. c .before .lowest .ensures .none (c .if1 .taken) x p (p .0))
 
 take : tie.Need-take-requires Inv-loop μ-loop
@@ -68,9 +69,11 @@ again c =
       omega (arith, i, e .before .before .before .loop-test .taken),
       next p g v (s .0) (s .1) (omega (arith, i, e .before .before .before .loop-test .taken)) (λ x q. below x q (q .0)) took,
       same? (look (t .loop .keys) v) 0
-          (λ z. rw (took .alone z .1) (behind-alone (t .loop .inv .2) (s .0) (s .1) below long _ (rw (took .alone z .0, took .alone z .1) at (c .onward .ensures))))
+          (λ z. rw (took .alone z .1) (behind-alone (t .loop .inv .2) (s .0) (s .1) below long _
+          (rw (took .alone z .0, took .alone z .1) at (c .onward .ensures))))
           (λ d. let o = over p g v (s .0) (s .1) d in
-          rw (took .over d .1) (behind-over (t .loop .inv .2) (s .0) (s .1) below long (k .take .result) _ _ (rw (took .over d .0) (o .end)) (rw (took .over d .0) (o .other))
+          rw (took .over d .1) (behind-over (t .loop .inv .2) (s .0) (s .1) below long (k .take .result) _ _ (rw (took .over d .0) (o .end))
+          (rw (took .over d .0) (o .other))
           (rw (took .over d .1) at (c .onward .ensures)))),
     )
 

@@ -17,8 +17,11 @@ placed c = (c .pre .labelled (c .args .one), c .pre .labelled (c .args .two))
 returns : tie.Need-returns
 returns c =
     let s = c .before .before .before .before .before in
-    let a = s .args in
-    (simp length-set (s .pre .places), raised (a .labels .now) (a .one) (a .two) (a .d) (a .sums .now) (omega (arith, placed s)) (omega (arith, placed s)) (c .before .before .if1 .taken))
+    let a = s .args in (
+      simp length-set (s .pre .places),
+      raised (a .labels .now) (a .one) (a .two) (a .d) (a .sums .now) (omega (arith, placed s)) (omega (arith, placed s))
+          (c .before .before .if1 .taken),
+    )
 
 returns-2 : tie.Need-returns-2
 returns-2 c =

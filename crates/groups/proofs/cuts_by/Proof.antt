@@ -21,7 +21,8 @@ returns c =
     rw (
       put .put-owners .ensures .0 ∙ owners-alike cut cut′ (a .labels .now) e _ (a .ends .now) (a .n),
       put .put-owners .ensures .1
-          ∙ places-same (ofTerminal (look (a .ends .now)) (members cut (a .labels .now))) (ofTerminal (look (a .ends .now)) (members cut′ (a .labels .now))) (a .n) (s .pre .0)
+          ∙ places-same (ofTerminal (look (a .ends .now)) (members cut (a .labels .now))) (ofTerminal (look (a .ends .now)) (members cut′ (a .labels .now)))
+          (a .n) (s .pre .0)
           (of-alike (look (a .ends .now)) (members cut (a .labels .now)) (members cut′ (a .labels .now)) (members-alike cut cut′ (a .labels .now) e)),
       c .terminal-sizes .ensures,
     ) refl

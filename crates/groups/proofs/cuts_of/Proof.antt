@@ -12,7 +12,8 @@ returns c =
     let s = made .before .before .before .before .before in
     let a = s .args in
     c .cuts-by .ensures
-    ∙ cuts-by-tally (links (a .one .now) (a .two .now)) (a .n) (look (a .capacity .now)) (look (a .balanced .now)) (s .pre .0) (a .ends .now) (made .of-links .ensures)
+    ∙ cuts-by-tally (links (a .one .now) (a .two .now)) (a .n) (look (a .capacity .now)) (look (a .balanced .now)) (s .pre .0) (a .ends .now)
+    (made .of-links .ensures)
 
 pub cuts-of-spec : {M : Type 1} → statement M
 cuts-of-spec =

@@ -47,8 +47,11 @@ loop-again-2 c =
     let s = top .before .before .before .before .before .before in
     let a = s .args in
     let j = top .loop .j - 1 in
-    let next : top .loop .j ≡ j + 1 = omega arith in
-    (omega arith, groups-out (a .one .now) (a .two .now) (a .capacity .now) (a .balanced .now) (s .pre .1 .seconds) j (omega arith) (rw next at (top .loop .inv .1)) (c .if1 .left))
+    let next : top .loop .j ≡ j + 1 = omega arith in (
+      omega arith,
+      groups-out (a .one .now) (a .two .now) (a .capacity .now) (a .balanced .now) (s .pre .1 .seconds) j (omega arith)
+          (rw next at (top .loop .inv .1)) (c .if1 .left),
+    )
 
 same-length : tie.Need-same-length Inv-loop μ-loop
 same-length c =

@@ -43,8 +43,16 @@ loop-again c =
     let f = found (c .before .before) in
     let m = c .before .before .before .i .given .0 .0 in
     ⊎-elim
-    (λ w. (omega (arith, f .to), rw (w .1) (claiming-new (s .owner .now) (member (s .cut)) (s .a) (top .loop .p) m (top .loop .owner) (top .loop .inv .1) f (w .0 .taken))))
-    (λ w. (omega (arith, f .to), rw (w .1) (claiming-kept (s .owner .now) (member (s .cut)) (s .a) (top .loop .p) m (top .loop .owner) (top .loop .inv .1) f (w .0 .left))))
+    (λ w. (
+      omega (arith, f .to),
+      rw (w .1)
+          (claiming-new (s .owner .now) (member (s .cut)) (s .a) (top .loop .p) m (top .loop .owner) (top .loop .inv .1) f (w .0 .taken)),
+    ))
+    (λ w. (
+      omega (arith, f .to),
+      rw (w .1)
+          (claiming-kept (s .owner .now) (member (s .cut)) (s .a) (top .loop .p) m (top .loop .owner) (top .loop .inv .1) f (w .0 .left)),
+    ))
     (c .if1 .came)
 
 pub put-owner-spec : {M : Type 1} → statement M

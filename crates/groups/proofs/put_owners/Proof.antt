@@ -17,7 +17,8 @@ use Rattle.groups.proofs.put_owners.Tie as tie
 
 abbrev Inv-loop : tie.InvT-loop
 Inv-loop owner₀ n words labels ends count₀ i₀ owner count i =
-    (i ≤ n) × (length owner ≡ SITES) × (owner ≡ ownersTo (inWords words) labels owner₀ ends i) × (count ≡ places i (ofTerminal (look ends) (members (inWords words) labels)))
+    (i ≤ n) × (length owner ≡ SITES) × (owner ≡ ownersTo (inWords words) labels owner₀ ends i)
+    × (count ≡ places i (ofTerminal (look ends) (members (inWords words) labels)))
 
 abbrev μ-loop : tie.MeasureT-loop
 μ-loop owner₀ n words labels ends count₀ i₀ owner count i = n - i
@@ -25,8 +26,12 @@ abbrev μ-loop : tie.MeasureT-loop
 loop-holds : tie.Need-loop-holds Inv-loop μ-loop
 loop-holds c =
     let a = c .args in
-    let cut = inWords (a .words .now) in
-    (omega arith, c .pre .0, sym (owners-none cut (a .labels .now) (a .owner .now) (a .ends .now)), places-none (ofTerminal (look (a .ends .now)) (members cut (a .labels .now))))
+    let cut = inWords (a .words .now) in (
+      omega arith,
+      c .pre .0,
+      sym (owners-none cut (a .labels .now) (a .owner .now) (a .ends .now)),
+      places-none (ofTerminal (look (a .ends .now)) (members cut (a .labels .now))),
+    )
 
 loop-again : tie.Need-loop-again Inv-loop μ-loop
 loop-again c =

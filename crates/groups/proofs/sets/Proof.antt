@@ -26,8 +26,12 @@ placed c = c .before .before .pre .1 (c .before .loop .i + 1)
 loop-again : tie.Need-loop-again Inv-loop μ-loop
 loop-again c =
     let top = c .before .before in
-    let long = top .loop .inv .1 in
-    (omega arith, simp length-set long, λ l k. words-next (top .loop .words) (top .before .args .labels .now) (top .loop .i) (omega arith) (placed (c .before)) long l k (top .loop .inv .2 l k))
+    let long = top .loop .inv .1 in (
+      omega arith,
+      simp length-set long,
+      λ l k. words-next (top .loop .words) (top .before .args .labels .now) (top .loop .i) (omega arith)
+          (placed (c .before)) long l k (top .loop .inv .2 l k),
+    )
 
 returns : tie.Need-returns Inv-loop μ-loop
 returns c =

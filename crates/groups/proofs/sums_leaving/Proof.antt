@@ -49,8 +49,15 @@ loop-again c =
       omega arith,
       added .0,
       λ l. (
-        omega (arith, added .1 l, top .loop .inv .2 l .0, leaves-le (a .labels .now) (look (a .one .now) j) (look (a .two .now) j) d l, s .pre .1 .small j (omega arith)),
-        added .1 l ∙ sum-next (λ i. leaves (a .labels .now) (look (a .one .now) i) (look (a .two .now) i) l * look (a .capacity .now) i) j (top .loop .inv .2 l .1) refl,
+        omega (
+          arith,
+          added .1 l,
+          top .loop .inv .2 l .0,
+          leaves-le (a .labels .now) (look (a .one .now) j) (look (a .two .now) j) d l,
+          s .pre .1 .small j (omega arith),
+        ),
+        added .1 l ∙ sum-next (λ i. leaves (a .labels .now) (look (a .one .now) i) (look (a .two .now) i) l * look (a .capacity .now) i) j
+            (top .loop .inv .2 l .1) refl,
       ),
     )
 

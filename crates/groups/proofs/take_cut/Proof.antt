@@ -18,8 +18,11 @@ returns c =
     let a = s .args in
     let cut = c .before .before .before .cut-of .result in
     let is-cut = c .before .before .before .cut-of .ensures in
-    let places = inWords (a .words .now) (look (a .labels .now) (a .a)) in
-    (c .before .put-owner .ensures ∙ claims-same (a .owner .now) (member cut) places (a .a) is-cut, c .count .ensures ∙ sum-eq SITES (member cut) places (λ i h. is-cut i))
+    let places = inWords (a .words .now) (look (a .labels .now) (a .a)) in (
+      c .before .put-owner .ensures ∙ claims-same (a .owner .now) (member cut) places (a .a) is-cut,
+      c .count .ensures
+          ∙ sum-eq SITES (member cut) places (λ i h. is-cut i),
+    )
 
 pub take-cut-spec : {M : Type 1} → statement M
 take-cut-spec =

@@ -26,7 +26,8 @@ found : tie.Need-returns Inv-loop μ-loop
 found c =
     let t = c .before .before .before in
     let s = t .before .before .before .before in
-    sym (heavy-there (ls s) (look (s .args .ends .now)) (look (s .args .capacity .now)) (s .args .n) (t .loop .v) (omega arith) (omega arith) (sym (c .before .heavy-at .ensures) ∙ c .if1 .taken))
+    let there = sym (c .before .heavy-at .ensures) ∙ c .if1 .taken in
+    sym (heavy-there (ls s) (look (s .args .ends .now)) (look (s .args .capacity .now)) (s .args .n) (t .loop .v) (omega arith) (omega arith) there)
 
 next : tie.Need-loop-again Inv-loop μ-loop
 next c =

@@ -1,6 +1,6 @@
 -- `links::sum_at` meets its contract: what is summed and what is still ahead in the chain is the sum over all links.
 use mathlib.Core.Path.{_≡_, sym, ap, _∙_}
-use Prim.Native.Nat.{_+_, _*_, _-_, _≤_}
+use Prim.Native.Nat.{ℕ, _+_, _*_, _-_, _≤_}
 use native.Mathlib.Omega.{arith}
 use native.Mathlib.Nat.{zero-add, add-zero, add-assoc}
 use lib.ListN.{length}
@@ -39,9 +39,14 @@ room c =
     let ls = links (a .one .now) (a .two .now) in
     let m = length (a .one .now) in
     let here = t .loop .inv .0 .1 (c .loop-test .taken) in
-    let all : t .loop .total + sum (t .loop .p) (λ i. at ls (a .v) i * look (a .capacity .now) i) ≡ sum m (λ i. at ls (a .v) i * look (a .capacity .now) i) = t .loop .inv .1 in
+    let each : ℕ → ℕ = λ i. at ls (a .v) i * look (a .capacity .now) i in
+    let all : t .loop .total + sum (t .loop .p) each ≡ sum m each = t .loop .inv .1 in
     let few = s .pre .1 .placed .few in
-    omega (arith, sum-back ls (a .v) (look (a .capacity .now)) (t .loop .p) (omega arith) here, sum-limit ls (a .v) (look (a .capacity .now)) SIZE m (s .pre .2 .small))
+    omega (
+      arith,
+      sum-back ls (a .v) (look (a .capacity .now)) (t .loop .p) (omega arith) here,
+      sum-limit ls (a .v) (look (a .capacity .now)) SIZE m (s .pre .2 .small),
+    )
 
 -- the link before
 back : (c : tie.After-link-before Inv-loop μ-loop) → let t = c .before .before .before in let a = t .before .before .before .before .before .args in
@@ -49,7 +54,8 @@ back : (c : tie.After-link-before Inv-loop μ-loop) → let t = c .before .befor
 back c =
     let t = c .before .before .before in
     let s = t .before .before .before .before .before in
-    walk-goes-on (s .pre .1) (s .args .v) (t .loop .p - 1) (c .link-before .result) (omega arith) (t .loop .inv .0 .1 (c .before .before .loop-test .taken)) (c .link-before .ensures)
+    let here = t .loop .inv .0 .1 (c .before .before .loop-test .taken) in
+    walk-goes-on (s .pre .1) (s .args .v) (t .loop .p - 1) (c .link-before .result) (omega arith) here (c .link-before .ensures)
 
 falls : tie.Need-loop-less Inv-loop μ-loop
 falls c =

@@ -17,7 +17,8 @@ abbrev μ-loop : tie.MeasureT-loop
 μ-loop n one two j₀ j-end j = length one - j
 
 fault : tie.Need-returns Inv-loop μ-loop
-fault c all = denied (c .before .is-link .result) (c .before .is-link .ensures) (not-true _ (c .if1 .taken)) (all (c .before .before .before .before .before .loop .j) (omega arith))
+fault c all = denied (c .before .is-link .result) (c .before .is-link .ensures) (not-true _ (c .if1 .taken))
+    (all (c .before .before .before .before .before .loop .j) (omega arith))
 
 next : tie.Need-loop-again Inv-loop μ-loop
 next c =

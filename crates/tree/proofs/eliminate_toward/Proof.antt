@@ -17,13 +17,15 @@ use Rattle.tree.proofs.eliminate_toward.Statement.{statement}
 use Rattle.tree.proofs.eliminate_toward.Tie as tie
 
 -- the order is needed only where the offer is accepted
-answered : (o : Offer) (taken order : List ℕ) → (o ≡ Accepted → taken ≡ order) → _≡_ {A = Elimination} record { offer = o; sites = decide o taken .sites } (decide o order)
+answered : (o : Offer) (taken order : List ℕ) → (o ≡ Accepted → taken ≡ order)
+    → _≡_ {A = Elimination} record { offer = o; sites = decide o taken .sites } (decide o order)
 unfolding decide
 answered NoTree taken order h = refl
 answered TooLarge taken order h = refl
 answered Accepted taken order h = ap (λ l. record { offer = Accepted; sites = l }) (h refl)
 
-made : {n root : ℕ} {a b places : List ℕ} {o : Offer} (c : List ℕ) (r : Order) → Ordered n a b root r → o ≡ offerOf largest (r .all) (length a) c → places ≡ decide o (r .sites) .sites
+made : {n root : ℕ} {a b places : List ℕ} {o : Offer} (c : List ℕ) (r : Order) → Ordered n a b root r → o ≡ offerOf largest (r .all) (length a) c
+    → places ≡ decide o (r .sites) .sites
     → _≡_ {A = Elimination} record { offer = o; sites = places } (eliminatedToward n a b c root)
 unfolding eliminatedToward offer
 made {n} {root} {a} {b} {places} {o} c r given said kept =
@@ -34,7 +36,8 @@ made {n} {root} {a} {b} {places} {o} c r given said kept =
 
 returns : tie.Need-returns
 returns c = let o = c .before .before .before .order-of in
-    made (c .before .before .before .before .before .before .before .args .capacity .now) (o .result) (o .ensures) (c .before .offer-of .ensures) (c .kept .ensures)
+    made (c .before .before .before .before .before .before .before .args .capacity .now) (o .result) (o .ensures) (c .before .offer-of .ensures)
+    (c .kept .ensures)
 
 pub eliminate-toward-spec : {M : Type 1} → statement M
 eliminate-toward-spec = tie.close (tie.spec (λ c κs. tt) (λ c κs. tt) (λ c κs. tt) returns)

@@ -14,4 +14,5 @@ links-decide c = tells-of (c .all-links .result)
 pub is-proper-spec : {M : Type 1} → statement M
 is-proper-spec =
     tie.close
-    (tie.spec (λ c. search needs) (λ c. search needs) (λ c. omega arith) (λ c. search needs) (λ c. omega arith) (λ c. search needs) (λ c κs. omega arith) links-decide)
+    (tie.spec (λ c. search needs) (λ c. search needs) (λ c. omega arith) (λ c. search needs) (λ c. omega arith) (λ c. search needs) (λ c κs. omega arith)
+    links-decide)

@@ -29,7 +29,8 @@ improper c =
     let a = c .before .before .before .before .args in
     record {
       tree = sym (is-false (isTree SITES (a .n) (a .one .now) (a .two .now))
-          (λ t. denied (c .before .is-proper .result) (c .before .is-proper .ensures) (not-true _ (c .if1 .taken)) (a-tree-is-proper (is-tree-is-a-tree SITES (a .n) (a .one .now) (a .two .now) t))));
+          (λ t. denied (c .before .is-proper .result) (c .before .is-proper .ensures) (not-true _ (c .if1 .taken))
+          (a-tree-is-proper (is-tree-is-a-tree SITES (a .n) (a .one .now) (a .two .now) t))));
       order = λ z. absurd (let e : _≡_ {A = ℕ} 0 1 = cc in omega arith);
     }
 

@@ -43,7 +43,8 @@ tree c = let a = c .before .before .before .before .before .before .before .befo
 order : (c : tie.After-enum-told3) → let a = c .before .before .before .before .before .before .before .before .args in
     take (a .n) (c .before .before .before .eliminate .result .sites) ≡ elimination (links (a .one .now) (a .two .now)) (a .n)
 order c = let a = c .before .before .before .before .before .before .before .before .args in
-    ap (λ r. take (a .n) (r .sites)) (c .before .before .before .eliminate .ensures) ∙ eliminated-in-order (a .n) (a .one .now) (a .two .now) (a .capacity .now) (accepted c)
+    ap (λ r. take (a .n) (r .sites)) (c .before .before .before .eliminate .ensures)
+    ∙ eliminated-in-order (a .n) (a .one .now) (a .two .now) (a .capacity .now) (accepted c)
 
 -- there are as many balanced capacities as given ones
 as-long : (c : tie.After-enum-told3) → let a = c .before .before .before .before .before .before .before .before .args in

@@ -49,8 +49,11 @@ returns c = sym (c .before .before .before .loop .inv .1 ∙ here c .1)
 
 loop-again : tie.Need-loop-again Inv-loop μ-loop
 loop-again c =
-    let top = c .before .before .before .loop in
-    (omega arith, top .inv .1 ∙ next-later (c .before .before .before .before .args .t1) (top .i) (top .k) (c .before .before .loop-test .taken) (top .inv .0) (c .if1 .left))
+    let top = c .before .before .before .loop in (
+      omega arith,
+      top .inv .1 ∙ next-later (c .before .before .before .before .args .t1) (top .i) (top .k) (c .before .before .loop-test .taken)
+          (top .inv .0) (c .if1 .left),
+    )
 
 returns-2 : tie.Need-returns-2 Inv-loop μ-loop
 returns-2 c =
