@@ -6,12 +6,13 @@ use mathlib.Core.List.{[]}
 use Prim.Native.Nat.{ℕ, zero, suc, _+_, _*_, _≤_, _<_}
 use lib.ListN.{length}
 use native.Mathlib.Omega.{arith}
-use Rattle.network.specs.Numbers.{Each}
-use Rattle.network.specs.Network.{Links, Site, sites, one, two, at, sumAt, leaf, separates, Tree, Multiflow, load}
+use Rattle.network.specs.Numbers.{look, Each}
+use Rattle.network.specs.Network.{Links, Site, sites, one, two, at, sumAt, leaf, ends, separates, Tree, Multiflow, load}
 use Rattle.network.specs.Trimming.{Balanced}
 use Rattle.network.specs.Pairing.{put, give, pairsFrom, lowestInner, pairs}
 use Rattle.theory.specs.Sums.{pick-same, pick-other, pick-cases, same?, is-one, sum-one, sum-add, sum-only}
 use Rattle.theory.specs.Trees.{separates-comm, separates-self, local-one}
+use Rattle.theory.specs.Ends.{an-end-is-a-leaf}
 use Rattle.walk.specs.Lists.{tally}
 use Rattle.walk.specs.Sound.{arises, Sound}
 use Rattle.theory.specs.Sites.{length-upfrom, sites-site, over-one, over-eq, by-link}
@@ -43,6 +44,10 @@ lowest-some f c (suc m) h = same? (f c) 1
 -- every terminal has just one link
 abbrev pub Outer : Links → ℕ → (ℕ → ℕ) → Type 0
 Outer ls n terminal = (v : ℕ) → Site n v → terminal v ≡ 1 → leaf ls v ≡ 1
+
+-- the ends of a tree are such terminals
+pub ends-are-outer : {ls : Links} {n : ℕ} → Tree ls n → Outer ls n (look (ends ls n))
+ends-are-outer T v p e = sym (an-end-is-a-leaf T v) ∙ e
 
 -- a leaf has one link
 leaf-link : (ls : Links) (v i k : ℕ) → leaf ls v ≡ 1 → LinkAt ls v i → LinkAt ls v k → i ≡ k
