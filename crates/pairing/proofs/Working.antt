@@ -1,4 +1,5 @@
--- A refusal has nothing to store, a decomposition the pairs of the tree, no more than there are links; and storing them leaves the lent list as the definition says.
+-- A refusal has nothing to store, a decomposition the pairs of the tree, no more than there are links;
+-- and storing them leaves the lent list as the definition says.
 use mathlib.Core.Path.{_≡_, refl, sym, ap, _∙_}
 use mathlib.Core.Logic.{if-pos}
 use mathlib.Core.List.{List, [], _++_}
@@ -29,7 +30,8 @@ use Rattle.pairing.specs.Promise.{balanced-capacities-are-paired}
 
 module _ (n : ℕ) (one two c : List ℕ) (places : ℕ) where
   -- an answer that is no success, and a count of 0
-  pub refusal-works : (w : Work) (a : Pairing) → (w .answer ≡ a) × (w .pairs .count ≡ 0) → answer n one two c places ≡ a → pairCount a ≡ 0 → ((ps : List Pair) → toStore a ps ≡ [])
+  pub refusal-works : (w : Work) (a : Pairing) → (w .answer ≡ a) × (w .pairs .count ≡ 0) → answer n one two c places ≡ a → pairCount a ≡ 0
+      → ((ps : List Pair) → toStore a ps ≡ [])
       → Worked n one two c places w
   refusal-works w a r said count none = record {
     said = r .0 ∙ sym said;
@@ -56,7 +58,12 @@ module _ (n : ℕ) (one two c : List ℕ) (places : ℕ) where
       counted = rw e refl;
       listed = rw e made;
       few = omega arith;
-      fits = omega (arith, pairs-are-sound (t .tree) (terminals n one two) (look c) (ends-are-outer (t .tree)) B .few, number, length-links one two (omega (arith, t .firsts, t .seconds)));
+      fits = omega (
+        arith,
+        pairs-are-sound (t .tree) (terminals n one two) (look c) (ends-are-outer (t .tree)) B .few,
+        number,
+        length-links one two (omega (arith, t .firsts, t .seconds)),
+      );
     }
 
 -- ---- storing

@@ -46,7 +46,8 @@ balanced-capacities-are-paired {n} {one} {two} {c} t B places enough = rw (
 
 -- ---- what an answer tells
 
-pairs-are-told : (o : Offer) (enough heavy : Bool) (m count : ℕ) → decide o enough heavy m ≡ Pairs count → (o ≡ offered.Accepted) × (enough ≡ true) × (heavy ≡ false) × (m ≡ count)
+pairs-are-told : (o : Offer) (enough heavy : Bool) (m count : ℕ) → decide o enough heavy m ≡ Pairs count
+    → (o ≡ offered.Accepted) × (enough ≡ true) × (heavy ≡ false) × (m ≡ count)
 unfolding decide
 pairs-are-told offered.NoTree enough heavy m count e = absurd (let z : _≡_ {A = ℕ} 0 1 = cc in omega arith)
 pairs-are-told offered.TooLarge enough heavy m count e = absurd (let z : _≡_ {A = ℕ} 0 1 = cc in omega arith)
@@ -63,17 +64,21 @@ heavy-is-told offered.Accepted true true m e = (refl, refl)
 heavy-is-told offered.Accepted true false m e = absurd (let z : _≡_ {A = ℕ} 0 1 = cc in omega arith)
 
 -- a heavy link is told of no balanced capacities
-pub heavy-is-not-balanced : (n : ℕ) (one two c : List ℕ) (places : ℕ) → answer n one two c places ≡ Heavy → Balanced (links one two) (terminals n one two) (look c) → ⊥
+pub heavy-is-not-balanced : (n : ℕ) (one two c : List ℕ) (places : ℕ) → answer n one two c places ≡ Heavy
+    → Balanced (links one two) (terminals n one two) (look c) → ⊥
 unfolding answer
 heavy-is-not-balanced n one two c places e B =
-    let told = heavy-is-told (offer largest n one two c) (leb (length one) places) (heavySomewhere (links one two) n (terminals n one two) (look c)) (length (listOf n one two c)) e in
+    let told = heavy-is-told (offer largest n one two c) (leb (length one) places) (heavySomewhere (links one two) n (terminals n one two) (look c))
+    (length (listOf n one two c)) e in
     let none = balanced-has-no-heavy-link (links one two) (terminals n one two) (look c) n B in
     let z : _≡_ {A = ℕ} 0 1 = cc in omega arith
 
 module _ (n : ℕ) (one two c : List ℕ) (lent : List Pair) (count : ℕ) (e : answer n one two c (length lent) ≡ Pairs count) where
-  told : (offer largest n one two c ≡ offered.Accepted) × (leb (length one) (length lent) ≡ true) × (heavySomewhere (links one two) n (terminals n one two) (look c) ≡ false) × (length (listOf n one two c) ≡ count)
+  told : (offer largest n one two c ≡ offered.Accepted) × (leb (length one) (length lent) ≡ true)
+      × (heavySomewhere (links one two) n (terminals n one two) (look c) ≡ false) × (length (listOf n one two c) ≡ count)
   unfolding answer
-  told = pairs-are-told (offer largest n one two c) (leb (length one) (length lent)) (heavySomewhere (links one two) n (terminals n one two) (look c)) (length (listOf n one two c)) count e
+  told = pairs-are-told (offer largest n one two c) (leb (length one) (length lent)) (heavySomewhere (links one two) n (terminals n one two) (look c))
+      (length (listOf n one two c)) count e
 
   within : TreeWithin largest n one two c
   within = accepted-is-a-tree-within-the-limits largest n one two c (told .0)

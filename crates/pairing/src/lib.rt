@@ -50,7 +50,8 @@ fn refused(answer: Pairing) -> Work
 // What is said of an accepted tree, where there are enough places, and its pairs.
 fn take_apart(n: usize, one: &[usize], two: &[usize], capacity: &[u64]) -> Work
     requires { ⌜ TreeWithin largest n (now one) (now two) (now capacity) ⌝ }
-    ensures { λ r. ⌜ ((places : ℕ) → length (now (one .entry)) ≤ places → Worked n (now (one .entry)) (now (two .entry)) (now (capacity .entry)) places r) ⌝ }
+    ensures { λ r. ⌜ ((places : ℕ) → length (now (one .entry)) ≤ places
+        → Worked n (now (one .entry)) (now (two .entry)) (now (capacity .entry)) places r) ⌝ }
 {
     let chains = links::chain(one, two);
     let last = chains.last;
@@ -91,7 +92,8 @@ pub fn pair_up(
     capacity: &[u64],
     pairs: &mut [Pair],
 ) -> Pairing
-    ensures { λ r. ⌜ (r ≡ answer n (now (one .entry)) (now (two .entry)) (now (capacity .entry)) (length (now (pairs .entry)))) × (now (pairs .exit) ≡ paired n (now (one .entry)) (now (two .entry)) (now (capacity .entry)) (now (pairs .entry))) ⌝ }
+    ensures { λ r. ⌜ (r ≡ answer n (now (one .entry)) (now (two .entry)) (now (capacity .entry)) (length (now (pairs .entry))))
+        × (now (pairs .exit) ≡ paired n (now (one .entry)) (now (two .entry)) (now (capacity .entry)) (now (pairs .entry))) ⌝ }
 {
     let done = work_out(n, one, two, capacity, pairs.len());
     pairlist::store(pairs, done.pairs.list, done.pairs.count);

@@ -28,7 +28,8 @@ pub lowest-none : (f : ℕ → ℕ) (c m : ℕ) → 1 ≤ c → lowestInner f c 
 unfolding lowestInner
 lowest-none f c zero p e x a b = absurd (omega arith)
 lowest-none f c (suc m) p e x a b = same? (f c) 1
-    (λ o. same? x c (λ q. rw q o) (λ q. lowest-none f (suc c) m (omega arith) (sym (pick-same o (lowestInner f (suc c) m) c) ∙ e) x (omega arith) (omega arith)))
+    (λ o. same? x c (λ q. rw q o)
+    (λ q. lowest-none f (suc c) m (omega arith) (sym (pick-same o (lowestInner f (suc c) m) c) ∙ e) x (omega arith) (omega arith)))
     (λ d. absurd (omega (arith, pick-other d (lowestInner f (suc c) m) c)))
 
 pub lowest-some : (f : ℕ → ℕ) (c m : ℕ) → lowestInner f c m ≢ 0 → (c ≤ lowestInner f c m) × (lowestInner f c m < c + m) × (f (lowestInner f c m) ≢ 1)

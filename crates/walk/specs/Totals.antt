@@ -80,6 +80,6 @@ module _ {ls : Links} {n : ℕ} (T : Tree ls n) (terminal : ℕ → ℕ) where
           ∙ over-mul (sites n) 2 (λ x. is (terminal x) 1 * sumAt ls x t))
 
 -- what is sound but for the total is sound
-pub sound : {ls : Links} {n : ℕ} → Tree ls n → (terminal t : ℕ → ℕ) (es : List Pair) → ((j : ℕ) → j < length ls → load ls es j ≡ 2 * t j) → Multiflow ls n terminal es
-    → Each (λ e. 1 ≤ e .amount) es → ((x y : ℕ) → arises es x y ≤ 1) → length es ≤ length ls → Sound ls n terminal t es
+pub sound : {ls : Links} {n : ℕ} → Tree ls n → (terminal t : ℕ → ℕ) (es : List Pair) → ((j : ℕ) → j < length ls → load ls es j ≡ 2 * t j)
+    → Multiflow ls n terminal es → Each (λ e. 1 ≤ e .amount) es → ((x y : ℕ) → arises es x y ≤ 1) → length es ≤ length ls → Sound ls n terminal t es
 sound T terminal t es l r p o f = record { loads = l; routes = r; positive = p; once = o; few = f; sums = total-loaded T terminal t es r l }

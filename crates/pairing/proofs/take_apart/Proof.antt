@@ -38,9 +38,11 @@ heavy c places enough =
     let s = start (chained e) in
     let a = s .args in
     let ls = links (a .one .now) (a .two .now) in
-    let told = ap (λ f. heavySomewhere ls (a .n) f (look (a .capacity .now))) (sym (e .ends .ensures)) ∙ sym (c .before .before .heavy .ensures) ∙ c .before .if1 .taken in
+    let told = ap (λ f. heavySomewhere ls (a .n) f (look (a .capacity .now))) (sym (e .ends .ensures))
+    ∙ sym (c .before .before .heavy .ensures) ∙ c .before .if1 .taken in
+    let accepted = a-tree-within-the-limits-is-accepted largest (a .n) (a .one .now) (a .two .now) (a .capacity .now) (s .pre) in
     refusal-works (a .n) (a .one .now) (a .two .now) (a .capacity .now) places (c .refused .result) pairing.Heavy (c .refused .ensures)
-    (rw (a-tree-within-the-limits-is-accepted largest (a .n) (a .one .now) (a .two .now) (a .capacity .now) (s .pre), le-leb _ places enough, told) refl) refl (λ ps. refl)
+    (rw (accepted, le-leb _ places enough, told) refl) refl (λ ps. refl)
 
 -- without a heavy link the capacities are balanced
 balanced : (c : tie.Else1) → let e = c .before .before .before .before .before in let a = start (chained e) .args in
@@ -49,7 +51,8 @@ balanced c =
     let e = c .before .before .before .before .before in
     let s = start (chained e) in
     let a = s .args in
-    no-heavy-link-is-balanced (links (a .one .now) (a .two .now)) (look (e .ends .result)) (look (a .capacity .now)) (s .pre .tree) (sym (c .before .heavy .ensures) ∙ c .if1 .left)
+    no-heavy-link-is-balanced (links (a .one .now) (a .two .now)) (look (e .ends .result)) (look (a .capacity .now)) (s .pre .tree)
+    (sym (c .before .heavy .ensures) ∙ c .if1 .left)
 
 decompose-requires : tie.Need-decompose-requires
 decompose-requires c κs =
@@ -72,7 +75,8 @@ made c places enough =
     let w = s .pre in
     let ls = links (a .one .now) (a .two .now) in
     let m = c .decompose .ensures in
-    let light : Balanced ls (terminals (a .n) (a .one .now) (a .two .now)) (look (a .capacity .now)) = subst (λ f. Balanced ls f (look (a .capacity .now))) (e .ends .ensures) (balanced i) in
+    let light : Balanced ls (terminals (a .n) (a .one .now) (a .two .now)) (look (a .capacity .now)) =
+    subst (λ f. Balanced ls f (look (a .capacity .now))) (e .ends .ensures) (balanced i) in
     let same = ap (pairs ls (a .n) (look (a .capacity .now))) (e .ends .ensures) in
     decomposition-works (a .n) (a .one .now) (a .two .now) (a .capacity .now) places w light enough _ (m .held ∙ same)
     (omega (
