@@ -29,7 +29,8 @@ module _ {root : ℕ} {ends last before a b c : List ℕ} (r : Root root ends la
   none-down = let w = r .walkable .tree in rw (List·getD-eq-default c 0 {n = length a} (omega (arith, w .firsts, w .capacities))) (omega arith)
 
   -- the walk starts at a root with all sites below it, and with room for them
-  pub root-visit : (u d p : List ℕ) → HALVES ≤ length u → HALVES ≤ length d → NUMBERS ≤ length p → Visit (suc (length a)) ends last before a b c (suc (length a)) root (length a) 0 0 u d p bottom
+  pub root-visit : (u d p : List ℕ) → HALVES ≤ length u → HALVES ≤ length d → NUMBERS ≤ length p
+      → Visit (suc (length a)) ends last before a b c (suc (length a)) root (length a) 0 0 u d p bottom
   root-visit u d p hu hd hp =
       let w = r .walkable .tree in
       let few = size-le (links a b) (suc (length a)) (length a) root in

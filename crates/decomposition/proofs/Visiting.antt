@@ -52,10 +52,12 @@ whole n ends a b c fuel v j down =
     gather (λ x k s o. walkOf n ends a b c fuel x k s o) (look c) (sumAt (links a b) v (look c) - down) (children (links a b) v j 1 n)
 
 -- the children of v below site x are gathered in the arrays, with `rest` halves still to be sent up by the others
-pub record Gathering (n : ℕ) (ends a b c : List ℕ) (fuel v j down : ℕ) (u d p : List ℕ) (base : Tops) (u′ d′ p′ : List ℕ) (top : Tops) (rest x : ℕ) : Type 0 where
+pub record Gathering (n : ℕ) (ends a b c : List ℕ) (fuel v j down : ℕ) (u d p : List ℕ) (base : Tops) (u′ d′ p′ : List ℕ) (top : Tops)
+    (rest x : ℕ) : Type 0 where
   pub part : Part
   pub held : Visited part u d p base u′ d′ p′ top
-  pub to-come : join part (gather (λ y k s o. walkOf n ends a b c fuel y k s o) (look c) rest (children (links a b) v j x (suc n - x))) ≡ whole n ends a b c fuel v j down
+  pub to-come : join part (gather (λ y k s o. walkOf n ends a b c fuel y k s o) (look c) rest (children (links a b) v j x (suc n - x)))
+      ≡ whole n ends a b c fuel v j down
   pub ups-fit : length (part .ups) + ahead n (links a b) v j x ≤ ahead n (links a b) v j 1
   pub downs-fit : length (part .downs) + ahead n (links a b) v j x ≤ ahead n (links a b) v j 1
   pub pairs-fit : length (part .pairs) + ahead n (links a b) v j x ≤ ahead n (links a b) v j 1
@@ -74,7 +76,8 @@ gathering-starts n ends a b c fuel v j down u d p base =
     }
 
 -- a site and the subtrees of its children
-size-below : {n : ℕ} {ends last before a b c : List ℕ} {fuel v j up down : ℕ} {u d p : List ℕ} {base : Tops} → Visit n ends last before a b c fuel v j up down u d p base
+size-below : {n : ℕ} {ends last before a b c : List ℕ} {fuel v j up down : ℕ} {u d p : List ℕ} {base : Tops}
+    → Visit n ends last before a b c fuel v j up down u d p base
     → size (links a b) n j v ≡ 1 + ahead n (links a b) v j 1
 size-below {n} {ends = ends} {a = a} {b = b} {c = c} {v = v} {j = j} {up = up} {down = down} W =
     let all : suc n - 1 ≡ n = omega arith in
@@ -82,7 +85,8 @@ size-below {n} {ends = ends} {a = a} {b = b} {c = c} {v = v} {j = j} {up = up} {
 
 -- sites that are no children change nothing
 pub gathering-passes : {n : ℕ} {ends a b c : List ℕ} {fuel v j down : ℕ} {u d p : List ℕ} {base : Tops} {u′ d′ p′ : List ℕ} {top : Tops} {rest x : ℕ}
-    → Gathering n ends a b c fuel v j down u d p base u′ d′ p′ top rest x → (y : ℕ) → children (links a b) v j x (suc n - x) ≡ children (links a b) v j y (suc n - y)
+    → Gathering n ends a b c fuel v j down u d p base u′ d′ p′ top rest x → (y : ℕ)
+    → children (links a b) v j x (suc n - x) ≡ children (links a b) v j y (suc n - y)
     → Gathering n ends a b c fuel v j down u d p base u′ d′ p′ top rest y
 gathering-passes g y same = record {
   part = g .part;
@@ -157,7 +161,8 @@ module _ {n : ℕ} {ends a b c : List ℕ} {fuel v j down : ℕ} {u d p : List �
 
 -- ---- all children visited
 
-module _ {n : ℕ} {ends last before a b c : List ℕ} {fuel v j up down : ℕ} {u d p : List ℕ} {base : Tops} (W : Visit n ends last before a b c (suc fuel) v j up down u d p base)
+module _ {n : ℕ} {ends last before a b c : List ℕ} {fuel v j up down : ℕ} {u d p : List ℕ} {base : Tops}
+    (W : Visit n ends last before a b c (suc fuel) v j up down u d p base)
     (inner : look ends v ≢ 1) {u′ d′ p′ : List ℕ} {top : Tops} {rest x : ℕ} (g : Gathering n ends a b c fuel v j down u d p base u′ d′ p′ top rest x) (l : n < x) where
   abbrev G : Part
   G = whole n ends a b c fuel v j down
@@ -231,10 +236,12 @@ module _ {n : ℕ} {ends last before a b c : List ℕ} {fuel v j up down : ℕ} 
 -- ---- other sites
 
 -- there is fuel, and what is left of it for the children
-pub some-fuel : {n : ℕ} {ends last before a b c : List ℕ} {fuel v j up down : ℕ} {u d p : List ℕ} {base : Tops} → Visit n ends last before a b c fuel v j up down u d p base → fuel ≡ suc (fuel - 1)
+pub some-fuel : {n : ℕ} {ends last before a b c : List ℕ} {fuel v j up down : ℕ} {u d p : List ℕ} {base : Tops}
+    → Visit n ends last before a b c fuel v j up down u d p base → fuel ≡ suc (fuel - 1)
 some-fuel W = omega (arith, size-below W, W .fuelled)
 
-module _ {n : ℕ} {ends last before a b c : List ℕ} {fuel v j up down : ℕ} {u d p : List ℕ} {base : Tops} (W : Visit n ends last before a b c (suc fuel) v j up down u d p base) where
+module _ {n : ℕ} {ends last before a b c : List ℕ} {fuel v j up down : ℕ} {u d p : List ℕ} {base : Tops}
+    (W : Visit n ends last before a b c (suc fuel) v j up down u d p base) where
   -- a terminal
   pub alone-room : (base .ups + 2 ≤ length u) × (base .downs + 2 ≤ length d)
   alone-room = let s = size-below W in (omega (arith, W .ups-room), omega (arith, W .downs-room))
@@ -246,7 +253,8 @@ module _ {n : ℕ} {ends last before a b c : List ℕ} {fuel v j up down : ℕ} 
       (record { ups = q; downs = s; pairs = rw k (added-nothing p (base .pairs)) })
 
 -- what comes down to an inner site is no more than its links carry
-pub down-within : {n : ℕ} {ends last before a b c : List ℕ} {fuel v j up down : ℕ} {u d p : List ℕ} {base : Tops} → Visit n ends last before a b c fuel v j up down u d p base
+pub down-within : {n : ℕ} {ends last before a b c : List ℕ} {fuel v j up down : ℕ} {u d p : List ℕ} {base : Tops}
+    → Visit n ends last before a b c fuel v j up down u d p base
     → look ends v ≢ 1 → down ≤ sumAt (links a b) v (look c)
 down-within {ends = ends} {a = a} {b = b} {c = c} {v = v} {j = j} {up = up} {down = down} W inner = within (W .start)
   where
@@ -255,7 +263,8 @@ down-within {ends = ends} {a = a} {b = b} {c = c} {v = v} {j = j} {up = up} {dow
     within (inr s) = omega (arith, s .2)
 
 -- what is sent up over a link is at most twice its capacity
-pub down-over : {n : ℕ} {ends last before a b c : List ℕ} {fuel v j up down : ℕ} {u d p : List ℕ} {base : Tops} → Visit n ends last before a b c fuel v j up down u d p base
+pub down-over : {n : ℕ} {ends last before a b c : List ℕ} {fuel v j up down : ℕ} {u d p : List ℕ} {base : Tops}
+    → Visit n ends last before a b c fuel v j up down u d p base
     → j < length c → (look c j ≤ SIZE) × (up ≤ 2 * look c j)
 down-over {ends = ends} {a = a} {b = b} {c = c} {v = v} {j = j} {up = up} {down = down} W l = (W .tree .limited j l, within (W .start))
   where

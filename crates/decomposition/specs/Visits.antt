@@ -18,7 +18,7 @@ use Rattle.tree.specs.Accepted.{TreeWithin}
 use Rattle.links.specs.Chains.{Chained}
 use Rattle.walk.specs.Children.{size}
 use Rattle.walk.specs.Walk.{Start}
-use Rattle.walk.specs.Pairs.{Outer}
+use Rattle.theory.specs.Leaves.{Outer}
 use Rattle.halves.specs.declared.Tops.{Tops}
 use Rattle.halves.specs.Arrays.{flat, flatPairs, Added}
 

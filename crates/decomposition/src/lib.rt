@@ -67,8 +67,11 @@ fn visit(
     pairs: &mut [u64],
     base: Tops,
 ) -> Tops
-    requires { ⌜ Visit (suc (length (now one))) (now ends) (now last) (now before) (now one) (now two) (now capacity) fuel v link up (2 * look (now capacity) link - up) (now ups) (now downs) (now pairs) base ⌝ }
-    ensures { λ r. ⌜ Visited (walkOf (suc (length (now (one .entry)))) (now (ends .entry)) (now (one .entry)) (now (two .entry)) (now (capacity .entry)) fuel v link up (2 * look (now (capacity .entry)) link - up)) (now (ups .entry)) (now (downs .entry)) (now (pairs .entry)) base (now (ups .exit)) (now (downs .exit)) (now (pairs .exit)) r ⌝ }
+    requires { ⌜ Visit (suc (length (now one))) (now ends) (now last) (now before) (now one) (now two) (now capacity)
+        fuel v link up (2 * look (now capacity) link - up) (now ups) (now downs) (now pairs) base ⌝ }
+    ensures { λ r. ⌜ Visited (walkOf (suc (length (now (one .entry)))) (now (ends .entry)) (now (one .entry)) (now (two .entry)) (now (capacity .entry))
+        fuel v link up (2 * look (now (capacity .entry)) link - up)) (now (ups .entry)) (now (downs .entry)) (now (pairs .entry)) base
+        (now (ups .exit)) (now (downs .exit)) (now (pairs .exit)) r ⌝ }
 {
     let down = halves_down(capacity, link, up);
     if ends[v] == 1 {
@@ -127,7 +130,8 @@ fn walk_from(
     pairs: &mut [u64],
 ) -> usize
     requires { ⌜ Root root (now ends) (now last) (now before) (now one) (now two) (now capacity) × (NUMBERS ≤ length (now pairs)) ⌝ }
-    ensures { λ r. ⌜ Added (now (pairs .entry)) 0 (now (pairs .exit)) r (flatPairs (pairsBelow root (now (ends .entry)) (now (one .entry)) (now (two .entry)) (now (capacity .entry)))) ⌝ }
+    ensures { λ r. ⌜ Added (now (pairs .entry)) 0 (now (pairs .exit)) r
+        (flatPairs (pairsBelow root (now (ends .entry)) (now (one .entry)) (now (two .entry)) (now (capacity .entry)))) ⌝ }
 {
     let mut ups = [0u64; HALVES];
     let mut downs = [0u64; HALVES];
@@ -167,7 +171,8 @@ fn walk_tree(
     pairs: &mut [u64],
 ) -> usize
     requires { ⌜ Walkable n (now ends) (now last) (now before) (now one) (now two) (now capacity) × (NUMBERS ≤ length (now pairs)) ⌝ }
-    ensures { λ r. ⌜ Added (now (pairs .entry)) 0 (now (pairs .exit)) r (flatPairs (pairsOf n (now (ends .entry)) (now (one .entry)) (now (two .entry)) (now (capacity .entry)))) ⌝ }
+    ensures { λ r. ⌜ Added (now (pairs .entry)) 0 (now (pairs .exit)) r
+        (flatPairs (pairsOf n (now (ends .entry)) (now (one .entry)) (now (two .entry)) (now (capacity .entry)))) ⌝ }
 {
     let root = lowest_inner(n, ends);
     if root == 0 {

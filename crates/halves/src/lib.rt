@@ -1,4 +1,5 @@
-// Lists of halves and of pairs in arrays of numbers: what the walk of pairing adds to them, and how those of a site are settled.
+// Inner: lists of halves and of pairs in arrays of numbers: what the walk of pairing adds to them, and how those of a site are settled.
+// Only the planner's own crates call it.
 ghost use mathlib.Core.Path.{_≡_};
 ghost use mathlib.Core.List.{[], _∷_};
 ghost use Prim.Native.Nat.{_+_, _<_, _≤_, min};
@@ -41,7 +42,7 @@ fn push(list: &mut [u64], end: usize, site: u64, amount: u64) -> usize
     end + 2
 }
 
-// Adds a pair at the end of a list of pairs, and returns the new end. Only the planner's own crates call it, where there is room.
+// Adds a pair at the end of a list of pairs, where there is room, and returns the new end.
 pub fn push_pair(list: &mut [u64], end: usize, first: u64, second: u64, amount: u64) -> usize
     requires { ⌜ end + 3 ≤ length (now list) ⌝ }
     ensures { λ r. ⌜ Added (now (list .entry)) end (now (list .exit)) r (first ∷ second ∷ amount ∷ []) ⌝ }
@@ -186,7 +187,6 @@ fn keep_first(list: &mut [u64], place: Place) -> usize
 
 // Steps 3 and 4 of the walk, over the lists that the children of a site left between `base` and `top`:
 // the first `down` halves of the down list stay, the others are matched with the up list, and what is left of that stays.
-// Only the planner's own crates call it, with what a walk has gathered.
 pub fn settle(
     down: u64,
     ups: &mut [u64],
@@ -207,7 +207,7 @@ pub fn settle(
     }
 }
 
-// Step 2 of the walk: a terminal has an up list and a down list of itself. Only the planner's own crates call it, where there is room.
+// Step 2 of the walk: a terminal has an up list and a down list of itself, where there is room.
 pub fn alone(
     site: usize,
     up: u64,

@@ -1,4 +1,5 @@
--- A refusal has nothing to store, a decomposition the pairs of the tree, no more than there are links; and storing them leaves the lent list as the definition says.
+-- A refusal has nothing to store, a decomposition the pairs of the tree, no more than there are links;
+-- and storing them leaves the lent list as the definition says.
 use mathlib.Core.Path.{_≡_, refl, sym, ap, _∙_}
 use mathlib.Core.Logic.{if-pos}
 use mathlib.Core.List.{List, [], _++_}
@@ -10,53 +11,59 @@ use lib.ListN.{length, take, drop}
 use Rattle.network.specs.Limits.{LINKS, SITES}
 use Rattle.network.specs.Numbers.{look}
 use Rattle.network.specs.Edition.{largest}
-use Rattle.network.specs.Network.{leaf}
 use Rattle.network.specs.Trimming.{Balanced}
-use Rattle.network.specs.Pairing.{pairs, pairList, ordered}
+use Rattle.network.specs.Pairing.{pairList, ordered}
 use Rattle.network.specs.declared.Pair.{Pair}
 use Rattle.tree.specs.Offer.{links}
 use Rattle.tree.specs.Links.{length-links}
 use Rattle.tree.specs.Accepted.{TreeWithin}
+use Rattle.theory.specs.Ends.{ends-are-outer}
 use Rattle.walk.specs.PairingTheorem.{pairs-are-sound}
 use Rattle.pairlist.specs.PairList.{stored}
 use Rattle.pairlist.specs.Laws.{ordering-keeps-length}
 use Rattle.pairing.specs.declared.Pairing.{Pairing}
 use Rattle.pairing.specs.declared.Pairing.the-variants.{NoTree, TooLarge, Short, Heavy, Pairs}
 use Rattle.pairing.specs.declared.Work.{Work}
-use Rattle.pairing.specs.Outcome.{answer, pairCount, after, paired}
-use Rattle.pairing.specs.Storing.{toStore, Worked}
+use Rattle.pairing.specs.Outcome.{terminals, answer, pairCount, after, paired}
+use Rattle.pairing.specs.Storing.{toStore, pairsOf, Worked}
 use Rattle.pairing.specs.Promise.{balanced-capacities-are-paired}
 
 module _ (n : ℕ) (one two c : List ℕ) (places : ℕ) where
   -- an answer that is no success, and a count of 0
-  pub refusal-works : (w : Work) (a : Pairing) → (w .answer ≡ a) × (w .count ≡ 0) → answer n one two c places ≡ a → pairCount a ≡ 0 → ((ps : List Pair) → toStore a ps ≡ [])
+  pub refusal-works : (w : Work) (a : Pairing) → (w .answer ≡ a) × (w .pairs .count ≡ 0) → answer n one two c places ≡ a → pairCount a ≡ 0
+      → ((ps : List Pair) → toStore a ps ≡ [])
       → Worked n one two c places w
   refusal-works w a r said count none = record {
     said = r .0 ∙ sym said;
     counted = r .1 ∙ sym count ∙ ap pairCount (sym (r .0));
-    listed = rw (r .0, r .1) (sym (none (pairs (links one two) n (look c))));
+    listed = rw (r .0, r .1) (sym (none (pairsOf n one two c)));
     few = omega (arith, r .1);
     fits = omega (arith, r .1);
   }
 
   -- the pairs of an accepted tree with balanced capacities
-  module _ (t : TreeWithin largest n one two c) (B : Balanced (links one two) (leaf (links one two)) (look c)) (enough : length one ≤ places) (w : Work)
-      (made : take (w .count) (w .list) ≡ pairs (links one two) n (look c)) (few : w .count ≤ LINKS) (full : length (w .list) ≡ SITES) where
-    number : length (pairs (links one two) n (look c)) ≡ w .count
-    number = sym (ap length made) ∙ length-take-le (w .count) (w .list) (omega arith)
+  module _ (t : TreeWithin largest n one two c) (B : Balanced (links one two) (terminals n one two) (look c)) (enough : length one ≤ places) (w : Work)
+      (made : take (w .pairs .count) (w .pairs .list) ≡ pairsOf n one two c) (few : w .pairs .count ≤ LINKS) (full : length (w .pairs .list) ≡ SITES) where
+    number : length (pairsOf n one two c) ≡ w .pairs .count
+    number = sym (ap length made) ∙ length-take-le (w .pairs .count) (w .pairs .list) (omega arith)
 
-    says-pairs : answer n one two c places ≡ Pairs (w .count)
+    says-pairs : answer n one two c places ≡ Pairs (w .pairs .count)
     unfolding pairList
-    says-pairs = balanced-capacities-are-paired t B places enough ∙ ap Pairs (ordering-keeps-length (pairs (links one two) n (look c)) ∙ number)
+    says-pairs = balanced-capacities-are-paired t B places enough ∙ ap Pairs (ordering-keeps-length (pairsOf n one two c) ∙ number)
 
-    pub decomposition-works : w .answer ≡ Pairs (w .count) → Worked n one two c places w
+    pub decomposition-works : w .answer ≡ Pairs (w .pairs .count) → Worked n one two c places w
     unfolding pairCount toStore
     decomposition-works e = record {
       said = e ∙ sym says-pairs;
       counted = rw e refl;
       listed = rw e made;
       few = omega arith;
-      fits = omega (arith, pairs-are-sound (t .tree) (look c) B .few, number, length-links one two (omega (arith, t .firsts, t .seconds)));
+      fits = omega (
+        arith,
+        pairs-are-sound (t .tree) (terminals n one two) (look c) (ends-are-outer (t .tree)) B .few,
+        number,
+        length-links one two (omega (arith, t .firsts, t .seconds)),
+      );
     }
 
 -- ---- storing
@@ -74,10 +81,10 @@ after-storing Heavy ps l = refl
 after-storing (Pairs count) ps l = refl
 
 -- stored in a list of so many places, they leave it as the definition says
-pub work-is-stored : (n : ℕ) (one two c : List ℕ) (l : List Pair) (w : Work) → Worked n one two c (length l) w → length (w .list) ≡ SITES
-    → stored (w .list) (w .count) l ≡ paired n one two c l
+pub work-is-stored : (n : ℕ) (one two c : List ℕ) (l : List Pair) (w : Work) → Worked n one two c (length l) w → length (w .pairs .list) ≡ SITES
+    → stored (w .pairs .list) (w .pairs .count) l ≡ paired n one two c l
 unfolding paired pairList
 work-is-stored n one two c l w h full =
-    stored-fits (w .list) l (w .count) (omega (arith, h .few, h .fits))
-    ∙ rw (h .listed, h .counted) (after-storing (w .answer) (pairs (links one two) n (look c)) l)
-    ∙ ap (λ a. after a (ordered (pairs (links one two) n (look c))) l) (h .said)
+    stored-fits (w .pairs .list) l (w .pairs .count) (omega (arith, h .few, h .fits))
+    ∙ rw (h .listed, h .counted) (after-storing (w .answer) (pairsOf n one two c) l)
+    ∙ ap (λ a. after a (ordered (pairsOf n one two c)) l) (h .said)

@@ -4,13 +4,12 @@ use mathlib.Core.Bool.{Bool, true, false}
 use mathlib.Core.List.{List, _++_}
 use Prim.Native.Nat.{ℕ}
 use lib.Dec.{leb}
-use lib.ListN.{length, drop, replicate}
-use Rattle.network.specs.Limits.{SITES}
+use lib.ListN.{length, drop}
 use Rattle.network.specs.Numbers.{look}
 use Rattle.network.specs.Edition.{largest}
+use Rattle.network.specs.Network.{ends}
 use Rattle.network.specs.Pairing.{pairList}
 use Rattle.network.specs.declared.Pair.{Pair}
-use Rattle.pairlist.specs.PairList.{noPair}
 use Rattle.tree.specs.Offer.{links, offer}
 use Rattle.tree.specs.declared.Offer.{Offer}
 use Rattle.tree.specs.declared.Offer.the-variants as offered
@@ -28,11 +27,18 @@ decide offered.Accepted false heavy count = Short
 decide offered.Accepted true true count = Heavy
 decide offered.Accepted true false count = Pairs count
 
+-- the terminals of an offered tree: its ends
+abbrev pub terminals : ℕ → List ℕ → List ℕ → ℕ → ℕ
+terminals n one two = look (ends (links one two) n)
+
+-- its pair list
+abbrev pub listOf : ℕ → List ℕ → List ℕ → List ℕ → List Pair
+listOf n one two c = pairList (links one two) n (look c) (terminals n one two)
+
 -- what is said of an offer with so many lent places
 unfoldable pub answer : ℕ → List ℕ → List ℕ → List ℕ → ℕ → Pairing
 answer n one two c places =
-    let ls = links one two in
-    decide (offer largest n one two c) (leb (length one) places) (heavySomewhere ls n (look c)) (length (pairList ls n (look c)))
+    decide (offer largest n one two c) (leb (length one) places) (heavySomewhere (links one two) n (terminals n one two) (look c)) (length (listOf n one two c))
 
 -- ---- the lent list after
 
@@ -45,11 +51,7 @@ after Heavy ps lent = lent
 after (Pairs count) ps lent = ps ++ drop count lent
 
 unfoldable pub paired : ℕ → List ℕ → List ℕ → List ℕ → List Pair → List Pair
-paired n one two c lent = after (answer n one two c (length lent)) (pairList (links one two) n (look c)) lent
-
--- SITES places without a pair
-unfoldable pub noPairs : List Pair
-noPairs = replicate SITES noPair
+paired n one two c lent = after (answer n one two c (length lent)) (listOf n one two c) lent
 
 -- ---- document 01's numbers
 

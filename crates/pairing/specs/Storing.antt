@@ -11,7 +11,7 @@ use Rattle.tree.specs.Offer.{links}
 use Rattle.pairing.specs.declared.Pairing.{Pairing}
 use Rattle.pairing.specs.declared.Pairing.the-variants.{NoTree, TooLarge, Short, Heavy, Pairs}
 use Rattle.pairing.specs.declared.Work.{Work}
-use Rattle.pairing.specs.Outcome.{answer, pairCount}
+use Rattle.pairing.specs.Outcome.{terminals, answer, pairCount}
 
 -- the pairs to store: all of them, or none where something else is said
 unfoldable pub toStore : Pairing → List Pair → List Pair
@@ -21,10 +21,14 @@ toStore Short ps = []
 toStore Heavy ps = []
 toStore (Pairs count) ps = ps
 
--- the answer, and in the first places of the list the pairs to store, for which there is room
+-- the pairs of an offered tree, in the order in which they are made
+abbrev pub pairsOf : ℕ → List ℕ → List ℕ → List ℕ → List Pair
+pairsOf n one two c = pairs (links one two) n (look c) (terminals n one two)
+
+-- the answer, and the pairs to store, for which there is room
 pub record Worked (n : ℕ) (one two c : List ℕ) (places : ℕ) (w : Work) : Type 0 where
   pub said : w .answer ≡ answer n one two c places
-  pub counted : w .count ≡ pairCount (w .answer)
-  pub listed : take (w .count) (w .list) ≡ toStore (w .answer) (pairs (links one two) n (look c))
-  pub few : w .count ≤ SITES
-  pub fits : w .count ≤ places
+  pub counted : w .pairs .count ≡ pairCount (w .answer)
+  pub listed : take (w .pairs .count) (w .pairs .list) ≡ toStore (w .answer) (pairsOf n one two c)
+  pub few : w .pairs .count ≤ SITES
+  pub fits : w .pairs .count ≤ places

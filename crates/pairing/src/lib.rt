@@ -1,11 +1,14 @@
 // What is said of an offered tree whose capacities are to be paired, and its pair list.
 use network::Pair;
+use network::Pairs;
 use network::SITES;
 use tree::Offer;
 ghost use mathlib.Core.Path.{_≡_};
-ghost use Rattle.network.specs.Limits.{SITES};
+ghost use Prim.Native.Nat.{ℕ, _≤_};
 ghost use lib.ListN.{length};
-ghost use Rattle.pairing.specs.Outcome.{answer, paired, noPairs};
+ghost use Rattle.network.specs.Edition.{largest};
+ghost use Rattle.tree.specs.Accepted.{TreeWithin};
+ghost use Rattle.pairing.specs.Outcome.{answer, paired};
 ghost use Rattle.pairing.specs.Storing.{Worked};
 
 // What is said of an offered tree whose balanced capacities are to be decomposed into pairs.
@@ -22,26 +25,46 @@ pub enum Pairing {
     Pairs { count: usize },
 }
 
-// What there is to say and to store: the first `count` pairs of the list, in the order in which they are made.
+// What there is to say and to store: the pairs in the order in which they are made.
 struct Work {
     answer: Pairing,
-    list: [Pair; SITES],
-    count: usize,
+    pairs: Pairs,
 }
 
 // A refusal, with nothing to store.
 fn refused(answer: Pairing) -> Work
-    ensures { λ r. ⌜ (r .answer ≡ answer) × (r .count ≡ 0) ⌝ }
+    ensures { λ r. ⌜ (r .answer ≡ answer) × (r .pairs .count ≡ 0) ⌝ }
 {
     let none = Pair {
         first: 0,
         second: 0,
         amount: 0,
     };
-    Work {
-        answer,
+    let pairs = Pairs {
         list: [none; SITES],
         count: 0,
+    };
+    Work { answer, pairs }
+}
+
+// What is said of an accepted tree, where there are enough places, and its pairs.
+fn take_apart(n: usize, one: &[usize], two: &[usize], capacity: &[u64]) -> Work
+    requires { ⌜ TreeWithin largest n (now one) (now two) (now capacity) ⌝ }
+    ensures { λ r. ⌜ ((places : ℕ) → length (now (one .entry)) ≤ places
+        → Worked n (now (one .entry)) (now (two .entry)) (now (capacity .entry)) places r) ⌝ }
+{
+    let chains = links::chain(one, two);
+    let last = chains.last;
+    let before = chains.before;
+    let ends = links::ends(n, &last, &before, one, two);
+    if heavy::heavy(n, &ends, &last, &before, one, two, capacity) {
+        return refused(Pairing::Heavy);
+    }
+    let pairs = decomposition::decompose(n, &ends, &last, &before, one, two, capacity);
+    let count = pairs.count;
+    Work {
+        answer: Pairing::Pairs { count },
+        pairs,
     }
 }
 
@@ -56,17 +79,7 @@ fn work_out(n: usize, one: &[usize], two: &[usize], capacity: &[u64], places: us
             if places < one.len() {
                 return refused(Pairing::Short);
             }
-            if heavy::heavy(n, one, two, capacity) {
-                return refused(Pairing::Heavy);
-            }
-            let made = decomposition::decompose(n, one, two, capacity);
-            let list = made.list;
-            let count = made.count;
-            Work {
-                answer: Pairing::Pairs { count },
-                list,
-                count,
-            }
+            take_apart(n, one, two, capacity)
         }
     }
 }
@@ -79,27 +92,10 @@ pub fn pair_up(
     capacity: &[u64],
     pairs: &mut [Pair],
 ) -> Pairing
-    ensures { λ r. ⌜ (r ≡ answer n (now (one .entry)) (now (two .entry)) (now (capacity .entry)) (length (now (pairs .entry)))) × (now (pairs .exit) ≡ paired n (now (one .entry)) (now (two .entry)) (now (capacity .entry)) (now (pairs .entry))) ⌝ }
+    ensures { λ r. ⌜ (r ≡ answer n (now (one .entry)) (now (two .entry)) (now (capacity .entry)) (length (now (pairs .entry))))
+        × (now (pairs .exit) ≡ paired n (now (one .entry)) (now (two .entry)) (now (capacity .entry)) (now (pairs .entry))) ⌝ }
 {
     let done = work_out(n, one, two, capacity, pairs.len());
-    pairlist::store(pairs, done.list, done.count);
+    pairlist::store(pairs, done.pairs.list, done.pairs.count);
     done.answer
-}
-
-// The pair list of an offered tree by value, in a list of SITES places; pairs of zeros past its count.
-pub struct PairList {
-    pub answer: Pairing,
-    pub list: [Pair; SITES],
-}
-
-pub fn pair_list(n: usize, one: &[usize], two: &[usize], capacity: &[u64]) -> PairList
-    ensures { λ r. ⌜ (r .answer ≡ answer n (now (one .entry)) (now (two .entry)) (now (capacity .entry)) SITES) × (r .list ≡ paired n (now (one .entry)) (now (two .entry)) (now (capacity .entry)) noPairs) ⌝ }
-{
-    let mut list = [Pair {
-        first: 0,
-        second: 0,
-        amount: 0,
-    }; SITES];
-    let answer = pair_up(n, one, two, capacity, &mut list);
-    PairList { answer, list }
 }

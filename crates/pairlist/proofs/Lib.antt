@@ -4,3 +4,4 @@ pub mod Elements
 pub mod Again
 pub mod Arrays
 pub mod Calls
+pub mod Ordering

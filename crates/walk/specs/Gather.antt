@@ -18,7 +18,8 @@ use Rattle.walk.specs.Halves.{halvesAt, at-split, at-none, halves-append
 use Rattle.walk.specs.Subtrees.{LinkAt, Entered, Down, Child, Within, Branch, Joins, three, far, single, one-way, not-parent}
 use Rattle.walk.specs.Children.{joins-none, links, sizes, size}
 use Rattle.walk.specs.Handed.{Open, In, Reaching, Made, All, entries, loading, Good}
-use Rattle.walk.specs.Handed.{up-tally, down-tally, pair-tally, halves-additive, loading-additive, sends, visited, gather-all, gather-le, gather-eq, Few, gather-entries}
+use Rattle.walk.specs.Handed.{up-tally, down-tally, pair-tally, halves-additive, loading-additive, sends, visited, gather-all, gather-le, gather-eq}
+use Rattle.walk.specs.Handed.{Few, gather-entries}
 
 -- ---- the order of children
 

@@ -6,8 +6,8 @@ use mathlib.Core.List.{[]}
 use Prim.Native.Nat.{ℕ, zero, suc, _+_, _*_, _≤_, _<_}
 use lib.ListN.{length}
 use native.Mathlib.Omega.{arith}
-use Rattle.network.specs.Numbers.{Each}
-use Rattle.network.specs.Network.{Links, Site, sites, one, two, at, sumAt, leaf, separates, Tree, Multiflow, load}
+use Rattle.network.specs.Numbers.{look, Each}
+use Rattle.network.specs.Network.{Links, Site, sites, one, two, at, sumAt, leaf, ends, separates, Tree, Multiflow, load}
 use Rattle.network.specs.Trimming.{Balanced}
 use Rattle.network.specs.Pairing.{put, give, pairsFrom, lowestInner, pairs}
 use Rattle.theory.specs.Sums.{pick-same, pick-other, pick-cases, same?, is-one, sum-one, sum-add, sum-only}
@@ -28,7 +28,8 @@ pub lowest-none : (f : ℕ → ℕ) (c m : ℕ) → 1 ≤ c → lowestInner f c 
 unfolding lowestInner
 lowest-none f c zero p e x a b = absurd (omega arith)
 lowest-none f c (suc m) p e x a b = same? (f c) 1
-    (λ o. same? x c (λ q. rw q o) (λ q. lowest-none f (suc c) m (omega arith) (sym (pick-same o (lowestInner f (suc c) m) c) ∙ e) x (omega arith) (omega arith)))
+    (λ o. same? x c (λ q. rw q o)
+    (λ q. lowest-none f (suc c) m (omega arith) (sym (pick-same o (lowestInner f (suc c) m) c) ∙ e) x (omega arith) (omega arith)))
     (λ d. absurd (omega (arith, pick-other d (lowestInner f (suc c) m) c)))
 
 pub lowest-some : (f : ℕ → ℕ) (c m : ℕ) → lowestInner f c m ≢ 0 → (c ≤ lowestInner f c m) × (lowestInner f c m < c + m) × (f (lowestInner f c m) ≢ 1)

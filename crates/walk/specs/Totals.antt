@@ -12,10 +12,7 @@ use Rattle.network.specs.declared.Pair.{Pair}
 use Rattle.theory.specs.Sums.{same?, is-same, is-other}
 use Rattle.theory.specs.Trees.{separates-comm, sumAt-linear, local}
 use Rattle.walk.specs.Sound.{arises, Sound}
-use Rattle.theory.specs.Sites.{sites-once, sites-site, over-add, over-mul, over-eq, over-is, sumAt-same, sumAt-mul}
-
-sumAt-none : (ls : Links) (x : ℕ) → sumAt ls x (λ j. 0) ≡ 0
-sumAt-none ls x = sumAt-mul ls x 0 (λ j. 0) ∙ omega arith
+use Rattle.theory.specs.Sites.{sites-once, sites-site, over-add, over-mul, over-eq, over-is, sumAt-same, sumAt-mul, sumAt-none}
 
 module _ {ls : Links} {n : ℕ} (T : Tree ls n) (terminal : ℕ → ℕ) where
   -- the links at terminal x that separate the sites of an entry: one where x is one of them, else none
@@ -39,7 +36,7 @@ module _ {ls : Links} {n : ℕ} (T : Tree ls n) (terminal : ℕ → ℕ) where
         sumAt-same ls b (λ i. separates ls i a b) (λ i. separates ls i b a) (λ i l c. separates-comm ls i a b),
       )))
       (λ o. rw (is-other q, is-other o) (same? (terminal x) 1
-      (λ t. rw (is-same t) (omega (arith, sumAt-none ls x, sumAt-same ls x (λ i. separates ls i a b) (λ i. 0) (λ i l c. p .free x i px t q o l c))))
+      (λ t. rw (is-same t) (omega (arith, sumAt-none ls x (λ i. separates ls i a b) (λ i l c. p .free x i px t q o l c))))
       (λ t. rw (is-other t) (omega arith)))))
 
   -- so the loads at the terminals count every entry twice
@@ -48,7 +45,7 @@ module _ {ls : Links} {n : ℕ} (T : Tree ls n) (terminal : ℕ → ℕ) where
   twice-total [] p = omega (
     arith,
     over-mul (sites n) 0 (λ x. 0),
-    over-eq (sites n) (λ x. is (terminal x) 1 * sumAt ls x (λ j. 0)) (λ x. 0 * 0) (λ x m. rw (sumAt-none ls x) (omega arith)),
+    over-eq (sites n) (λ x. is (terminal x) 1 * sumAt ls x (λ j. 0)) (λ x. 0 * 0) (λ x m. rw (sumAt-none ls x (λ j. 0) (λ i l a. refl)) (omega arith)),
   )
   twice-total (e ∷ es) p =
       let crossed : ℕ → ℕ = λ x. is (terminal x) 1 * sumAt ls x (λ j. separates ls j (e .first) (e .second)) in
@@ -83,6 +80,6 @@ module _ {ls : Links} {n : ℕ} (T : Tree ls n) (terminal : ℕ → ℕ) where
           ∙ over-mul (sites n) 2 (λ x. is (terminal x) 1 * sumAt ls x t))
 
 -- what is sound but for the total is sound
-pub sound : {ls : Links} {n : ℕ} → Tree ls n → (terminal t : ℕ → ℕ) (es : List Pair) → ((j : ℕ) → j < length ls → load ls es j ≡ 2 * t j) → Multiflow ls n terminal es
-    → Each (λ e. 1 ≤ e .amount) es → ((x y : ℕ) → arises es x y ≤ 1) → length es ≤ length ls → Sound ls n terminal t es
+pub sound : {ls : Links} {n : ℕ} → Tree ls n → (terminal t : ℕ → ℕ) (es : List Pair) → ((j : ℕ) → j < length ls → load ls es j ≡ 2 * t j)
+    → Multiflow ls n terminal es → Each (λ e. 1 ≤ e .amount) es → ((x y : ℕ) → arises es x y ≤ 1) → length es ≤ length ls → Sound ls n terminal t es
 sound T terminal t es l r p o f = record { loads = l; routes = r; positive = p; once = o; few = f; sums = total-loaded T terminal t es r l }

@@ -14,7 +14,8 @@ use Rattle.links.specs.Chains.{offer-limited}
 use Rattle.neighbours.specs.Below.{Charted}
 use Rattle.neighbours.specs.Laws.{children-from-the-next}
 use Rattle.decomposition.specs.Visits.{Visit}
-use Rattle.decomposition.proofs.Visiting.{Gathering, gathering-starts, gathering-passes, gathering-visits, gathering-goes-on, gathering-settles, gathering-settled}
+use Rattle.decomposition.proofs.Visiting.{Gathering, gathering-starts, gathering-passes, gathering-visits, gathering-goes-on}
+use Rattle.decomposition.proofs.Visiting.{gathering-settles, gathering-settled}
 use Rattle.decomposition.proofs.Visiting.{some-fuel, alone-room, visited-alone, down-within, down-over}
 use borrow.Fn.Kinds.{In}
 use borrow.Fn.PlainCycle.{Measures, is, falls, and}
@@ -81,8 +82,8 @@ module _ (t : ℕ) where
   some e = some-fuel (e .before .before .before .before .before .before .pre .1)
 
   given : (e : Entry) → let a = e .before .before .before .before .before .before .args in
-      Visit (suc (length (a .one .now))) (a .ends .now) (a .last .now) (a .before .now) (a .one .now) (a .two .now) (a .capacity .now) (suc (a .fuel - 1)) (a .v) (a .link) (a .up)
-      (2 * look (a .capacity .now) (a .link) - a .up) (a .ups .now) (a .downs .now) (a .pairs .now) (a .base)
+      Visit (suc (length (a .one .now))) (a .ends .now) (a .last .now) (a .before .now) (a .one .now) (a .two .now) (a .capacity .now)
+      (suc (a .fuel - 1)) (a .v) (a .link) (a .up) (2 * look (a .capacity .now) (a .link) - a .up) (a .ups .now) (a .downs .now) (a .pairs .now) (a .base)
   given e = rw (some e) at (e .before .before .before .before .before .before .pre .1)
 
   abbrev start : Entry → visit-lts.Start (cs t) (visit-at t) visit.Post Inv μ
@@ -91,8 +92,12 @@ module _ (t : ℕ) where
   charted : (e : Entry) → let a = start e .args in Charted (a .one .now) (a .two .now) (a .last .now) (a .before .now)
   charted e = record { tree = given e .tree .tree; chained = given e .chained }
 
-  number : (e : Entry) → let a = start e .args in (length (links (a .one .now) (a .two .now)) ≡ length (a .one .now)) × (length (a .capacity .now) ≡ length (a .one .now))
-  number e = let w = given e .tree in let a = start e .args in (length-links (a .one .now) (a .two .now) (omega (arith, w .firsts, w .seconds)), omega (arith, w .firsts, w .capacities))
+  number : (e : Entry) → let a = start e .args in
+      (length (links (a .one .now) (a .two .now)) ≡ length (a .one .now)) × (length (a .capacity .now) ≡ length (a .one .now))
+  number e =
+      let w = given e .tree in
+      let a = start e .args in
+      (length-links (a .one .now) (a .two .now) (omega (arith, w .firsts, w .seconds)), omega (arith, w .firsts, w .capacities))
 
   -- the site is no terminal
   abbrev Inner : Type 0
@@ -164,8 +169,8 @@ module _ (t : ℕ) where
         f .hit,
         rw (c .before .before .sum-at .ensures, i .before .before .halves-down .ensures)
             (gathering-passes
-            (gathering-starts n (a .ends .now) (a .one .now) (a .two .now) (a .capacity .now) (a .fuel - 1) (a .v) (a .link) (2 * look (a .capacity .now) (a .link) - a .up)
-            (a .ups .now) (a .downs .now) (a .pairs .now) (a .base))
+            (gathering-starts n (a .ends .now) (a .one .now) (a .two .now) (a .capacity .now) (a .fuel - 1) (a .v) (a .link)
+            (2 * look (a .capacity .now) (a .link) - a .up) (a .ups .now) (a .downs .now) (a .pairs .now) (a .base))
             (c .next-site .result) (children-from-the-next (c .before .children .ensures) n 0 (c .next-site .result) f)),
       )
 
@@ -195,12 +200,12 @@ module _ (t : ℕ) where
             (2 * look (start e .args .capacity .now) (k .link-to .result) - s .result) (omega (arith, s .ensures)),
       )
 
-  -- the turn that ends with the next child
-  abbrev turn : visit-lts.After-next-site2 (cs t) (visit-at t) visit.Post Inv μ → visit-lts.After-link-to (cs t) (visit-at t) visit.Post Inv μ
-  turn c = c .before .before .before .before .before .before .before .before .before .before .before .before
+  -- the child that has been visited
+  abbrev sent : visit-lts.After-visit (cs t) (visit-at t) visit.Post Inv μ → visit-lts.After-halves-up (cs t) (visit-at t) visit.Post Inv μ
+  sent c = c .before .before .before .before
 
   next-site-requires-2 : visit-lts.Need-next-site-requires-2 (cs t) (visit-at t) visit.Post Inv μ
-  next-site-requires-2 c κs = omega (arith, c .before .before .before .before .before .before .before .before .before .before .before .before .loop-test .taken)
+  next-site-requires-2 c κs = let h = sent (c .before .before .before .before .before .before) .before .before in omega (arith, h .loop-test .taken)
 
   loop-less : visit-lts.Need-loop-less (cs t) (visit-at t) visit.Post Inv μ
   loop-less c = omega (arith, c .next-site2 .ensures .above, c .next-site2 .ensures .to)
@@ -208,17 +213,19 @@ module _ (t : ℕ) where
   loop-again : visit-lts.Need-loop-again (cs t) (visit-at t) visit.Post Inv μ
   loop-again c =
       let f = c .next-site2 .ensures in
-      let k = turn c in
+      let w = c .before .before .before .before .before .before .before in
+      let k = sent w .before in
       let h = k .before in
       let e = entry (inner h) in
       let d = child k in
-      let s = c .before .before .before .before .before .before .before .before .before .before .before .halves-up .ensures in (
+      let s = sent w .halves-up .ensures in (
         omega (arith, f .above),
         f .to,
         f .hit,
         rw s (gathering-goes-on (h .before .loop .inv .3) (given e) (k .link-to .result) (k .link-to .ensures) (d .0) (d .1) (c .next-site2 .result)
-            (children-from-the-next (h .before .before .before .children .ensures) (suc (length (start e .args .one .now))) (h .before .loop .c) (c .next-site2 .result) f)
-            (rw s at (c .before .before .before .before .before .before .before .visit .ensures))),
+            (children-from-the-next (h .before .before .before .children .ensures) (suc (length (start e .args .one .now))) (h .before .loop .c)
+            (c .next-site2 .result) f)
+            (rw s at (w .visit .ensures))),
       )
 
   -- after the last turn
@@ -236,13 +243,19 @@ module _ (t : ℕ) where
       rw (i .before .before .halves-down .ensures) (gathering-settles w (i .if1 .left) (o .before .loop .inv .3) (omega (arith, o .loop-test .left, w .tree .few)))
 
   same-length-3 : visit-lts.Need-same-length-3 (cs t) (visit-at t) visit.Post Inv μ
-  same-length-3 c = let s = c .before .before .before .before .before .before in s .settle .kept .1 .0 ∙ s .before .before .before .before .before .loop .inv .3 .held .ups .as-long
+  same-length-3 c =
+      let s = c .before .before .before .before .before .before in
+      s .settle .kept .1 .0 ∙ s .before .before .before .before .before .loop .inv .3 .held .ups .as-long
 
   same-length-4 : visit-lts.Need-same-length-4 (cs t) (visit-at t) visit.Post Inv μ
-  same-length-4 c = let s = c .before .before .before .before .before .before in s .settle .kept .1 .1 .0 ∙ s .before .before .before .before .before .loop .inv .3 .held .downs .as-long
+  same-length-4 c =
+      let s = c .before .before .before .before .before .before in
+      s .settle .kept .1 .1 .0 ∙ s .before .before .before .before .before .loop .inv .3 .held .downs .as-long
 
   same-length-5 : visit-lts.Need-same-length-5 (cs t) (visit-at t) visit.Post Inv μ
-  same-length-5 c = let s = c .before .before .before .before .before .before in s .settle .kept .1 .1 .1 .0 ∙ s .before .before .before .before .before .loop .inv .3 .held .pairs .as-long
+  same-length-5 c =
+      let s = c .before .before .before .before .before .before in
+      s .settle .kept .1 .1 .1 .0 ∙ s .before .before .before .before .before .loop .inv .3 .held .pairs .as-long
 
   returns : visit-lts.Need-returns-2 (cs t) (visit-at t) visit.Post Inv μ
   returns c =

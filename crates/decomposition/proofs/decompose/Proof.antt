@@ -14,4 +14,5 @@ decompose-spec =
     (λ c κs. (c .before .before .before .before .pre, omega arith))
     (λ c. search needs)
     (λ c κs. pairs-spell (c .before .before .before .before .before .before .before .pre) (omega arith) (c .before .before .walk-tree .ensures))
-    (λ c. let s = c .before .before .before in rw (pairs-spelled (s .before .before .before .before .before .pre) (omega arith) (s .walk-tree .ensures)) at (c .read-pairs .ensures)))
+    (λ c. let s = c .before .before .before in
+    rw (pairs-spelled (s .before .before .before .before .before .pre) (omega arith) (s .walk-tree .ensures)) at (c .read-pairs .ensures)))

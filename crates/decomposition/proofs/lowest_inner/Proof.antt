@@ -18,14 +18,16 @@ start : tie.Need-loop-holds Inv-loop μ-loop
 start c = let a = c .args in let all : a .n ≡ a .n + 1 - 1 = omega arith in (omega arith, omega arith, ap (lowestInner (look (a .ends .now)) 1) all)
 
 found : tie.Need-returns Inv-loop μ-loop
-found c = let a = c .before .before .before .before .args in sym (c .before .before .before .loop .inv .2 ∙ lowest-here (look (a .ends .now)) (c .before .before .before .loop .v) (a .n + 1) (omega arith) (c .if1 .taken))
+found c =
+    let a = c .before .before .before .before .args in
+    let l = c .before .before .before .loop in
+    sym (l .inv .2 ∙ lowest-here (look (a .ends .now)) (l .v) (a .n + 1) (omega arith) (c .if1 .taken))
 
 next : tie.Need-loop-again Inv-loop μ-loop
-next c = let a = c .before .before .before .before .args in (
-  omega arith,
-  omega arith,
-  c .before .before .before .loop .inv .2 ∙ lowest-next (look (a .ends .now)) (c .before .before .before .loop .v) (a .n + 1) (omega arith) (c .if1 .left),
-)
+next c =
+    let a = c .before .before .before .before .args in
+    let l = c .before .before .before .loop in
+    (omega arith, omega arith, l .inv .2 ∙ lowest-next (look (a .ends .now)) (l .v) (a .n + 1) (omega arith) (c .if1 .left))
 
 none : tie.Need-returns-2 Inv-loop μ-loop
 none c = let a = c .before .before .args in sym (c .before .loop .inv .2 ∙ lowest-end (look (a .ends .now)) (c .before .loop .v) (a .n + 1) (omega arith))

@@ -14,8 +14,17 @@ start c κs =
 
 walked : tie.Need-returns
 walked c =
-    let s = c .before .before .before .before .before .before .before .before .before .before .before .before in
-    rw (none-down (s .pre .0), add-one (length (s .args .one .now))) at (c .before .before .before .before .visit .ensures .pairs)
+    let v = c .before .before .before .before in
+    let s = v .before .before .before .before .before .before .before .before in
+    rw (none-down (s .pre .0), add-one (length (s .args .one .now))) at (v .visit .ensures .pairs)
 
 pub walk-from-spec : {M : Type 1} → statement M
-walk-from-spec = tie.close (tie.spec (λ c. omega (arith, c .before .before .before .before .pre .0 .walkable .tree .few)) (λ c. refl) (λ c. refl) start (λ c. c .before .before .before .before .visit .kept .1 .1 .1 .1 .1 .1 .1 .1 .1 .1 .1 .1 .0) walked)
+walk-from-spec =
+    tie.close
+    (tie.spec
+    (λ c. omega (arith, c .before .before .before .before .pre .0 .walkable .tree .few))
+    (λ c. refl)
+    (λ c. refl)
+    start
+    (λ c. c .before .before .before .before .visit .kept .1 .1 .1 .1 .1 .1 .1 .1 .1 .1 .1 .1 .0)
+    walked)

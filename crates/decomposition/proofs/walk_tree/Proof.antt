@@ -1,22 +1,21 @@
 -- `decomposition::walk_tree` meets its contract: two sites, or the walk from the lowest inner site.
-use mathlib.Core.Path.{_≡_, sym, _∙_}
-use Prim.Native.Nat.{suc}
+use mathlib.Core.Path.{sym, _∙_}
 use native.Mathlib.Omega.{arith}
-use lib.ListN.{length}
-use Rattle.network.specs.Numbers.{look}
-use Rattle.decomposition.specs.Visits.{Walkable, Root}
 use Rattle.decomposition.proofs.Roots.{root-pairs, two-pairs, lowest-root}
 use Rattle.decomposition.proofs.walk_tree.Statement.{statement}
 use Rattle.decomposition.proofs.walk_tree.Tie as tie
 
 two : tie.Need-join-two-requires
-two c κs = let p = c .before .before .before .before .before .before .before .before .pre in
+two c κs =
+    let i = c .before .before in
+    let p = i .before .before .before .before .before .before .pre in
     (p .0 .tree .limited 0 (omega (arith, p .0 .tree .tree .big, p .0 .tree .capacities)), omega (arith, p .1))
 
 joined : tie.Need-returns
 joined c =
     let i = c .before .before .before .before .before in
-    rw (two-pairs (i .before .before .before .before .before .before .pre .0) (sym (i .before .lowest-inner .ensures) ∙ i .if1 .taken)) (c .before .before .join-two .ensures)
+    let w = i .before .before .before .before .before .before .pre .0 in
+    rw (two-pairs w (sym (i .before .lowest-inner .ensures) ∙ i .if1 .taken)) (c .before .before .join-two .ensures)
 
 rooted : tie.Need-walk-from-requires
 rooted c κs =

@@ -154,16 +154,16 @@ module _ {M : Type 1} (𝓤 : URA M) (H : Heap 𝓤) (A : Atoms 𝓤) (W : Given
   module _ (w : Work) (vs : List Val) (is : Is D.the-row w vs) (worked : Done w) where
     -- ---- the call of `store`: the borrow's own lifetime, share and name
     abbrev to-store : Store 𝓤 H A mem run .Ghost
-    to-store = (((κ₃, tt), (q₃, tt), tt, (lent, (w .list, (w .count, tt))), (s ∷ [], (listVal (w .list) ∷ [], (vint w64 (w .count) ∷ [], tt)))), tt)
+    to-store = (((κ₃, tt), (q₃, tt), tt, (lent, (w .pairs .list, (w .pairs .count, tt))), (s ∷ [], (listVal (w .pairs .list) ∷ [], (vint w64 (w .pairs .count) ∷ [], tt)))), tt)
 
     goes-store : ent 𝓤 (sep 𝓤 (A .lft κ₃ q₃) (sem 𝓤 H A Lent)) (Store 𝓤 H A mem run .pre to-store)
     goes-store =
         qed W (‵ (flft κ₃ q₃) ∷ ‵ Lent ∷ []) ∵ nothing ! $ move ! (1 ∷ 0 ∷ []) $ join ! $ nothing ! $
-        owned ! usize (Is usize) (uint-makes 𝓤 H A W w64) (w .count) _ (count-is w vs is) $ fjoin ! $
-        owned ! (Array T.the-row SITES) (Is (Array T.the-row SITES)) (array-makes 𝓤 H A W T.the-row (LL.makes T.the-type T′.the-plain 𝓤 H A) SITES) (w .list) _ (list-is w vs is) $ fjoin ! $
+        owned ! usize (Is usize) (uint-makes 𝓤 H A W w64) (w .pairs .count) _ (count-is w vs is) $ fjoin ! $
+        owned ! (Array T.the-row SITES) (Is (Array T.the-row SITES)) (array-makes 𝓤 H A W T.the-row (LL.makes T.the-type T′.the-plain 𝓤 H A) SITES) (w .pairs .list) _ (list-is w vs is) $ fjoin ! $
         move ! (2 ∷ 0 ∷ []) $ fjoin ! $ move ! (1 ∷ 0 ∷ []) $ join ! $ frame ! $ done !
 
-    exits : (zs : List Pair) → length zs ≡ length (lent .now) → zs ≡ stored (w .list) (w .count) (lent .now)
+    exits : (zs : List Pair) → length zs ≡ length (lent .now) → zs ≡ stored (w .pairs .list) (w .pairs .count) (lent .now)
         → ent 𝓤 (⋆ 𝓤 H A ((‵ (flft κ₃ q₃) ⊛ ‵ ftrue) ∷ ‵ (finally T.the-row (lent .name) zs) ∷ Tokens (‵ ftrue) ∷ [])) (Post (answerVal (w .answer)))
     exits zs len e =
         qed W ((‵ (flft κ₃ q₃) ⊛ ‵ ftrue) ∷ ‵ (finally T.the-row (lent .name) zs) ∷ Tokens (‵ ftrue) ∷ []) ∵
@@ -199,10 +199,10 @@ module _ {M : Type 1} (𝓤 : URA M) (H : Heap 𝓤) (A : Atoms 𝓤) (W : Given
         lets ! (agg ! (and-then ! (get ! 12 refl) (and-then ! (many ! 8 refl refl) (no-more !)))) 13 refl (tt, (tt, (record { fits = room .0 }, tt))) $
         move ! (1 ∷ []) $ split ! $ use2 W (raw (Store 𝓤 H A mem run .pre (to-store w (v ∷ []) is worked))) (goes-store w (v ∷ []) is worked) $
         calls-at ! (fmOf 𝓤 H (W .laws) 𝓣) (Store 𝓤 H A mem run) stores (to-store w (v ∷ []) is worked)
-        (and-then ! (get ! 13 refl) (and-then ! (load ! (from ! (fld ! refl (stop !))) (look-in ! 9 (sub ! 1 refl (whole !)))) (and-then ! (load ! (from ! (fld ! refl (stop !))) (look-in ! 9 (sub ! 2 refl (whole !)))) (no-more !)))) (λ u.
-        use1 W (later (some (λ (r : Unit {0}). ((‵ (flft κ₃ q₃) ⊛ ‵ ftrue) ⊛ ‵ (Nothing .own r (u ∷ []))) ⊛ raw (ensured 𝓤 H A store.ended (store.clauses 𝓤 H A mem run) (κ₃, tt) (lent, (w .list, (w .count, tt))) tt r)))) (id⊢ 𝓤 _) $ await ! tt $ pick ! (λ r.
-        split ! $ move ! (1 ∷ []) $ use1 W (some (λ (ws : List Pair × (Unit {0} × (Unit {0} × Unit {0}))). ‵ (lasts store.ended (κ₃, tt) (lent, (w .list, (w .count, tt))) ws) ⊛ raw (fact 𝓤 (ws .0 ≡ stored (w .list) (w .count) (lent .now))))) (id⊢ 𝓤 _) $ pick ! (λ ws.
-        split ! $ move ! (1 ∷ []) $ heard ! (ws .0 ≡ stored (w .list) (w .count) (lent .now)) (λ e. fsplit ! $ fsplit ! $ move ! (1 ∷ []) $ feqL ! (λ l.
+        (and-then ! (get ! 13 refl) (and-then ! (load ! (from ! (fld ! refl (fld ! refl (stop !)))) (look-in ! 9 (sub ! 0 refl (sub ! 1 refl (whole !))))) (and-then ! (load ! (from ! (fld ! refl (fld ! refl (stop !)))) (look-in ! 9 (sub ! 1 refl (sub ! 1 refl (whole !))))) (no-more !)))) (λ u.
+        use1 W (later (some (λ (r : Unit {0}). ((‵ (flft κ₃ q₃) ⊛ ‵ ftrue) ⊛ ‵ (Nothing .own r (u ∷ []))) ⊛ raw (ensured 𝓤 H A store.ended (store.clauses 𝓤 H A mem run) (κ₃, tt) (lent, (w .pairs .list, (w .pairs .count, tt))) tt r)))) (id⊢ 𝓤 _) $ await ! tt $ pick ! (λ r.
+        split ! $ move ! (1 ∷ []) $ use1 W (some (λ (ws : List Pair × (Unit {0} × (Unit {0} × Unit {0}))). ‵ (lasts store.ended (κ₃, tt) (lent, (w .pairs .list, (w .pairs .count, tt))) ws) ⊛ raw (fact 𝓤 (ws .0 ≡ stored (w .pairs .list) (w .pairs .count) (lent .now))))) (id⊢ 𝓤 _) $ pick ! (λ ws.
+        split ! $ move ! (1 ∷ []) $ heard ! (ws .0 ≡ stored (w .pairs .list) (w .pairs .count) (lent .now)) (λ e. fsplit ! $ fsplit ! $ move ! (1 ∷ []) $ feqL ! (λ l.
         move ! (2 ∷ []) $ split ! $ move ! (1 ∷ []) $ peeks ! Nothing (Is Nothing) (shows 𝓤 H A Nothing) r (u ∷ []) (λ none.
         -- [the result; its token; the last list; nothing; the tokens; that each local dies; …]
         land ! (from ! (stop !)) (init ! 14 refl (nothing-lawful 𝓤 H A W .typed r _ none .0)) $ drop ! $ move ! (2 ∷ []) $ drop ! $
