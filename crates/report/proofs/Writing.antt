@@ -49,7 +49,8 @@ pub lines-none : {A : Type 0} (b : List ℕ) (at : ℕ) (f : A → List ℕ) (l 
 unfolding lines
 lines-none b at f l = nothing b at
 
-pub lines-all : {A : Type 0} {b c : List ℕ} {at r : ℕ} (f : A → List ℕ) (l : List A) (i : ℕ) → length l ≤ i → Wrote b at (lines f (take i l)) c r → Wrote b at (lines f l) c r
+pub lines-all : {A : Type 0} {b c : List ℕ} {at r : ℕ} (f : A → List ℕ) (l : List A) (i : ℕ) → length l ≤ i → Wrote b at (lines f (take i l)) c r
+    → Wrote b at (lines f l) c r
 lines-all f l i h w = rw (take-all i l h) at w
 
 -- ---- the line at a place, by what the lists hold there

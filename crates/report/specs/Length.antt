@@ -12,7 +12,8 @@ use Rattle.network.specs.Text.{bytes}
 use Rattle.network.specs.declared.Pair.{Pair}
 use Rattle.theory.specs.Sums.{pick-cases}
 use Rattle.writers.specs.Decimal.{decimal-within}
-use Rattle.report.specs.Report.{decimal, line, lines, Plan, headRecord, linkRecord, linkLine, ownerName, siteRecord, siteLine, cutRecord, cutLine, pairLine, reportOf}
+use Rattle.report.specs.Report.{decimal, line, lines, Plan, reportOf}
+use Rattle.report.specs.Report.{headRecord, linkRecord, linkLine, ownerName, siteRecord, siteLine, cutRecord, cutLine, pairLine}
 
 -- ---- lines
 
@@ -38,7 +39,8 @@ lines-from f m b (suc n) h = omega (
   lines-from f m (suc b) n (λ i l k. h i (omega arith) (omega arith)),
 )
 
-lines-of : {A : Type 0} (f : A → List ℕ) (P : A → Type 0) (m : ℕ) → ((a : A) → P a → length (f a) ≤ m) → (l : List A) → Each P l → length (lines f l) ≤ length l * m
+lines-of : {A : Type 0} (f : A → List ℕ) (P : A → Type 0) (m : ℕ) → ((a : A) → P a → length (f a) ≤ m) → (l : List A) → Each P l
+    → length (lines f l) ≤ length l * m
 unfolding lines
 lines-of f P m h [] e = omega arith
 lines-of f P m h (a ∷ l) e = omega (arith, h a (e .0), length-append (f a) (lines f l), lines-of f P m h l (e .1))

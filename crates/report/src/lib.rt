@@ -332,10 +332,11 @@ pub fn write(
     requires { ⌜ CanWrite (now sheet) (now start) (now end)
         (shownBy (now word) (now before) (now sheet) (now start) (now end) n (now one) (now two) (now capacity) (now shown) (now ends) (now owner)
         (now size) (now count) pairs) pairs ⌝ }
-    ensures { λ r. ⌜ Wrote (now (buf .entry)) 0 (reportOf (shownBy (now (word .entry)) (now (before .entry)) (now (sheet .entry)) (now
-        (start .entry)) (now (end .entry)) n
-        (now (one .entry)) (now (two .entry)) (now (capacity .entry)) (now (shown .entry)) (now (ends .entry)) (now (owner .entry)) (now
-        (size .entry)) (now (count .entry)) pairs)) (now (buf .exit)) r ⌝ }
+    ensures { λ r. ⌜ Wrote (now (buf .entry)) 0
+        (reportOf (shownBy (now (word .entry)) (now (before .entry)) (now (sheet .entry)) (now (start .entry)) (now (end .entry)) n
+        (now (one .entry)) (now (two .entry)) (now (capacity .entry)) (now (shown .entry)) (now (ends .entry))
+        (now (owner .entry)) (now (size .entry)) (now (count .entry)) pairs))
+        (now (buf .exit)) r ⌝ }
 {
     let list = pairs.list;
     let head = heading(word, list, pairs.count, buf);

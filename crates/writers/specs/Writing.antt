@@ -71,8 +71,8 @@ begun-line [] g gs = refl
 begun-line (f ∷ []) g gs = append-assoc f (9 ∷ []) (line (g ∷ gs))
 begun-line (f ∷ h ∷ fs) g gs = append-assoc f (9 ∷ begun (h ∷ fs)) (line (g ∷ gs)) ∙ ap (λ l. f ++ (9 ∷ l)) (begun-line (h ∷ fs) g gs)
 
-pub line-ended : {l m k : List ℕ} {at r q : ℕ} (fs : List (List ℕ)) (g : List ℕ) (gs : List (List ℕ)) → Wrote l at (begun fs) m r → Wrote m r (line (g ∷ gs)) k q
-    → Wrote l at (line (fs ++ (g ∷ gs))) k q
+pub line-ended : {l m k : List ℕ} {at r q : ℕ} (fs : List (List ℕ)) (g : List ℕ) (gs : List (List ℕ)) → Wrote l at (begun fs) m r
+    → Wrote m r (line (g ∷ gs)) k q → Wrote l at (line (fs ++ (g ∷ gs))) k q
 line-ended fs g gs v w = rw (begun-line fs g gs) at (then v w)
 
 -- so for the room of a line
@@ -102,7 +102,8 @@ next-field fs g v w = rw (begun-more fs g) at (then v w)
 pub room-fields : (at : ℕ) (fs : List (List ℕ)) (g : List ℕ) → Room at (begun (fs ++ (g ∷ []))) → Room at (begun fs)
 room-fields at fs g h = omega (arith, length-append (begun fs) (g ++ (9 ∷ [])), ap length (begun-more fs g))
 
-pub room-next : {l m : List ℕ} {at r : ℕ} (fs : List (List ℕ)) (g : List ℕ) → Wrote l at (begun fs) m r → Room at (begun (fs ++ (g ∷ []))) → Room r (g ++ (9 ∷ []))
+pub room-next : {l m : List ℕ} {at r : ℕ} (fs : List (List ℕ)) (g : List ℕ) → Wrote l at (begun fs) m r → Room at (begun (fs ++ (g ∷ [])))
+    → Room r (g ++ (9 ∷ []))
 room-next fs g w h = omega (arith, w .next, length-append (begun fs) (g ++ (9 ∷ [])), ap length (begun-more fs g))
 
 -- the last field of a line

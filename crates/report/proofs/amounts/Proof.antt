@@ -27,7 +27,8 @@ add-sum : tie.Need-add-sum Inv-loop μ-loop
 add-sum c =
     let top = c .before .before .before in
     let s = top .before .args in
-    omega (arith, top .loop .inv .1, total-next (s .t1) (top .loop .i) (omega arith), total-part (s .t1) (top .loop .i + 1) (s .n) (omega arith), top .before .pre .2)
+    let next = total-next (s .t1) (top .loop .i) (omega arith) in
+    omega (arith, top .loop .inv .1, total-part (s .t1) (top .loop .i + 1) (s .n) (omega arith), top .before .pre .2)
 
 add-i : tie.Need-add-i Inv-loop μ-loop
 add-i c = omega arith

@@ -33,7 +33,9 @@ same-length c = same-size (c .before .before .put-numbers .ensures) ∙ same-siz
 
 returns-2 : tie.Need-returns-2
 unfolding cutRecord
-returns-2 c = rw (pick-same (c .before .before .before .before .before .before .before .before .if1 .left)) (line-ended _ _ _ (c .before .before .before .before .before .before .put-site .ensures) (c .before .before .put-numbers .ensures))
+returns-2 c =
+    let after-site = c .before .before .before .before .before .before in
+    rw (pick-same (after-site .before .before .if1 .left)) (line-ended _ _ _ (after-site .put-site .ensures) (c .before .before .put-numbers .ensures))
 
 pub cut-line-spec : {M : Type 1} → statement M
 cut-line-spec =

@@ -22,7 +22,8 @@ abbrev μ-loop : tie.MeasureT-loop
 loop-holds : tie.Need-loop-holds Inv-loop μ-loop
 loop-holds c =
     let s = c .before .before .before .before .before .before .args in
-    (omega arith, lines-none (s .buf .now) (s .at) (cutLine (nameBy (s .sheet .now) (s .start .now) (s .end .now)) (s .ends .now) (s .size .now) (s .count .now)) (sites (s .n)))
+    let line = cutLine (nameBy (s .sheet .now) (s .start .now) (s .end .now)) (s .ends .now) (s .size .now) (s .count .now) in
+    (omega arith, lines-none (s .buf .now) (s .at) line (sites (s .n)))
 
 add-a : tie.Need-add-a Inv-loop μ-loop
 add-a c = omega arith
@@ -49,8 +50,9 @@ cut-line-requires c κs =
     let name = nameBy (s .args .sheet .now) (s .args .start .now) (s .args .end .now) in
     let n = s .args .n in
     let i = top .loop .i in
-    let h : i < n = omega arith in (
-      line-room _ (sites n) 0 i (omega (arith, length-upfrom 1 n)) (cut-at name n i h (s .args .ends .now) (s .args .size .now) (s .args .count .now)) (s .pre .0) (top .loop .inv .1),
+    let h : i < n = omega arith in
+    let line = cut-at name n i h (s .args .ends .now) (s .args .size .now) (s .args .count .now) in (
+      line-room _ (sites n) 0 i (omega (arith, length-upfrom 1 n)) line (s .pre .0) (top .loop .inv .1),
       s .pre .2 (i + 1) (omega arith) (omega arith),
     )
 
@@ -64,11 +66,9 @@ loop-again c =
     let name = nameBy (s .sheet .now) (s .start .now) (s .end .now) in
     let n = s .n in
     let i = top .loop .i in
-    let h : i < n = omega arith in (
-      omega arith,
-      line-next _ (sites n) 0 i (omega (arith, length-upfrom 1 n)) (cut-at name n i h (s .ends .now) (s .size .now) (s .count .now)) (top .loop .inv .1)
-          (c .before .before .cut-line .ensures),
-    )
+    let h : i < n = omega arith in
+    let line = cut-at name n i h (s .ends .now) (s .size .now) (s .count .now) in
+    (omega arith, line-next _ (sites n) 0 i (omega (arith, length-upfrom 1 n)) line (top .loop .inv .1) (c .before .before .cut-line .ensures))
 
 same-length : tie.Need-same-length Inv-loop μ-loop
 same-length c = same-size (c .before .loop .inv .1)

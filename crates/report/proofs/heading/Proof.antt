@@ -26,7 +26,8 @@ unfolding headRecord
 put-numbers-requires c κs =
     let s = c .before .before .before .before .before .before .before .before in
     let pairs = take (s .args .n) (s .args .pairs) in
-    let room = room-ended (s .args .word .now ∷ []) (decimal (total pairs)) (decimal (length pairs) ∷ []) (first-field _ (c .before .before .before .put-bytes .ensures)) (s .pre .0) in
+    let word = first-field _ (c .before .before .before .put-bytes .ensures) in
+    let room = room-ended (s .args .word .now ∷ []) (decimal (total pairs)) (decimal (length pairs) ∷ []) word (s .pre .0) in
     rw (c .before .before .before .before .before .amounts .ensures) (rw (length-take-le (s .args .n) (s .args .pairs) (s .pre .2)) at room)
 
 same-length : tie.Need-same-length
@@ -37,7 +38,8 @@ unfolding headRecord
 returns c =
     let s = c .before .before .before .before .before .before .before .before .before .before .before in
     let numbers = rw (c .before .before .before .before .before .before .before .before .amounts .ensures) at (c .before .before .put-numbers .ensures) in
-    rw (length-take-le (s .args .n) (s .args .pairs) (s .pre .2)) (line-ended _ _ _ (first-field _ (c .before .before .before .before .before .before .put-bytes .ensures)) numbers)
+    let word = first-field _ (c .before .before .before .before .before .before .put-bytes .ensures) in
+    rw (length-take-le (s .args .n) (s .args .pairs) (s .pre .2)) (line-ended _ _ _ word numbers)
 
 pub heading-spec : {M : Type 1} → statement M
 heading-spec =

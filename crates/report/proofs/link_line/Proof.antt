@@ -14,7 +14,8 @@ unfolding linkRecord
 put-two-sites-requires c κs =
     let s = c .before .before .before .before .before in
     let name = nameBy (s .args .sheet .now) (s .args .start .now) (s .args .end .now) in
-    (room-begun (s .args .at) (bytes "L" ∷ name (s .args .one) ∷ name (s .args .two) ∷ []) (decimal (s .args .capacity)) (decimal (s .args .shown) ∷ []) (s .pre .0), s .pre .1, s .pre .2)
+    let fields = bytes "L" ∷ name (s .args .one) ∷ name (s .args .two) ∷ [] in
+    (room-begun (s .args .at) fields (decimal (s .args .capacity)) (decimal (s .args .shown) ∷ []) (s .pre .0), s .pre .1, s .pre .2)
 
 put-numbers-requires : tie.Need-put-numbers-requires
 unfolding linkRecord

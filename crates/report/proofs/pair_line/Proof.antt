@@ -28,7 +28,9 @@ same-length c = same-size (c .before .before .put-number .ensures) ∙ same-size
 
 returns : tie.Need-returns
 unfolding pairLine
-returns c = line-ended _ _ _ (c .before .before .before .before .before .before .put-two-sites .ensures) (last-field _ (c .before .before .put-number .ensures))
+returns c =
+    let sites = c .before .before .before .before .before .before .put-two-sites .ensures in
+    line-ended _ _ _ sites (last-field _ (c .before .before .put-number .ensures))
 
 pub pair-line-spec : {M : Type 1} → statement M
 pair-line-spec =

@@ -13,7 +13,8 @@ use Rattle.report.proofs.pair_lines.Statement.{statement}
 use Rattle.report.proofs.pair_lines.Tie as tie
 
 abbrev Inv-loop : tie.InvT-loop
-Inv-loop sheet start end n buf₀ at pairs next₀ i₀ buf next i = (i ≤ n) × Wrote buf₀ at (lines (pairLine (nameBy sheet start end)) (take i (take n pairs))) buf next
+Inv-loop sheet start end n buf₀ at pairs next₀ i₀ buf next i =
+    (i ≤ n) × Wrote buf₀ at (lines (pairLine (nameBy sheet start end)) (take i (take n pairs))) buf next
 
 abbrev μ-loop : tie.MeasureT-loop
 μ-loop sheet start end n buf₀ at pairs next₀ i₀ buf next i = n - i
@@ -38,8 +39,9 @@ pair-line-requires c κs =
     let n = s .args .n in
     let i = top .loop .i in
     let h : i < n = omega arith in
+    let few = length-take-le n list (s .pre .1 .held) in
     let named = s .pre .1 .named i h in (
-      line-room line (take n list) no-pair i (omega (arith, length-take-le n list (s .pre .1 .held))) (ap line (getD-take n list i no-pair h)) (s .pre .0) (top .loop .inv .1),
+      line-room line (take n list) no-pair i (omega arith) (ap line (getD-take n list i no-pair h)) (s .pre .0) (top .loop .inv .1),
       named .0,
       named .1,
     )
@@ -58,10 +60,10 @@ loop-again c =
     let list = s .args .t4 in
     let n = s .args .n in
     let i = top .loop .i in
-    let h : i < n = omega arith in (
+    let h : i < n = omega arith in
+    let few = length-take-le n list (s .pre .1 .held) in (
       omega arith,
-      line-next line (take n list) no-pair i (omega (arith, length-take-le n list (s .pre .1 .held))) (ap line (getD-take n list i no-pair h)) (top .loop .inv .1)
-          (c .before .before .pair-line .ensures),
+      line-next line (take n list) no-pair i (omega arith) (ap line (getD-take n list i no-pair h)) (top .loop .inv .1) (c .before .before .pair-line .ensures),
     )
 
 same-length : tie.Need-same-length Inv-loop μ-loop
@@ -70,7 +72,8 @@ same-length c = same-size (c .before .loop .inv .1)
 returns : tie.Need-returns Inv-loop μ-loop
 returns c =
     let s = c .before .before .before .before .before .before in
-    lines-all _ (take (s .args .n) (s .args .t4)) (c .before .loop .i) (omega (arith, length-take-le (s .args .n) (s .args .t4) (s .pre .1 .held))) (c .before .loop .inv .1)
+    let few = length-take-le (s .args .n) (s .args .t4) (s .pre .1 .held) in
+    lines-all _ (take (s .args .n) (s .args .t4)) (c .before .loop .i) (omega arith) (c .before .loop .inv .1)
 
 pub pair-lines-spec : {M : Type 1} → statement M
 pair-lines-spec =

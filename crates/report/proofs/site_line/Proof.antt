@@ -28,21 +28,28 @@ same-length c = same-size (c .before .before .put-letter .ensures) ∙ same-size
 
 returns : tie.Need-returns
 unfolding siteRecord ownerName
-returns c = rw (pick-same (c .before .before .before .before .if1 .taken)) (line-ended _ _ _ (c .before .before .before .before .before .before .before .put-site .ensures) (last-field (45 ∷ []) (c .before .before .put-letter .ensures)))
+returns c =
+    let after-test = c .before .before .before .before in
+    let dash = last-field (45 ∷ []) (c .before .before .put-letter .ensures) in
+    rw (pick-same (after-test .if1 .taken)) (line-ended _ _ _ (after-test .before .before .before .put-site .ensures) dash)
 
 put-name-requires : tie.Need-put-name-requires
 unfolding siteRecord ownerName line
 put-name-requires c κs =
     let s = c .before .before .before .before .before .before .before .before .before .before in
     let name = nameBy (s .args .sheet .now) (s .args .start .now) (s .args .end .now) in
-    (room-ended _ (name (s .args .owner)) [] (c .before .before .before .before .put-site .ensures) (rw (pick-other (c .before .if1 .left)) at (s .pre .0)), s .pre .2 (c .before .if1 .left))
+    let some = c .before .if1 .left in
+    (room-ended _ (name (s .args .owner)) [] (c .before .before .before .before .put-site .ensures) (rw (pick-other some) at (s .pre .0)), s .pre .2 some)
 
 same-length-2 : tie.Need-same-length-2
 same-length-2 c = same-size (c .before .before .put-name .ensures) ∙ same-size (c .before .before .before .before .before .before .before .put-site .ensures)
 
 returns-2 : tie.Need-returns-2
 unfolding siteRecord ownerName
-returns-2 c = rw (pick-other (c .before .before .before .before .if1 .left)) (line-ended _ _ _ (c .before .before .before .before .before .before .before .put-site .ensures) (last-field _ (c .before .before .put-name .ensures)))
+returns-2 c =
+    let after-test = c .before .before .before .before in
+    let name = last-field _ (c .before .before .put-name .ensures) in
+    rw (pick-other (after-test .if1 .left)) (line-ended _ _ _ (after-test .before .before .before .put-site .ensures) name)
 
 pub site-line-spec : {M : Type 1} → statement M
 site-line-spec =

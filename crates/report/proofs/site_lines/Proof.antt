@@ -13,7 +13,8 @@ use Rattle.report.proofs.site_lines.Statement.{statement}
 use Rattle.report.proofs.site_lines.Tie as tie
 
 abbrev Inv-loop : tie.InvT-loop
-Inv-loop sheet start end owner n buf₀ at next₀ i₀ buf next i = (i ≤ n) × Wrote buf₀ at (lines (siteLine (nameBy sheet start end) owner) (take i (sites n))) buf next
+Inv-loop sheet start end owner n buf₀ at next₀ i₀ buf next i =
+    (i ≤ n) × Wrote buf₀ at (lines (siteLine (nameBy sheet start end) owner) (take i (sites n))) buf next
 
 abbrev μ-loop : tie.MeasureT-loop
 μ-loop sheet start end owner n buf₀ at next₀ i₀ buf next i = n - i
@@ -37,9 +38,10 @@ site-line-requires c κs =
     let top = c .before .before .before in
     let s = top .before .before .before .before .before .before in
     let name = nameBy (s .args .sheet .now) (s .args .start .now) (s .args .end .now) in
+    let n = s .args .n in
     let i = top .loop .i in
-    let h : i < s .args .n = omega arith in (
-      line-room _ (sites (s .args .n)) 0 i (omega (arith, length-upfrom 1 (s .args .n))) (site-at name (s .args .n) i h (s .args .owner .now)) (s .pre .0) (top .loop .inv .1),
+    let h : i < n = omega arith in (
+      line-room _ (sites n) 0 i (omega (arith, length-upfrom 1 n)) (site-at name n i h (s .args .owner .now)) (s .pre .0) (top .loop .inv .1),
       s .pre .1 (i + 1) (omega arith) (omega arith),
       s .pre .2 .named i h,
     )
@@ -55,11 +57,11 @@ loop-again c =
     let top = c .before .before .before .before .before .before in
     let s = top .before .before .before .before .before .before .args in
     let name = nameBy (s .sheet .now) (s .start .now) (s .end .now) in
+    let n = s .n in
     let i = top .loop .i in
-    let h : i < s .n = omega arith in (
-      omega arith,
-      line-next _ (sites (s .n)) 0 i (omega (arith, length-upfrom 1 (s .n))) (site-at name (s .n) i h (s .owner .now)) (top .loop .inv .1) (c .before .before .site-line .ensures),
-    )
+    let h : i < n = omega arith in
+    let line = site-at name n i h (s .owner .now) in
+    (omega arith, line-next _ (sites n) 0 i (omega (arith, length-upfrom 1 n)) line (top .loop .inv .1) (c .before .before .site-line .ensures))
 
 same-length : tie.Need-same-length Inv-loop μ-loop
 same-length c = same-size (c .before .loop .inv .1)

@@ -21,7 +21,8 @@ site-lines-requires c κs =
     let after-links = c .before .before .before in
     let after-head = after-links .before .before .before .before in
     let s = after-head .before .before .before .before .before .before .before .before .before .before .before .before .before .before .before .before in
-    (sites-room (s .pre) (then (after-head .heading .ensures) (after-links .link-lines .ensures)), s .pre .named, s .pre .owned)
+    let links = then (after-head .heading .ensures) (after-links .link-lines .ensures) in
+    (sites-room (s .pre) links, s .pre .named, s .pre .owned)
 
 cut-lines-requires : tie.Need-cut-lines-requires
 cut-lines-requires c κs =
@@ -29,7 +30,9 @@ cut-lines-requires c κs =
     let after-links = after-sites .before .before .before .before in
     let after-head = after-links .before .before .before .before in
     let s = after-head .before .before .before .before .before .before .before .before .before .before .before .before .before .before .before .before in
-    (cuts-room (s .pre) (then (then (after-head .heading .ensures) (after-links .link-lines .ensures)) (after-sites .site-lines .ensures)), s .pre .few, s .pre .named, s .pre .sized, s .pre .counted)
+    let links = then (after-head .heading .ensures) (after-links .link-lines .ensures) in
+    let sites = then links (after-sites .site-lines .ensures) in
+    (cuts-room (s .pre) sites, s .pre .few, s .pre .named, s .pre .sized, s .pre .counted)
 
 put-part-requires : tie.Need-put-part-requires
 put-part-requires c κs =
@@ -38,7 +41,10 @@ put-part-requires c κs =
     let after-links = after-sites .before .before .before .before in
     let after-head = after-links .before .before .before .before in
     let s = after-head .before .before .before .before .before .before .before .before .before .before .before .before .before .before .before .before in
-    before-room (s .pre) (then (then (then (after-head .heading .ensures) (after-links .link-lines .ensures)) (after-sites .site-lines .ensures)) (after-cuts .cut-lines .ensures))
+    let links = then (after-head .heading .ensures) (after-links .link-lines .ensures) in
+    let sites = then links (after-sites .site-lines .ensures) in
+    let cuts = then sites (after-cuts .cut-lines .ensures) in
+    before-room (s .pre) cuts
 
 pair-lines-requires : tie.Need-pair-lines-requires
 pair-lines-requires c κs =
@@ -48,7 +54,11 @@ pair-lines-requires c κs =
     let after-links = after-sites .before .before .before .before in
     let after-head = after-links .before .before .before .before in
     let s = after-head .before .before .before .before .before .before .before .before .before .before .before .before .before .before .before .before in
-    (pairs-room (s .pre) (then (then (then (then (after-head .heading .ensures) (after-links .link-lines .ensures)) (after-sites .site-lines .ensures)) (after-cuts .cut-lines .ensures)) (after-before .put-part .ensures)), s .pre .paired)
+    let links = then (after-head .heading .ensures) (after-links .link-lines .ensures) in
+    let sites = then links (after-sites .site-lines .ensures) in
+    let cuts = then sites (after-cuts .cut-lines .ensures) in
+    let before = then cuts (after-before .put-part .ensures) in
+    (pairs-room (s .pre) before, s .pre .paired)
 
 same-length : tie.Need-same-length
 same-length c =
@@ -58,7 +68,11 @@ same-length c =
     let after-sites = after-cuts .before .before .before .before in
     let after-links = after-sites .before .before .before .before in
     let after-head = after-links .before .before .before .before in
-    same-size (then (then (then (then (then (after-head .heading .ensures) (after-links .link-lines .ensures)) (after-sites .site-lines .ensures)) (after-cuts .cut-lines .ensures)) (after-before .put-part .ensures)) (after-pairs .pair-lines .ensures))
+    let links = then (after-head .heading .ensures) (after-links .link-lines .ensures) in
+    let sites = then links (after-sites .site-lines .ensures) in
+    let cuts = then sites (after-cuts .cut-lines .ensures) in
+    let before = then cuts (after-before .put-part .ensures) in
+    same-size (then before (after-pairs .pair-lines .ensures))
 
 returns : tie.Need-returns
 unfolding reportOf
@@ -69,7 +83,11 @@ returns c =
     let after-sites = after-cuts .before .before .before .before in
     let after-links = after-sites .before .before .before .before in
     let after-head = after-links .before .before .before .before in
-    then (then (then (then (then (after-head .heading .ensures) (after-links .link-lines .ensures)) (after-sites .site-lines .ensures)) (after-cuts .cut-lines .ensures)) (after-before .put-part .ensures)) (after-pairs .pair-lines .ensures)
+    let links = then (after-head .heading .ensures) (after-links .link-lines .ensures) in
+    let sites = then links (after-sites .site-lines .ensures) in
+    let cuts = then sites (after-cuts .cut-lines .ensures) in
+    let before = then cuts (after-before .put-part .ensures) in
+    then before (after-pairs .pair-lines .ensures)
 
 pub write-spec : {M : Type 1} → statement M
 write-spec =

@@ -72,7 +72,8 @@ part-put-bytes-end c = simp length-set (omega arith)
 put-bytes-requires : tie.Need-put-bytes-requires Inv-loop μ-loop
 put-bytes-requires c κs =
     let top = c .before .before .before .before in
-    rw (digit-last (top .before .before .args .n) (top .loop .rest) (top .loop .k) (20 - top .loop .k) (top .loop .digits) (top .loop .inv .3) (omega arith) (omega arith) (omega arith))
+    let now = top .loop in
+    rw (digit-last (top .before .before .args .n) (now .rest) (now .k) (20 - now .k) (now .digits) (now .inv .3) (omega arith) (omega arith) (omega arith))
     (top .before .before .pre)
 
 same-length : tie.Need-same-length Inv-loop μ-loop
@@ -81,7 +82,8 @@ same-length c = same-size (c .before .before .put-bytes .ensures)
 returns : tie.Need-returns Inv-loop μ-loop
 returns c =
     let top = c .before .before .before .before .before .before .before in
-    rw (digit-last (top .before .before .args .n) (top .loop .rest) (top .loop .k) (20 - top .loop .k) (top .loop .digits) (top .loop .inv .3) (omega arith) (omega arith) (omega arith))
+    let now = top .loop in
+    rw (digit-last (top .before .before .args .n) (now .rest) (now .k) (20 - now .k) (now .digits) (now .inv .3) (omega arith) (omega arith) (omega arith))
     at (c .before .before .put-bytes .ensures)
 
 pub put-number-spec : {M : Type 1} → statement M

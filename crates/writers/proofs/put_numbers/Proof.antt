@@ -23,7 +23,8 @@ same-length c = search needs
 
 returns : tie.Need-returns
 returns c =
-    line-ended _ _ _ (first-field _ (c .before .before .before .before .before .before .put-number .ensures)) (last-field _ (c .before .before .put-number2 .ensures))
+    let first = first-field _ (c .before .before .before .before .before .before .put-number .ensures) in
+    line-ended _ _ _ first (last-field _ (c .before .before .put-number2 .ensures))
 
 pub put-numbers-spec : {M : Type 1} → statement M
 put-numbers-spec =
