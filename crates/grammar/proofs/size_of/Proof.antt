@@ -4,12 +4,12 @@ use Prim.Native.Nat.{_≤_, _-_, _+_, _*_}
 use lib.ListN.{length, drop, drop-of-length-le}
 use borrow.Author.Tests.{not-true, not-false, leb-true, leb-false}
 use Rattle.fields.specs.Fields.{value, valueFrom}
-use Rattle.line_kinds.specs.LineKindLaws.{value-turn, size-within, size-above}
-use Rattle.line_kinds.specs.declared.Size.the-variants.{Within}
+use Rattle.grammar.specs.SizeLaws.{value-turn, size-within, size-above}
+use Rattle.grammar.specs.declared.Size.the-variants.{Within}
 use native.Mathlib.Omega.{arith}
 use borrow.Author.Needs.{needs}
-use Rattle.line_kinds.proofs.size_of.Statement.{statement}
-use Rattle.line_kinds.proofs.size_of.Tie as tie
+use Rattle.grammar.proofs.size_of.Statement.{statement}
+use Rattle.grammar.proofs.size_of.Tie as tie
 
 abbrev Inv-loop : tie.InvT-loop
 Inv-loop s most value₀ i₀ v i = (i ≤ length s) × (v ≤ most) × (value s ≡ valueFrom v (drop i s))

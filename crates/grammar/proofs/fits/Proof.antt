@@ -2,11 +2,11 @@
 use mathlib.Core.Path.{sym}
 use Prim.Native.Nat.{_+_, _*_}
 use borrow.Author.Tests.{lt-leb}
-use Rattle.line_kinds.specs.LineKindLaws.{room-left}
+use Rattle.grammar.specs.SizeLaws.{room-left}
 use native.Mathlib.Omega.{arith}
 use borrow.Author.Needs.{needs}
-use Rattle.line_kinds.proofs.fits.Statement.{statement}
-use Rattle.line_kinds.proofs.fits.Tie as tie
+use Rattle.grammar.proofs.fits.Statement.{statement}
+use Rattle.grammar.proofs.fits.Tie as tie
 
 returns : tie.Need-returns
 returns c = let a = c .before .args in sym (lt-leb (a .value * 10 + a .digit) (a .most) (omega arith))
