@@ -1,17 +1,17 @@
 -- Lines held against a form: the fields one by one, what it is to be formed, and the fault of a line that is not.
 use mathlib.Core.Bool.{Bool, true, false, cond, _&&_}
 use mathlib.Core.List.{List, [], _∷_}
-use mathlib.Core.Logic.{_≢_}
-use mathlib.Core.Path.{_≡_, refl, ap, _∙_}
+use mathlib.Core.Logic.{_⊎_, inl, inr, _≢_}
+use mathlib.Core.Path.{_≡_, refl}
 use Prim.Native.Nat.{ℕ, suc, _+_, _-_, _≤_, _<_}
 use native.Mathlib.Numerals.{add-one}
 use native.Mathlib.Omega.{arith}
-use lib.Dec.{leb}
+use lib.Dec.{eqb, leb}
 use lib.ListN.{length, drop}
 use lib.Seq.{drop-cons}
-use borrow.Author.Tests.{leb-true, leb-false}
+use borrow.Author.Tests.{leb-true, leb-false, le-leb, lt-leb}
 use Rattle.fields.specs.Fields.{same, field, isName, isNumber}
-use Rattle.fields.specs.FieldLaws.{both, same-are-equal}
+use Rattle.fields.specs.FieldLaws.{same-are-equal}
 use Rattle.grammar.specs.Grammar.{rightField, checkedFields, checked, faultOf}
 use Rattle.grammar.specs.declared.Form.{Form}
 use Rattle.grammar.specs.declared.Check.{Check}
@@ -39,12 +39,13 @@ fields-step n k fs h = by (leb k n) refl
 -- ---- what it is to be formed
 
 -- a line is formed, or it is not and has a fault
-pub formed? : {A : Type 0} (c : Check) → (c ≡ Formed → A) → (c ≢ Formed → A) → A
-formed? Formed f g = f refl
-formed? Letter f g = g (λ e. let z : _≡_ {A = ℕ} 0 1 = cc in omega arith)
-formed? Count f g = g (λ e. let z : _≡_ {A = ℕ} 0 1 = cc in omega arith)
-formed? Name f g = g (λ e. let z : _≡_ {A = ℕ} 0 1 = cc in omega arith)
-formed? Number f g = g (λ e. let z : _≡_ {A = ℕ} 0 1 = cc in omega arith)
+pub formed-or-faulty : (c : Check) → (c ≡ Formed) ⊎ ((c ≢ Formed) × (eqb (faultOf c) 0 ≡ false))
+unfolding faultOf
+formed-or-faulty Formed = inl refl
+formed-or-faulty Letter = inr (λ e. let z : _≡_ {A = ℕ} 0 1 = cc in omega arith, refl)
+formed-or-faulty Count = inr (λ e. let z : _≡_ {A = ℕ} 0 1 = cc in omega arith, refl)
+formed-or-faulty Name = inr (λ e. let z : _≡_ {A = ℕ} 0 1 = cc in omega arith, refl)
+formed-or-faulty Number = inr (λ e. let z : _≡_ {A = ℕ} 0 1 = cc in omega arith, refl)
 
 pub fault-of-the-wrong-form : (c : Check) → c ≢ Formed → faultOf c ≡ 2
 unfolding faultOf
@@ -70,10 +71,23 @@ module _ (form : Form) (fs : List (List ℕ)) where
       by true a false b v c e = absurd (let z : _≡_ {A = ℕ} 0 1 = cc in omega arith)
       by false a u b v c e = absurd (let z : _≡_ {A = ℕ} 0 1 = cc in omega arith)
 
-  -- a line of another letter
+  -- rule by rule
   pub another-letter : same (field fs 0) (form .letter ∷ []) ≡ false → checked form fs ≡ Letter
   unfolding checked
   another-letter e = rw e
+
+  pub too-few : same (field fs 0) (form .letter ∷ []) ≡ true → length fs < 1 + form .names + form .least → checked form fs ≡ Count
+  unfolding checked
+  too-few e h = rw (e, lt-leb (1 + form .names + form .least) (length fs) h)
+
+  module _ (e : same (field fs 0) (form .letter ∷ []) ≡ true) (enough : 1 + form .names + form .least ≤ length fs) where
+    pub too-many : 1 + form .names + form .most < length fs → checked form fs ≡ Count
+    unfolding checked
+    too-many h = rw (e, le-leb (1 + form .names + form .least) (length fs) enough, lt-leb (length fs) (1 + form .names + form .most) h)
+
+    pub right-count : length fs ≤ 1 + form .names + form .most → checked form fs ≡ checkedFields (form .names) (drop 1 fs)
+    unfolding checked
+    right-count h = rw (e, le-leb (1 + form .names + form .least) (length fs) enough, le-leb (length fs) (1 + form .names + form .most) h)
 
 -- a name, and a number, in front of what follows
 module _ (f : List ℕ) (fs : List (List ℕ)) where

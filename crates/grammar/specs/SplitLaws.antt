@@ -115,6 +115,13 @@ field-lies (suc k) l at h = ⊎-elim
     }))
     (tab-or-none l)
 
+-- a field is as long as its places are apart
+pub length-of-field : {l : List ℕ} {at s e : ℕ} {f : List ℕ} → Lies l at s e f → s + length f ≡ e
+length-of-field {l} {at} {s} {e} {f} L =
+    let room : e - s ≤ length (drop (s - at) l) = omega (arith, L .within, L .behind, length-drop (s - at) l) in
+    let long : length f ≡ e - s = ap length (sym (L .part)) ∙ length-take-le (e - s) (drop (s - at) l) room in
+    omega (arith, L .order)
+
 -- ---- the split of a line
 
 -- stores from a place on leave what stands before it
