@@ -2,7 +2,7 @@
 -- By the places of the fields.
 use mathlib.Core.Bool.{Bool, true, false, cond}
 use mathlib.Core.List.{List, [], _∷_}
-use mathlib.Core.Path.{_≡_, refl, ap}
+use mathlib.Core.Path.{_≡_, refl, ap, _∙_}
 use Prim.Native.Nat.{ℕ, _+_, _-_, _≤_, _<_}
 use native.Mathlib.Nat.{sub-zero}
 use native.Mathlib.Omega.{arith}
@@ -10,8 +10,9 @@ use lib.Dec.{leb}
 use lib.ListN.{length, getD, take, drop}
 use borrow.Author.Tests.{leb-true}
 use Rattle.network.specs.Text.{bytes}
-use Rattle.grammar.specs.Grammar.{ends}
-use Rattle.grammar.specs.SplitLaws.{Lies, field-lies, length-of-field}
+use Rattle.grammar.specs.Grammar.{ends, split}
+use Rattle.grammar.specs.SplitLaws.{field-lies, length-of-field, end-of-split}
+use Rattle.grammar.specs.declared.Fields.{Fields}
 use Rattle.line_kinds.specs.LineKinds.{same, fields, field, isName, value, isHeading, checked, siteForm, linkForm, IsSite, IsLink, siteLine, sizedLink, linkLine, kindOf, kind}
 use Rattle.line_kinds.specs.LineKindLaws.{judged-cases, site-parts, link-parts}
 use Rattle.line_kinds.specs.declared.Line.{Line}
@@ -32,10 +33,10 @@ module _ (l : List ℕ) where
   two = length (field (fields l) 2)
 
   -- where the second and the third field end, the first being one byte
-  pub second-end : 1 < length (fields l) → length (field (fields l) 0) ≡ 1 → getD (ends 0 (fields l)) 1 0 ≡ 2 + one
+  second-end : 1 < length (fields l) → length (field (fields l) 0) ≡ 1 → getD (ends 0 (fields l)) 1 0 ≡ 2 + one
   second-end h e = omega (arith, length-of-field (field-lies 0 l 0 (omega arith)), length-of-field (field-lies 1 l 0 h))
 
-  pub third-end : 2 < length (fields l) → length (field (fields l) 0) ≡ 1 → getD (ends 0 (fields l)) 2 0 ≡ 3 + one + two
+  third-end : 2 < length (fields l) → length (field (fields l) 0) ≡ 1 → getD (ends 0 (fields l)) 2 0 ≡ 3 + one + two
   third-end h e = omega (arith, second-end (omega arith) e, length-of-field (field-lies 2 l 0 h))
 
   module _ (most : ℕ) where
@@ -71,6 +72,22 @@ module _ (l : List ℕ) where
     as-link : Formed most l (linkLine most (fields l))
     unfolding linkLine
     as-link = judged-cases (Formed most l) (checked linkForm (fields l)) _ sized-is-formed (λ d. tt)
+
+-- the ends of the names, as the code holds them, and that they lie within the line
+pub site-end : (l : List ℕ) (found : Fields) → found ≡ split l → IsSite (fields l) → getD (found .end) 1 0 ≡ 2 + length (field (fields l) 1)
+site-end l found e h =
+    let k = site-parts (fields l) h in
+    let n : 1 < length (fields l) = omega (arith, k .count) in
+    rw e (end-of-split l 1 (omega arith) n ∙ second-end l n (ap length (k .letter)))
+
+pub link-ends : (l : List ℕ) (found : Fields) → found ≡ split l → IsLink (fields l) → let one = length (field (fields l) 1) in let two = length (field (fields l) 2) in
+    (getD (found .end) 1 0 ≡ 2 + one) × (getD (found .end) 2 0 ≡ 3 + one + two) × (3 + one + two ≤ length l)
+link-ends l found e h =
+    let k = link-parts (fields l) h in
+    let short = ap length (k .letter) in
+    let n : 2 < length (fields l) = omega (arith, k .count) in
+    let m : 1 < length (fields l) = omega arith in
+    rw e (end-of-split l 1 (omega arith) m ∙ second-end l m short, end-of-split l 2 (omega arith) n ∙ third-end l n short, link-is-formed l 0 h 0 (omega arith) .3)
 
 pub kinds-are-formed : (most : ℕ) (l : List ℕ) → Formed most l (kind most l)
 unfolding kind kindOf
