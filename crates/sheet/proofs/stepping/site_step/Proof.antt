@@ -1,9 +1,9 @@
 -- `site_step` meets its contract: the limit first, then what the look-up found.
 use borrow.Author.Needs.{needs}
 use borrow.Author.Tests.{le-leb, lt-leb}
-use Rattle.steps.specs.Steps.{siteStep}
-use Rattle.steps.proofs.site_step.Statement.{statement}
-use Rattle.steps.proofs.site_step.Tie as tie
+use Rattle.sheet.specs.Sheet.{siteStep}
+use Rattle.sheet.proofs.stepping.site_step.Statement.{statement}
+use Rattle.sheet.proofs.stepping.site_step.Tie as tie
 
 returns : tie.Need-returns
 unfolding siteStep

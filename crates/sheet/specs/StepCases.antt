@@ -14,21 +14,26 @@ use Rattle.names.specs.Names.{lookup}
 use Rattle.names.specs.LookupLaws.{Says, lookup-says}
 use Rattle.names.specs.declared.Found.{Found}
 use Rattle.names.specs.declared.Found.the-variants.{At, Absent}
-use Rattle.steps.specs.Steps.{Labelled, headingStep, recordStep, stepAt}
-use Rattle.steps.specs.declared.Step.the-variants.{Refused}
+use Rattle.sheet.specs.Sheet.{Network, headingStep, recordStep, stepOf}
+use Rattle.sheet.specs.declared.stepping.Step.the-variants.{Refused}
 
-module _ (ed : Edition) (s : List ℕ) (names : List (ℕ × ℕ)) (marks : List ℕ) (k at : ℕ) where
-  pub unended-step : length s ≤ at + length (lineAt s at) → stepAt ed s names marks k at ≡ Refused 2
-  unfolding stepAt
+module _ (ed : Edition) (s : List ℕ) (net : Network) (k at : ℕ) where
+  pub unended-step : length s ≤ at + length (lineAt s at) → stepOf ed s net k at ≡ Refused 2
+  unfolding stepOf
   unended-step h = rw (le-ltb (at + lineLength (drop at s)) (length s) (omega (arith, length-of-line s at)))
 
-  pub first-step : at + length (lineAt s at) < length s → k ≡ 1 → stepAt ed s names marks k at ≡ headingStep (kind (ed .size) (lineAt s at))
-  unfolding stepAt
+  pub first-step : at + length (lineAt s at) < length s → k ≡ 1 → stepOf ed s net k at ≡ headingStep (kind (ed .size) (lineAt s at))
+  unfolding stepOf
   first-step h e = rw (lt-ltb (at + lineLength (drop at s)) (length s) (omega (arith, length-of-line s at)), eq-eqb k 1 e)
 
-  pub later-step : at + length (lineAt s at) < length s → k ≢ 1 → stepAt ed s names marks k at ≡ recordStep ed s names marks at (kind (ed .size) (lineAt s at))
-  unfolding stepAt
+  pub later-step : at + length (lineAt s at) < length s → k ≢ 1 → stepOf ed s net k at ≡ recordStep ed s net at (kind (ed .size) (lineAt s at))
+  unfolding stepOf
   later-step h d = rw (lt-ltb (at + lineLength (drop at s)) (length s) (omega (arith, length-of-line s at)), ne-eqb k 1 d)
+
+-- a site that is found has one of n labels
+abbrev pub Labelled : ℕ → Found → Type 0
+Labelled n (At v) = v < n
+Labelled n Absent = Unit {0}
 
 -- what is found among fewer than n sites has one of n labels
 pub labelled : (s f : List ℕ) (names : List (ℕ × ℕ)) (n : ℕ) → length names < n → Labelled n (lookup s names f)

@@ -1,8 +1,8 @@
 -- `heading_step` meets its contract: case by case.
-use Rattle.steps.specs.Steps.{headingStep}
+use Rattle.sheet.specs.Sheet.{headingStep}
 use borrow.Author.Needs.{needs}
-use Rattle.steps.proofs.heading_step.Statement.{statement}
-use Rattle.steps.proofs.heading_step.Tie as tie
+use Rattle.sheet.proofs.stepping.heading_step.Statement.{statement}
+use Rattle.sheet.proofs.stepping.heading_step.Tie as tie
 
 enum-told : tie.Need-enum-told
 enum-told c = search needs

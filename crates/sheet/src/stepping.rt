@@ -3,11 +3,13 @@ ghost use mathlib.Core.Path.{_≡_};
 ghost use Prim.Native.Nat.{_+_, _≤_, _<_};
 ghost use lib.ListN.{length};
 ghost use Rattle.network.specs.Limits.{PLACES, SITES};
-ghost use Rattle.network.specs.Edition.{edition1};
+ghost use Rattle.network.specs.Network.{Links};
 ghost use Rattle.lines.specs.Lines.{lineAt};
 ghost use Rattle.line_kinds.specs.FormedLines.{Formed};
 ghost use Rattle.names.specs.Names.{ranges, Indexes};
-ghost use Rattle.steps.specs.Steps.{siteStep, Labelled, linkStep, headingStep, recordStep, stepAt};
+ghost use Rattle.sheet.specs.Sheet.{Network, siteStep, linkStep, headingStep, recordStep, stepOf};
+ghost use Rattle.sheet.specs.Held.{LabelsOf, Held};
+ghost use Rattle.sheet.specs.StepCases.{Labelled};
 use line_kinds::Line;
 use names::Found;
 use names::HASHES;
@@ -24,10 +26,10 @@ pub enum Step {
 }
 
 // What a site line adds, its name being the part from a start to an end, by what the look-up of the name found.
-fn site_step(sites: usize, found: Found, start: usize, end: usize) -> Step
-    ensures { λ r. ⌜ r ≡ siteStep edition1 sites (start, end) found ⌝ }
+fn site_step(edition: Edition, sites: usize, found: Found, start: usize, end: usize) -> Step
+    ensures { λ r. ⌜ r ≡ siteStep edition sites (start, end) found ⌝ }
 {
-    if sites >= Edition::SITES {
+    if sites >= edition.sites {
         return Step::Refused(4);
     }
     match found {
@@ -39,7 +41,7 @@ fn site_step(sites: usize, found: Found, start: usize, end: usize) -> Step
 // What a link line adds, by what the look-ups of its two names found, and the labels of the sites.
 fn link_step(labels: &[u16; PLACES], first: Found, second: Found, size: u64) -> Step
     requires { ⌜ Labelled PLACES first × Labelled PLACES second ⌝ }
-    ensures { λ r. ⌜ r ≡ linkStep (now (labels .entry)) size first second ⌝ }
+    ensures { λ r. ⌜ ((ls : Links) → LabelsOf ls (now (labels .entry)) → r ≡ linkStep ls size first second) ⌝ }
 {
     let Found::At(one) = first else {
         return Step::Refused(6);
@@ -73,6 +75,7 @@ fn heading_step(line: Line) -> Step
 
 // What a later line adds, at an offset.
 fn record_step(
+    edition: Edition,
     sheet: &[u8],
     starts: &[usize; SITES],
     ends: &[usize; SITES],
@@ -82,8 +85,8 @@ fn record_step(
     at: usize,
     line: Line,
 ) -> Step
-    requires { ⌜ (sites ≤ SITES) × Indexes (now sheet) (ranges (now starts) (now ends) 0 sites) (now table) × (at + length (lineAt (now sheet) at) < length (now sheet)) × Formed (edition1 .size) (lineAt (now sheet) at) line ⌝ }
-    ensures { λ r. ⌜ r ≡ recordStep edition1 (now (sheet .entry)) (ranges (now (starts .entry)) (now (ends .entry)) 0 sites) (now (labels .entry)) at line ⌝ }
+    requires { ⌜ (sites ≤ SITES) × Indexes (now sheet) (ranges (now starts) (now ends) 0 sites) (now table) × (at + length (lineAt (now sheet) at) < length (now sheet)) × Formed (edition .size) (lineAt (now sheet) at) line ⌝ }
+    ensures { λ r. ⌜ ((net : Network) → Held (now (starts .entry)) (now (ends .entry)) sites (now (labels .entry)) net → r ≡ recordStep edition (now (sheet .entry)) net at line) ⌝ }
 {
     match line {
         Line::Heading => Step::Refused(2),
@@ -91,7 +94,7 @@ fn record_step(
             let from = at + start;
             let to = at + end;
             let found = names::find(sheet, starts, ends, sites, table, from, to);
-            site_step(sites, found, from, to)
+            site_step(edition, sites, found, from, to)
         }
         Line::Link {
             start,
@@ -108,8 +111,9 @@ fn record_step(
     }
 }
 
-// What the line at an offset adds, `number` being its number. Only the planner's own crates call it.
+// What the line at an offset adds, `number` being its number, to any network that the lists and the labels hold.
 pub fn step_at<'a>(
+    edition: Edition,
     sheet: &[u8],
     line: &[u8],
     starts: &'a [usize; SITES],
@@ -121,14 +125,14 @@ pub fn step_at<'a>(
     at: usize,
 ) -> Step
     requires { ⌜ (sites ≤ SITES) × Indexes (now sheet) (ranges (now starts) (now ends) 0 sites) (now table) × (at ≤ length (now sheet)) × (now line ≡ lineAt (now sheet) at) ⌝ }
-    ensures { λ r. ⌜ r ≡ stepAt edition1 (now (sheet .entry)) (ranges (now (starts .entry)) (now (ends .entry)) 0 sites) (now (labels .entry)) number at ⌝ }
+    ensures { λ r. ⌜ ((net : Network) → Held (now (starts .entry)) (now (ends .entry)) sites (now (labels .entry)) net → r ≡ stepOf edition (now (sheet .entry)) net number at) ⌝ }
 {
     if at + line.len() >= sheet.len() {
         return Step::Refused(2);
     }
-    let kind = line_kinds::classify(line, Edition::SIZE);
+    let kind = line_kinds::classify(line, edition.size);
     if number == 1 {
         return heading_step(kind);
     }
-    record_step(sheet, starts, ends, sites, table, labels, at, kind)
+    record_step(edition, sheet, starts, ends, sites, table, labels, at, kind)
 }

@@ -1,5 +1,5 @@
 -- `record_step` meets its contract, by the kind of the line: what the look-ups found is what their definition gives.
-use mathlib.Core.Path.{_≡_, sym, subst}
+use mathlib.Core.Path.{_≡_, sym, ap, subst, _∙_}
 use Prim.Native.Nat.{_<_}
 use native.Mathlib.Omega.{arith}
 use borrow.Author.Needs.{needs}
@@ -10,14 +10,14 @@ use Rattle.line_kinds.specs.FormedLines.{Formed}
 use Rattle.line_kinds.specs.declared.Line.{Line}
 use Rattle.names.specs.Names.{ranges}
 use Rattle.names.specs.LookupLaws.{length-ranges}
-use Rattle.steps.specs.Steps.{Labelled, recordStep}
-use Rattle.steps.specs.StepCases.{labelled}
-use Rattle.steps.proofs.record_step.Statement.{statement}
-use Rattle.steps.proofs.record_step.Tie as tie
+use Rattle.sheet.specs.Sheet.{recordStep}
+use Rattle.sheet.specs.StepCases.{Labelled, labelled}
+use Rattle.sheet.proofs.stepping.record_step.Statement.{statement}
+use Rattle.sheet.proofs.stepping.record_step.Tie as tie
 
 -- the names of a line stand on it
-formed : (c : tie.After-shared-slice-known) (w : Line) → c .before .args .line ≡ w → Formed 1000000 (lineAt (c .before .args .sheet .now) (c .before .args .at)) w
-formed c w e = subst (Formed 1000000 (lineAt (c .before .args .sheet .now) (c .before .args .at))) e (c .before .pre .3)
+formed : (c : tie.After-shared-slice-known) (w : Line) → c .before .args .line ≡ w → Formed (c .before .args .edition .size) (lineAt (c .before .args .sheet .now) (c .before .args .at)) w
+formed c w e = subst (Formed (c .before .args .edition .size) (lineAt (c .before .args .sheet .now) (c .before .args .at))) e (c .before .pre .3)
 
 link-step-requires : tie.Need-link-step-requires
 link-step-requires c κs =
@@ -28,21 +28,23 @@ link-step-requires c κs =
 
 returns : tie.Need-returns
 unfolding recordStep
-returns c = rw (c .enum-told .given .1)
+returns c = λ net h. rw (c .enum-told .given .1)
 
 returns-2 : tie.Need-returns-2
 unfolding recordStep
-returns-2 c =
+returns-2 c = λ net h.
     let a = c .before .before .before .before .before .before .args in
-    rw (c .before .before .before .line .given .1, length-ranges (a .starts .now) (a .ends .now) 0 (a .sites), ← (c .before .find .ensures)) (c .site-step .ensures)
+    let few : length (net .names) ≡ a .sites = ap length (sym (h .names)) ∙ length-ranges (a .starts .now) (a .ends .now) 0 (a .sites) in
+    rw (c .before .before .before .line .given .1, few, ← (h .names), ← (c .before .find .ensures)) (c .site-step .ensures)
 
 returns-3 : tie.Need-returns-3
 unfolding recordStep
-returns-3 c = rw (c .before .before .before .before .line2 .given .1, ← (c .before .before .find2 .ensures), ← (c .before .find3 .ensures)) (c .link-step .ensures)
+returns-3 c = λ net h.
+    rw (c .before .before .before .before .line2 .given .1, ← (h .names), ← (c .before .before .find2 .ensures), ← (c .before .find3 .ensures)) (c .link-step .ensures (net .links) (h .labels-are))
 
 returns-4 : tie.Need-returns-4
 unfolding recordStep
-returns-4 c = rw (c .before .line3 .given .1)
+returns-4 c = λ net h. rw (c .before .line3 .given .1)
 
 pub record-step-spec : {M : Type 1} → statement M
 record-step-spec =
