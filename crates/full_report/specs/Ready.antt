@@ -9,7 +9,7 @@ use Rattle.network.specs.Network.{leaf}
 use Rattle.network.specs.Trimming.{balanced}
 use Rattle.sheet.specs.Sheet.{Network, Read, refused, accepted, readSheet}
 use Rattle.sheet.specs.Reading.{lists}
-use Rattle.sheet.specs.declared.Network.{Network as Lists}
+use Rattle.sheet.specs.declared.Lists.{Lists}
 use Rattle.working.specs.declared.Worked.{Worked}
 use Rattle.report.specs.Report.{report}
 use Rattle.full_report.specs.Shows.{Works}

@@ -25,7 +25,7 @@ use Rattle.line_kinds.specs.LineKindLaws.{name-length}
 use Rattle.sheet.specs.Sheet.{Network, part}
 use Rattle.sheet.specs.Reading.{padded, lists}
 use Rattle.sheet.specs.SheetTheorem.{IsNetwork, an-accepted-sheet-is-a-tree}
-use Rattle.sheet.specs.declared.Network.{Network as Lists}
+use Rattle.sheet.specs.declared.Lists.{Lists}
 use Rattle.network.specs.Edition.{edition1}
 use Rattle.report.specs.Report.{planRecord}
 use Rattle.report.specs.Shown.{nameBy, Named, AllNamed, Links as Linked, Owners, Paired, no-pair}

@@ -5,7 +5,7 @@ ghost use Rattle.report.specs.Shown.{nameBy};
 ghost use Rattle.full_report.specs.Parts.{linkPart, sitePart, linesBy, LinksReady, SitesReady, LinesReady};
 ghost use Rattle.full_report.specs.Ready.{Ready, reportFor};
 use network::SITES;
-use sheet::Network;
+use sheet::Lists;
 use working::Worked;
 
 // The lines of the links of a network.
@@ -13,7 +13,7 @@ fn put_links(
     sheet: &[u8],
     start: &[usize],
     end: &[usize],
-    network: Network,
+    network: Lists,
     trimmed: [u64; SITES],
     buf: &mut [u8],
     at: usize,
@@ -61,7 +61,7 @@ fn put_lines(
     sheet: &[u8],
     start: &[usize],
     end: &[usize],
-    network: Network,
+    network: Lists,
     worked: Worked,
     buf: &mut [u8],
     at: usize,
@@ -91,7 +91,7 @@ fn put_lines(
 
 // The report of a network, from the start of the buffer as far as it goes, and its length. Only the planner's own crates call it, with what is worked
 // out of an accepted sheet.
-pub fn write_plan(sheet: &[u8], network: Network, worked: Worked, buf: &mut [u8]) -> usize
+pub fn write_plan(sheet: &[u8], network: Lists, worked: Worked, buf: &mut [u8]) -> usize
     requires { ⌜ Ready (now sheet) network worked ⌝ }
     ensures { λ r. ⌜ Wrote (now (buf .entry)) 0 (reportFor (now (sheet .entry))) (now (buf .exit)) r × (r ≤ 65536) ⌝ }
 {

@@ -8,11 +8,11 @@ use native.Mathlib.Nat.{add-zero, zero-add, add-sub-cancel-left, sub-self, sub-z
 use native.Mathlib.Numerals.{add-one}
 use native.Mathlib.Omega.{arith}
 use lib.Dec.{eqb}
-use lib.ListN.{length, getD, take, drop, set, replicate, length-set, length-take, length-drop, drop-of-length-le}
+use lib.ListN.{length, getD, take, drop, set, replicate, length-set, length-drop, drop-of-length-le}
 use lib.Seq.{sets, drop-cons, drop-drop, take-length, length-take-le, getD-set-same, getD-set-other}
 use borrow.Author.Tests.{eqb-true, eqb-false}
 use Rattle.fields.specs.Fields.{push, fields, field, fieldLength}
-use Rattle.fields.specs.FieldLaws.{first-byte, field-length-within, last-field, first-field, tab-or-none, some-field}
+use Rattle.fields.specs.FieldLaws.{first-byte, last-field, first-field, tab-or-none, some-field}
 use Rattle.grammar.specs.Grammar.{FIELDS, ends, split}
 use Rattle.grammar.specs.declared.Fields.{Fields}
 

@@ -10,7 +10,7 @@ use lib.Dec.{leb}
 use lib.ListN.{length, drop}
 use lib.Seq.{sets-eq}
 use Rattle.network.specs.Edition.{edition1}
-use Rattle.sheet.specs.declared.Network.{Network}
+use Rattle.sheet.specs.declared.Lists.{Lists}
 use Rattle.writers.specs.Wrote.{Wrote}
 use Rattle.report.specs.Report.{report}
 use Rattle.working.specs.declared.Worked.{Worked}
@@ -38,7 +38,7 @@ room-enough s room e l = by (leb 65536 room) refl e
     by true p q = omega (arith, leb-true 65536 room p)
     by false p q = leb-true _ _ q
 
-module _ (s : List ℕ) (network : Network) (w : Worked) (r : Ready s network w) where
+module _ (s : List ℕ) (network : Lists) (w : Worked) (r : Ready s network w) where
   -- a report that is longer than the buffer
   pub too-long : (b : List ℕ) → length b < length (reportFor s) → planned edition1 s b ≡ record { outcome = Refused 9 0; buffer = b }
   unfolding planned planRead deliver reportOfRead

@@ -25,7 +25,7 @@ use Rattle.sheet.specs.Sheet.{Network, Read, refused, accepted, readSheet}
 use Rattle.sheet.specs.Reading.{lists, reading}
 use Rattle.sheet.specs.declared.Answer.the-variants as answered
 use Rattle.sheet.specs.SheetTheorem.{IsNetwork, an-accepted-sheet-is-a-tree}
-use Rattle.sheet.specs.declared.Network.{Network as Lists}
+use Rattle.sheet.specs.declared.Lists.{Lists}
 use Rattle.planner.specs.Outcome.{planRead, planned}
 use Rattle.planner.specs.declared.Outcome.the-variants.{Refused}
 use Rattle.full_report.specs.Shows.{Works}

@@ -10,7 +10,7 @@ ghost use Rattle.planner.specs.Worked.{Listed};
 use full_report::write_plan;
 use network::REPORT;
 use sheet::Answer;
-use sheet::Network;
+use sheet::Lists;
 use working::Worked;
 
 // What planning comes to: a report of so many bytes, or a refusal with its number and line.
@@ -20,7 +20,7 @@ pub enum Outcome {
 }
 
 // Whether the report of a network goes into so many bytes. Its length is measured only where there are fewer than the longest report has.
-fn fits(sheet: &[u8], network: Network, worked: Worked, room: usize) -> bool
+fn fits(sheet: &[u8], network: Lists, worked: Worked, room: usize) -> bool
     requires { ⌜ Ready (now sheet) network worked ⌝ }
     ensures { λ r. ⌜ r ≡ fits (now (sheet .entry)) room ⌝ }
 {
@@ -33,7 +33,7 @@ fn fits(sheet: &[u8], network: Network, worked: Worked, room: usize) -> bool
 }
 
 // The report of a network into the buffer; a buffer too short for it keeps its bytes.
-fn deliver(sheet: &[u8], network: Network, worked: Worked, report: &mut [u8]) -> Outcome
+fn deliver(sheet: &[u8], network: Lists, worked: Worked, report: &mut [u8]) -> Outcome
     requires { ⌜ Ready (now sheet) network worked ⌝ }
     ensures told { λ r. ⌜ r ≡ planned edition1 (now (sheet .entry)) (now (report .entry)) .outcome ⌝ }
     ensures left { λ r. ⌜ now (report .exit) ≡ planned edition1 (now (sheet .entry)) (now (report .entry)) .buffer ⌝ }
@@ -46,7 +46,7 @@ fn deliver(sheet: &[u8], network: Network, worked: Worked, report: &mut [u8]) ->
 }
 
 // The network of an accepted sheet, planned.
-fn plan_network(sheet: &[u8], network: Network, report: &mut [u8]) -> Outcome
+fn plan_network(sheet: &[u8], network: Lists, report: &mut [u8]) -> Outcome
     requires { ⌜ Listed (now sheet) network ⌝ }
     ensures told { λ r. ⌜ r ≡ planned edition1 (now (sheet .entry)) (now (report .entry)) .outcome ⌝ }
     ensures left { λ r. ⌜ now (report .exit) ≡ planned edition1 (now (sheet .entry)) (now (report .entry)) .buffer ⌝ }
