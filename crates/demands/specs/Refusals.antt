@@ -1,18 +1,23 @@
 -- The numbers of a sheet's refusals are 1 to 8: never 0, which is success, nor 9, which is the buffer's. By the cases of reading a line.
-use mathlib.Core.Path.{_≡_, subst}
-use mathlib.Core.Bool.{Bool, true, false, cond, _&&_}
+use mathlib.Core.Path.{_≡_, refl, subst}
+use mathlib.Core.Bool.{Bool, true, false, cond, _&&_, true≢false}
 use mathlib.Core.List.{List}
 use Prim.Native.Nat.{ℕ, zero, suc, _+_, _≤_}
 use native.Mathlib.Omega.{arith}
 use lib.Dec.{eqb, leb, ltb}
 use lib.ListN.{length, drop}
-use Rattle.network.specs.Network.{sites, joined}
+use Rattle.network.specs.Network.{Links, sites, joined}
 use Rattle.network.specs.declared.Edition.{Edition}
 use Rattle.lines.specs.Lines.{lineLength, lineAt, afterLine, hasLine}
-use Rattle.line_kinds.specs.LineKinds.{fields, field, value, isHeading, isSite, isLink, linkLine, kindOf, kind}
+use Rattle.network.specs.Text.{bytes}
+use Rattle.grammar.specs.declared.Check.{Check}
+use Rattle.grammar.specs.declared.Check.the-variants as check
+use Rattle.line_kinds.specs.LineKinds.{same, fields, field, value, isHeading, checked, faultOf, siteForm, linkForm, judged, siteLine, sizedLink, linkLine, kindOf, kind}
 use Rattle.line_kinds.specs.declared.Line.{Line}
 use Rattle.line_kinds.specs.declared.Line.the-variants as line
-use Rattle.sheet.specs.Sheet.{Network, empty, Read, refused, accepted, part, lookup, newName, addSite, newLink, addLink, readHeading, readRecord, readLine}
+use Rattle.sheet.specs.Sheet.{Network, empty, Read, refused, accepted, part, lookup, siteBy, siteStep, linkStep, headingStep, recordStep, stepOf, added, readLine}
+use Rattle.sheet.specs.declared.stepping.Step.{Step}
+use Rattle.sheet.specs.declared.stepping.Step.the-variants as step
 use Rattle.sheet.specs.Sheet.{andThen, readLines, allJoined, finish, readSheet}
 use Rattle.names.specs.declared.Found.{Found}
 use Rattle.names.specs.declared.Found.the-variants.{At, Absent}
@@ -36,46 +41,80 @@ either : {A : Type 0} (P : A → Type 0) (t : Bool) (a b : A) → P a → P b �
 either P true a b p q = p
 either P false a b p q = q
 
+-- a fault of the form has such a number
+fault-told : (c : Check) → eqb (faultOf c) 0 ≡ false → Cause (faultOf c)
+unfolding faultOf
+fault-told check.Formed e = absurd (true≢false e)
+fault-told check.Letter e = omega arith
+fault-told check.Count e = omega arith
+fault-told check.Name e = omega arith
+fault-told check.Number e = omega arith
+
+judged-told : (c : Check) (w : Line) → Faults w → Faults (judged c w)
+unfolding judged
+judged-told c w h = by (eqb (faultOf c) 0) refl
+  where
+    by : (t : Bool) → eqb (faultOf c) 0 ≡ t → Faults (cond t w (line.Fault (faultOf c)))
+    by true e = h
+    by false e = fault-told c e
+
 kind-told : (most : ℕ) (l : List ℕ) → Faults (kind most l)
-unfolding kind kindOf linkLine
+unfolding kind kindOf linkLine siteLine sizedLink
 kind-told most l =
-    either Faults (isHeading (fields l)) _ _ tt (either Faults (isSite (fields l)) _ _ tt
-    (either Faults (isLink (fields l)) _ _ (either Faults (leb (value (field (fields l) 3)) most) _ _ tt (omega arith)) (omega arith)))
+    either Faults (isHeading (fields l)) _ _ tt (either Faults (same (field (fields l) 0) (bytes "L")) _ _
+    (judged-told (checked linkForm (fields l)) _ (either Faults (leb (value (field (fields l) 3)) most) _ _ tt (omega arith)))
+    (judged-told (checked siteForm (fields l)) _ tt))
 
-name-told : (net : Network) (k : ℕ) (r : ℕ × ℕ) (w : Found) → Told (newName net k r w)
-unfolding newName
-name-told net k r (At v) = omega arith
-name-told net k r Absent = tt
+-- a step that refuses does so with such a number
+abbrev Tells : Step → Type 0
+Tells step.Nothing = Unit {0}
+Tells (step.Site a e) = Unit {0}
+Tells (step.Link a b size) = Unit {0}
+Tells (step.Refused k) = Cause k
 
-link-told : (net : Network) (k size : ℕ) (u w : Found) → Told (newLink net k size u w)
-unfolding newLink
-link-told net k size Absent w = omega arith
-link-told net k size (At a) Absent = omega arith
-link-told net k size (At a) (At b) = either Told (eqb (joined (net .links) a b) 1) _ _ (omega arith) tt
+site-tells : (r : ℕ × ℕ) (w : Found) → Tells (siteBy r w)
+site-tells r (At v) = omega arith
+site-tells r Absent = tt
 
-heading-told : (net : Network) (w : Line) → Told (readHeading net w)
-unfolding readHeading
-heading-told net line.Heading = tt
-heading-told net (line.Site a e) = omega arith
-heading-told net (line.Link a e c f size) = omega arith
-heading-told net (line.Fault k) = omega arith
+link-tells : (ls : Links) (size : ℕ) (u w : Found) → Tells (linkStep ls size u w)
+unfolding linkStep
+link-tells ls size Absent w = omega arith
+link-tells ls size (At a) Absent = omega arith
+link-tells ls size (At a) (At b) = either Tells (eqb (joined ls a b) 1) _ _ (omega arith) tt
+
+heading-tells : (w : Line) → Tells (headingStep w)
+unfolding headingStep
+heading-tells line.Heading = tt
+heading-tells (line.Site a e) = omega arith
+heading-tells (line.Link a e c f size) = omega arith
+heading-tells (line.Fault k) = omega arith
+
+added-told : (net : Network) (k : ℕ) (w : Step) → Tells w → Told (added net k w)
+added-told net k step.Nothing h = tt
+added-told net k (step.Site a e) h = tt
+added-told net k (step.Link a b size) h = tt
+added-told net k (step.Refused n) h = h
 
 module _ (ed : Edition) (s : List ℕ) where
-  record-told : (net : Network) (k at : ℕ) (w : Line) → Faults w → Told (readRecord ed s net k at w)
-  unfolding readRecord addSite addLink
-  record-told net k at line.Heading h = omega arith
-  record-told net k at (line.Site a e) h = either Told (leb (ed .sites) (length (net .names))) _ _ (omega arith)
-      (name-told net k (at + a, at + e) (lookup s (net .names) (part s (at + a, at + e))))
-  record-told net k at (line.Link a e c f size) h =
-      link-told net k size (lookup s (net .names) (part s (at + a, at + e))) (lookup s (net .names) (part s (at + c, at + f)))
-  record-told net k at (line.Fault n) h = h
+  record-tells : (net : Network) (at : ℕ) (w : Line) → Faults w → Tells (recordStep ed s net at w)
+  unfolding recordStep siteStep
+  record-tells net at line.Heading h = omega arith
+  record-tells net at (line.Site a e) h = either Tells (leb (ed .sites) (length (net .names))) _ _ (omega arith)
+      (site-tells (at + a, at + e) (lookup s (net .names) (part s (at + a, at + e))))
+  record-tells net at (line.Link a e c f size) h =
+      link-tells (net .links) size (lookup s (net .names) (part s (at + a, at + e))) (lookup s (net .names) (part s (at + c, at + f)))
+  record-tells net at (line.Fault n) h = h
+
+  step-tells : (net : Network) (k at : ℕ) → Tells (stepOf ed s net k at)
+  unfolding stepOf
+  step-tells net k at =
+      let w = kind (ed .size) (lineAt s at) in
+      either Tells (ltb (at + lineLength (drop at s)) (length s)) _ _
+      (either Tells (eqb k 1) _ _ (heading-tells w) (record-tells net at w (kind-told (ed .size) (lineAt s at)))) (omega arith)
 
   line-told : (net : Network) (k at : ℕ) → Told (readLine ed s net k at)
   unfolding readLine
-  line-told net k at =
-      let w = kind (ed .size) (lineAt s at) in
-      either Told (ltb (at + lineLength (drop at s)) (length s)) _ _
-      (either Told (eqb k 1) _ _ (heading-told net w) (record-told net k at w (kind-told (ed .size) (lineAt s at)))) (omega arith)
+  line-told net k at = added-told net k (stepOf ed s net k at) (step-tells net k at)
 
   then-told : (r : Read) (f : Network → Read) → Told r → ((net : Network) → Told (f net)) → Told (andThen r f)
   unfolding andThen

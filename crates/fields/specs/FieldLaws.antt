@@ -1,15 +1,15 @@
 -- Laws of fields, by induction over the bytes: strings are the same just if they are equal; the bytes of a string are tested one by one;
 -- and the fields of a line are the bytes up to its first tab and the fields of what follows.
-use mathlib.Core.Bool.{Bool, true, false, cond, _&&_, _||_, and-true, and-eq-true-iff, false≢true}
+use mathlib.Core.Bool.{Bool, true, false, cond, _&&_, _||_, and-true, and-eq-true-iff}
 use mathlib.Core.List.{List, [], _∷_}
 use mathlib.Core.Logic.{_⊎_, inl, inr, ⊎-elim, _≢_}
-use mathlib.Core.Path.{_≡_, refl, sym, ap, _∙_}
+use mathlib.Core.Path.{_≡_, refl, ap, _∙_}
 use Prim.Native.Nat.{ℕ, suc, _+_, _≤_, _<_}
 use native.Mathlib.Numerals.{add-one}
 use native.Mathlib.Omega.{arith}
 use lib.Dec.{eqb, leb, ltb, eqb·suc-suc}
-use lib.ListN.{length, getD, take, drop, drop-of-length-le}
-use lib.Seq.{drop-cons, take-all, length-take-le}
+use lib.ListN.{length, getD, take, drop}
+use lib.Seq.{drop-cons}
 use borrow.Author.Tests.{eqb-true, eqb-false, eq-eqb, leb-true, ltb-true, ltb-false}
 use Rattle.fields.specs.Fields.{same, all, isDigit, isLetterOrDigit, isName, isNumber, push, fields, fieldLength}
 
@@ -99,18 +99,7 @@ first-byte b bs = by (eqb b 9) refl
     by true e = inl (eqb-true b 9 e, rw e, rw e)
     by false e = inr (eqb-false b 9 e, rw e, rw e)
 
--- what is left of the first field from place i on: nothing at a tab or at the end, else one byte more than from the next place on
-pub field-length-at-tab : (l : List ℕ) (i : ℕ) → i < length l → getD l i 0 ≡ 9 → fieldLength (drop i l) ≡ 0
-field-length-at-tab l i h e = rw (drop-cons l i 0 h) (⊎-elim (λ t. t .1) (λ t. absurd (t .0 e)) (first-byte (getD l i 0) (drop (suc i) l)))
-
-pub field-length-step : (l : List ℕ) (i : ℕ) → i < length l → getD l i 0 ≢ 9 → fieldLength (drop i l) ≡ suc (fieldLength (drop (i + 1) l))
-field-length-step l i h d = rw (drop-cons l i 0 h, add-one) (⊎-elim (λ t. absurd (d (t .0))) (λ t. t .1) (first-byte (getD l i 0) (drop (suc i) l)))
-
-pub field-length-at-end : (l : List ℕ) (i : ℕ) → length l ≤ i → fieldLength (drop i l) ≡ 0
-unfolding fieldLength
-field-length-at-end l i h = rw (drop-of-length-le l h)
-
-pub field-length-within : (l : List ℕ) → fieldLength l ≤ length l
+field-length-within : (l : List ℕ) → fieldLength l ≤ length l
 unfolding fieldLength
 field-length-within [] = omega arith
 field-length-within (b ∷ bs) = ⊎-elim (λ t. omega (arith, t .1)) (λ t. omega (arith, t .1, field-length-within bs)) (first-byte b bs)
@@ -137,27 +126,6 @@ tab-or-none l = by (ltb (fieldLength l) (length l)) refl
     by : (t : Bool) → ltb (fieldLength l) (length l) ≡ t → (fieldLength l ≡ length l) ⊎ (fieldLength l < length l)
     by true e = inr (ltb-true _ _ e)
     by false e = inl (omega (arith, ltb-false (fieldLength l) (length l) e, field-length-within l))
-
-pub first-field-length : (l f : List ℕ) → f ≡ take (fieldLength l) l → length f ≡ fieldLength l
-first-field-length l f e = ap length e ∙ length-take-le (fieldLength l) l (field-length-within l)
-
--- a first field f and what follows it, r: the fields are f and those of r; or f is the only one, and r is empty
-pub cut-at-tab : (l f r : List ℕ) → f ≡ take (fieldLength l) l → r ≡ drop (length f + 1) l
-    → (fields l ≡ f ∷ fields r) ⊎ ((fields l ≡ f ∷ []) × (r ≡ []))
-cut-at-tab l f r e q =
-    let n = first-field-length l f e in
-    ⊎-elim
-    (λ h. inr (rw (e ∙ take-all (fieldLength l) l (omega (arith, h))) (last-field l h), q ∙ drop-of-length-le l {i = length f + 1} (omega (arith, n, h))))
-    (λ h. inl (rw (q, n, e) (first-field l h)))
-    (tab-or-none l)
-
--- a line whose bytes pass a test that a tab fails is one field
-pub no-tab : (p : ℕ → Bool) → p 9 ≡ false → (l : List ℕ) → all p l ≡ true → fieldLength l ≡ length l
-unfolding fieldLength all
-no-tab p d [] e = refl
-no-tab p d (b ∷ l) e =
-    let h = both (p b) (all p l) e in
-    ⊎-elim (λ t. absurd (false≢true (sym d ∙ ap p (sym (t .0)) ∙ h .0))) (λ t. t .1 ∙ ap suc (no-tab p d l (h .1))) (first-byte b l)
 
 -- there is always a field
 pub some-field : (l : List ℕ) → (f : List ℕ) × (fs : List (List ℕ)) × (fields l ≡ f ∷ fs)

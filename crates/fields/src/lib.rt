@@ -2,10 +2,8 @@
 ghost use mathlib.Core.Path.{_≡_};
 ghost use mathlib.Core.List.{[], _∷_};
 ghost use mathlib.Core.Bool.{_&&_};
-ghost use Prim.Native.Nat.{_+_};
 ghost use lib.Dec.{leb};
-ghost use lib.ListN.{take, drop};
-ghost use Rattle.fields.specs.Fields.{same, all, isDigit, isLetterOrDigit, isName, isNumber, fieldLength};
+ghost use Rattle.fields.specs.Fields.{same, all, isDigit, isLetterOrDigit, isName, isNumber};
 
 // Whether two byte strings are the same.
 pub fn same(a: &[u8], b: &[u8]) -> bool
@@ -116,37 +114,4 @@ pub fn is_number(field: &[u8]) -> bool
         return true;
     }
     b'0' < field[0]
-}
-
-// The number of bytes before the first tab of a line, or of all bytes where there is none.
-fn field_length(line: &[u8]) -> usize
-    ensures { λ r. ⌜ r ≡ fieldLength (now (line .entry)) ⌝ }
-{
-    let mut i = 0;
-    while i < line.len() {
-        if line[i] == b'\t' {
-            return i;
-        }
-        i += 1;
-    }
-    i
-}
-
-// The first field of a line.
-pub fn first_field(line: &[u8]) -> &[u8]
-    ensures { λ r. ⌜ now r ≡ take (fieldLength (now (line .entry))) (now (line .entry)) ⌝ }
-{
-    let end = field_length(line);
-    &line[..end]
-}
-
-// What follows a place of a line and the byte there.
-pub fn after(line: &[u8], place: usize) -> &[u8]
-    ensures { λ r. ⌜ now r ≡ drop (place + 1) (now (line .entry)) ⌝ }
-{
-    if place >= line.len() {
-        return &line[0..0];
-    }
-    let start = place + 1;
-    &line[start..]
 }

@@ -1,61 +1,22 @@
 -- What is known of a line by its kind: its names are ranges of it, and the size of a link is within the limit.
--- By counting the bytes of the fields.
+-- By the places of the fields.
 use mathlib.Core.Bool.{Bool, true, false, cond}
 use mathlib.Core.List.{List, [], _∷_}
-use mathlib.Core.Logic.{⊎-elim}
-use mathlib.Core.Path.{_≡_, refl, sym, ap, _∙_}
-use Prim.Native.Nat.{ℕ, suc, _+_, _-_, _≤_}
-use native.Mathlib.Nat.{add-sub-cancel-left}
+use mathlib.Core.Path.{_≡_, refl, ap, _∙_}
+use Prim.Native.Nat.{ℕ, _+_, _-_, _≤_, _<_}
+use native.Mathlib.Nat.{sub-zero}
 use native.Mathlib.Omega.{arith}
 use lib.Dec.{leb}
-use lib.ListN.{length, take, drop, length-take, length-drop}
-use lib.Seq.{take-length}
+use lib.ListN.{length, getD, take, drop}
 use borrow.Author.Tests.{leb-true}
-use Rattle.line_kinds.specs.LineKinds.{push, fields, field, isName, value, isHeading, isSite, isLink, linkLine, kindOf, kind}
-use Rattle.fields.specs.Fields.{fieldLength}
-use Rattle.fields.specs.FieldLaws.{tab-or-none, first-byte, some-field, last-field, first-field}
-use Rattle.line_kinds.specs.LineKindLaws.{site-parts, link-parts}
+use Rattle.network.specs.Text.{bytes}
+use Rattle.grammar.specs.Grammar.{ends, split}
+use Rattle.grammar.specs.SplitLaws.{field-lies, length-of-field, end-of-split}
+use Rattle.grammar.specs.declared.Fields.{Fields}
+use Rattle.line_kinds.specs.LineKinds.{same, fields, field, isName, value, isHeading, checked, siteForm, linkForm, IsSite, IsLink, siteLine, sizedLink, linkLine, kindOf, kind}
+use Rattle.line_kinds.specs.LineKindLaws.{judged-cases, site-parts, link-parts}
 use Rattle.line_kinds.specs.declared.Line.{Line}
 use Rattle.line_kinds.specs.declared.Line.the-variants.{Heading, Site, Link, Fault}
-
-one-field : (l : List ℕ) → length (fields l) ≡ 1 → fields l ≡ l ∷ []
-one-field l e = ⊎-elim
-    (last-field l)
-    (λ h. let k = some-field (drop (fieldLength l + 1) l) in absurd (omega (arith, ap length (first-field l h), ap length (k .2))))
-    (tab-or-none l)
-
--- the two fields of a line, where the first has one byte
-two-fields : (b : ℕ) (l : List ℕ) → length (fields l) ≡ 2 → field (fields l) 0 ≡ b ∷ [] → (field (fields l) 1 ≡ drop 2 l) × (2 + length (drop 2 l) ≡ length l)
-two-fields b l e f = ⊎-elim
-    (λ h. absurd (omega (arith, ap length (last-field l h))))
-    (λ h.
-    let split = first-field l h in
-    let n : fieldLength l ≡ 1 = omega (arith, length-take (fieldLength l) l, ap length (sym (ap (λ fs. field fs 0) split) ∙ f)) in
-    let rest = one-field (drop (fieldLength l + 1) l) (omega (arith, ap length split)) in
-    (ap (λ fs. field fs 1) split ∙ ap (λ fs. field fs 0) rest ∙ rw n, omega (arith, length-drop 2 l)))
-    (tab-or-none l)
-
--- the bytes of the fields, each with a tab or the end of the line behind it
-abbrev bytes : List (List ℕ) → ℕ
-bytes [] = 0
-bytes (f ∷ fs) = suc (length f) + bytes fs
-
-fields-are-the-line : (l : List ℕ) → bytes (fields l) ≡ suc (length l)
-unfolding fields push
-fields-are-the-line [] = refl
-fields-are-the-line (b ∷ l) =
-    let k = some-field l in
-    ⊎-elim
-    (λ t. omega (arith, ap bytes (t .2), fields-are-the-line l))
-    (λ t. omega (arith, ap bytes (t .2 ∙ ap (push b) (k .2)), ap bytes (k .2), fields-are-the-line l))
-    (first-byte b l)
-
-four-fields : (fs : List (List ℕ)) → length fs ≡ 4 → 4 + length (field fs 0) + length (field fs 1) + length (field fs 2) ≤ bytes fs
-four-fields [] e = absurd (omega arith)
-four-fields (a ∷ []) e = absurd (omega arith)
-four-fields (a ∷ b ∷ []) e = absurd (omega arith)
-four-fields (a ∷ b ∷ c ∷ []) e = absurd (omega arith)
-four-fields (a ∷ b ∷ c ∷ d ∷ fs) e = omega arith
 
 -- names are ranges of the line, and the size of a link is within the limit
 abbrev pub Formed : ℕ → List ℕ → Line → Type 0
@@ -64,33 +25,75 @@ Formed most l (Site a e) = (a ≤ e) × (e ≤ length l) × (isName (take (e - a
 Formed most l (Link a e b f size) = (a ≤ e) × (e ≤ length l) × (b ≤ f) × (f ≤ length l) × (size ≤ most)
 Formed most l (Fault n) = Unit {0}
 
-module _ (most : ℕ) (l : List ℕ) where
+module _ (l : List ℕ) where
   abbrev one : ℕ
   one = length (field (fields l) 1)
 
   abbrev two : ℕ
   two = length (field (fields l) 2)
 
-  site-is-formed : isSite (fields l) ≡ true → Formed most l (Site 2 (2 + one))
-  site-is-formed e =
-      let k = site-parts (fields l) e in
-      let t = two-fields 78 l (k .0) (k .1) in
-      (omega arith, omega (arith, ap length (t .0)), rw (t .0, add-sub-cancel-left, take-length) (rw (t .0) at (k .2)))
+  -- where the second and the third field end, the first being one byte
+  second-end : 1 < length (fields l) → length (field (fields l) 0) ≡ 1 → getD (ends 0 (fields l)) 1 0 ≡ 2 + one
+  second-end h e = omega (arith, length-of-field (field-lies 0 l 0 (omega arith)), length-of-field (field-lies 1 l 0 h))
 
-  link-is-formed : isLink (fields l) ≡ true → (size : ℕ) → size ≤ most → Formed most l (Link 2 (2 + one) (3 + one) (3 + one + two) size)
-  link-is-formed e size h =
-      let k = link-parts (fields l) e in
-      let room : 3 + one + two ≤ length l = omega (arith, four-fields (fields l) (k .0), fields-are-the-line l, ap length (k .1)) in
-      (omega arith, omega arith, omega arith, room, h)
+  third-end : 2 < length (fields l) → length (field (fields l) 0) ≡ 1 → getD (ends 0 (fields l)) 2 0 ≡ 3 + one + two
+  third-end h e = omega (arith, second-end (omega arith) e, length-of-field (field-lies 2 l 0 h))
 
-  pub kinds-are-formed : Formed most l (kind most l)
-  unfolding kind kindOf linkLine
-  kinds-are-formed = by (isHeading (fields l)) (isSite (fields l)) refl (isLink (fields l)) refl (leb (value (field (fields l) 3)) most) refl
-    where
-      by : (t u : Bool) → isSite (fields l) ≡ u → (v : Bool) → isLink (fields l) ≡ v → (w : Bool) → leb (value (field (fields l) 3)) most ≡ w
-          → Formed most l (cond t Heading (cond u (Site 2 (2 + one)) (cond v (cond w (Link 2 (2 + one) (3 + one) (3 + one + two) (value (field (fields l) 3))) (Fault 3)) (Fault 2))))
-      by true u e v f w h = tt
-      by false true e v f w h = site-is-formed e
-      by false false e true f true h = link-is-formed f (value (field (fields l) 3)) (leb-true _ _ h)
-      by false false e true f false h = tt
-      by false false e false f w h = tt
+  module _ (most : ℕ) where
+    site-is-formed : IsSite (fields l) → Formed most l (Site 2 (2 + one))
+    site-is-formed e =
+        let k = site-parts (fields l) e in
+        let short = ap length (k .letter) in
+        let n : 1 < length (fields l) = omega (arith, k .count) in
+        let L = field-lies 1 l 0 n in
+        let first : getD (ends 0 (fields l)) 0 0 + 1 ≡ 2 = omega (arith, length-of-field (field-lies 0 l 0 (omega arith))) in
+        let name : take (2 + one - 2) (drop 2 l) ≡ field (fields l) 1 = rw (first, second-end n short, sub-zero) at (L .part) in
+        (omega arith, omega (arith, L .within, second-end n short), rw name (k .name))
+
+    link-is-formed : IsLink (fields l) → (size : ℕ) → size ≤ most → Formed most l (Link 2 (2 + one) (3 + one) (3 + one + two) size)
+    link-is-formed e size h =
+        let k = link-parts (fields l) e in
+        let n : 2 < length (fields l) = omega (arith, k .count) in
+        let room : 3 + one + two ≤ length l = omega (arith, third-end n (ap length (k .letter)), field-lies 2 l 0 n .within) in
+        (omega arith, omega arith, omega arith, room, h)
+
+    sized-is-formed : IsLink (fields l) → Formed most l (sizedLink most (fields l))
+    unfolding sizedLink
+    sized-is-formed e = by (leb (value (field (fields l) 3)) most) refl
+      where
+        by : (w : Bool) → leb (value (field (fields l) 3)) most ≡ w → Formed most l (cond w (Link 2 (2 + one) (3 + one) (3 + one + two) (value (field (fields l) 3))) (Fault 3))
+        by true h = link-is-formed e (value (field (fields l) 3)) (leb-true _ _ h)
+        by false h = tt
+
+    as-site : Formed most l (siteLine (fields l))
+    unfolding siteLine
+    as-site = judged-cases (Formed most l) (checked siteForm (fields l)) _ site-is-formed (λ d. tt)
+
+    as-link : Formed most l (linkLine most (fields l))
+    unfolding linkLine
+    as-link = judged-cases (Formed most l) (checked linkForm (fields l)) _ sized-is-formed (λ d. tt)
+
+-- the ends of the names, as the code holds them, and that they lie within the line
+pub site-end : (l : List ℕ) (found : Fields) → found ≡ split l → IsSite (fields l) → getD (found .end) 1 0 ≡ 2 + length (field (fields l) 1)
+site-end l found e h =
+    let k = site-parts (fields l) h in
+    let n : 1 < length (fields l) = omega (arith, k .count) in
+    rw e (end-of-split l 1 (omega arith) n ∙ second-end l n (ap length (k .letter)))
+
+pub link-ends : (l : List ℕ) (found : Fields) → found ≡ split l → IsLink (fields l) → let one = length (field (fields l) 1) in let two = length (field (fields l) 2) in
+    (getD (found .end) 1 0 ≡ 2 + one) × (getD (found .end) 2 0 ≡ 3 + one + two) × (3 + one + two ≤ length l)
+link-ends l found e h =
+    let k = link-parts (fields l) h in
+    let short = ap length (k .letter) in
+    let n : 2 < length (fields l) = omega (arith, k .count) in
+    let m : 1 < length (fields l) = omega arith in
+    rw e (end-of-split l 1 (omega arith) m ∙ second-end l m short, end-of-split l 2 (omega arith) n ∙ third-end l n short, link-is-formed l 0 h 0 (omega arith) .3)
+
+pub kinds-are-formed : (most : ℕ) (l : List ℕ) → Formed most l (kind most l)
+unfolding kind kindOf
+kinds-are-formed most l = by (isHeading (fields l)) (same (field (fields l) 0) (bytes "L"))
+  where
+    by : (t u : Bool) → Formed most l (cond t Heading (cond u (linkLine most (fields l)) (siteLine (fields l))))
+    by true u = tt
+    by false true = as-link l most
+    by false false = as-site l most

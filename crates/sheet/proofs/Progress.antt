@@ -11,25 +11,23 @@ use lib.ListN.{length, replicate, set, length-append, length-map}
 use Rattle.network.specs.Limits.{PLACES, SITES}
 use Rattle.network.specs.Numbers.{look, upfrom}
 use Rattle.network.specs.Network.{Site, relabel}
-use Rattle.network.specs.Edition.{edition1}
+use Rattle.network.specs.declared.Edition.{Edition}
 use Rattle.labels.specs.Labels.{linked, whole}
 use Rattle.labels.specs.LabelPlaces.{linked-sites, whole-sites}
 use Rattle.lines.specs.Lines.{lineAt, afterLine}
 use Rattle.lines.specs.LineLaws.{length-of-line}
 use Rattle.names.specs.Names.{part, ranges, hash, entered, Indexes}
 use Rattle.names.specs.TableLaws.{no-sites, site-entered}
-use Rattle.steps.specs.Steps.{stepAt}
-use Rattle.steps.specs.declared.Step.{Step}
-use Rattle.steps.specs.declared.Step.the-variants as step
-use Rattle.sheet.specs.Sheet.{Network, empty, refused, accepted, readLine, readLines, andThen, finish}
+use Rattle.sheet.specs.Sheet.{Network, empty, refused, accepted, stepOf, added, readLine, readLines, andThen, finish}
 use Rattle.sheet.specs.Reading.{padded, lists, reading}
 use Rattle.sheet.specs.Sound.{Sound, Accepts, none-is-sound, a-line-keeps-sound, links-are-few}
 use Rattle.sheet.specs.ReadLaws.{lines-end, lines-step, read-line-is-ended}
-use Rattle.sheet.specs.Steps.{labels, applied}
-use Rattle.sheet.specs.ListLaws.{padded-more}
+use Rattle.sheet.specs.Held.{labels, Held}
+use Rattle.sheet.specs.ListLaws.{padded-more, names-are}
 use Rattle.sheet.specs.LabelLaws.{own-labels, length-labels, labels-join, alike-tells}
-use Rattle.sheet.specs.StepLaws.{names-are, step-reads-the-line}
-use Rattle.sheet.specs.declared.Network.{Network as Lists}
+use Rattle.sheet.specs.declared.Lists.{Lists}
+use Rattle.sheet.specs.declared.stepping.Step.{Step}
+use Rattle.sheet.specs.declared.stepping.Step.the-variants as step
 use Rattle.sheet.specs.declared.Answer.the-variants.{Accepted}
 
 -- an element more of a list, in the first free place of the list of one of its parts
@@ -63,29 +61,31 @@ withLink net a b size = record {
 }
 
 -- the lists hold the network of the lines before the line at an offset, the table its names, and the lines from there on decide
-pub record Progress (s : List ℕ) (net : Lists) (table marks : List ℕ) (at number : ℕ) : Type 0 where
+pub record Progress (ed : Edition) (s : List ℕ) (net : Lists) (table marks : List ℕ) (at number : ℕ) : Type 0 where
+  pub fits : ed .sites ≤ SITES
   pub read : Network
   pub lists-are : net ≡ lists read
   pub indexed : Indexes s (read .names) table
   pub labels-are : marks ≡ labels PLACES (reverse (read .links))
-  pub sound : Sound edition1 s read
+  pub sound : Sound ed s read
   pub on-sheet : at ≤ length s
   pub numbered : number ≤ at + 1
-  pub rest : readLines edition1 s (length s) 1 0 empty ≡ readLines edition1 s (length s - at) number at read
+  pub rest : readLines ed s (length s) 1 0 empty ≡ readLines ed s (length s - at) number at read
 
-pub start : (s : List ℕ) → Progress s (lists empty) (replicate 16384 0) (upfrom 0 PLACES) 0 1
-start s = record {
+pub start : (ed : Edition) → ed .sites ≤ SITES → (s : List ℕ) → Progress ed s (lists empty) (replicate 16384 0) (upfrom 0 PLACES) 0 1
+start ed h s = record {
+  fits = h;
   read = empty;
   lists-are = refl;
   indexed = no-sites s;
   labels-are = sym (own-labels PLACES);
-  sound = none-is-sound edition1 s;
+  sound = none-is-sound ed s;
   on-sheet = omega arith;
   numbered = omega arith;
   rest = rw sub-zero;
 }
 
-module _ {s table marks : List ℕ} {net : Lists} {at number : ℕ} (P : Progress s net table marks at number) where
+module _ {ed : Edition} {s table marks : List ℕ} {net : Lists} {at number : ℕ} (P : Progress ed s net table marks at number) where
   -- how many sites and links there are, and that the lists have their places
   sites-are : net .sites ≡ length (P .read .names)
   unfolding lists
@@ -96,7 +96,7 @@ module _ {s table marks : List ℕ} {net : Lists} {at number : ℕ} (P : Progres
   links-are = ap (λ n. n .links) (P .lists-are)
 
   pub lengths : (length marks ≡ PLACES) × (net .sites ≤ SITES)
-  lengths = (ap length (P .labels-are) ∙ length-labels PLACES (reverse (P .read .links)), omega (arith, sites-are, P .sound .few))
+  lengths = (ap length (P .labels-are) ∙ length-labels PLACES (reverse (P .read .links)), omega (arith, sites-are, P .sound .few, P .fits))
 
   -- the names of the lists, of which the table is
   ranges-are : ranges (net .start) (net .end) 0 (net .sites) ≡ P .read .names
@@ -106,27 +106,31 @@ module _ {s table marks : List ℕ} {net : Lists} {at number : ℕ} (P : Progres
   pub table-is : Indexes s (ranges (net .start) (net .end) 0 (net .sites)) table
   table-is = rw ranges-are (P .indexed)
 
-  module _ (w : Step) (h : at < length s) (e : w ≡ stepAt edition1 s (ranges (net .start) (net .end) 0 (net .sites)) marks number at) where
+  -- the network that the lists and the labels hold
+  pub held : Held (net .start) (net .end) (net .sites) marks (P .read)
+  held = record { names = ranges-are; labels-are = P .labels-are }
+
+  module _ (w : Step) (h : at < length s) (e : w ≡ stepOf ed s (P .read) number at) where
     -- the step reads the line
-    line-is : readLine edition1 s (P .read) number at ≡ applied (P .read) number w
-    line-is =
-        let here = rw (ranges-are, P .labels-are) at e in
-        step-reads-the-line (P .read) number PLACES (omega (arith, P .sound .few)) edition1 s at ∙ ap (applied (P .read) number) (sym here)
+    line-is : readLine ed s (P .read) number at ≡ added (P .read) number w
+    unfolding readLine
+    line-is = ap (added (P .read) number) (sym e)
 
     -- the network after a line is sound
-    sound-next : (next : Network) → applied (P .read) number w ≡ accepted next → Sound edition1 s next
-    sound-next next q = subst (Accepts (Sound edition1 s)) (line-is ∙ q) (a-line-keeps-sound edition1 s (P .read) number (P .sound) at (P .on-sheet))
+    sound-next : (next : Network) → added (P .read) number w ≡ accepted next → Sound ed s next
+    sound-next next q = subst (Accepts (Sound ed s)) (line-is ∙ q) (a-line-keeps-sound ed s (P .read) number (P .sound) at (P .on-sheet))
 
     -- and the lines left go on from it
-    on : (next : Network) → applied (P .read) number w ≡ accepted next → (after : Lists) → after ≡ lists next → (entries : List ℕ) → Indexes s (next .names) entries
-        → (joined : List ℕ) → joined ≡ labels PLACES (reverse (next .links)) → Progress s after entries joined (at + length (lineAt s at) + 1) (number + 1)
+    on : (next : Network) → added (P .read) number w ≡ accepted next → (after : Lists) → after ≡ lists next → (entries : List ℕ) → Indexes s (next .names) entries
+        → (joined : List ℕ) → joined ≡ labels PLACES (reverse (next .links)) → Progress ed s after entries joined (at + length (lineAt s at) + 1) (number + 1)
     unfolding afterLine andThen
     on next q after l entries t joined m =
         let read = line-is ∙ q in
-        let ended = read-line-is-ended edition1 s number at (P .read) next read in
+        let ended = read-line-is-ended ed s number at (P .read) next read in
         let long = length-of-line s at in
         let past : afterLine s at ≡ at + length (lineAt s at) + 1 = omega arith in
         record {
+          fits = P .fits;
           read = next;
           lists-are = l;
           indexed = t;
@@ -134,24 +138,24 @@ module _ {s table marks : List ℕ} {net : Lists} {at number : ℕ} (P : Progres
           sound = sound-next next q;
           on-sheet = omega arith;
           numbered = omega (arith, P .numbered);
-          rest = P .rest ∙ lines-step edition1 s number at (P .read) h ∙ rw (read, past, add-one number);
+          rest = P .rest ∙ lines-step ed s number at (P .read) h ∙ rw (read, past, add-one number);
         }
 
     -- a heading leaves the lists as they are
-    pub by-heading : w ≡ step.Nothing → Progress s net table marks (at + length (lineAt s at) + 1) (number + 1)
-    by-heading q = on (P .read) (ap (applied (P .read) number) q) net (P .lists-are) table (P .indexed) marks (P .labels-are)
+    pub by-heading : w ≡ step.Nothing → Progress ed s net table marks (at + length (lineAt s at) + 1) (number + 1)
+    by-heading q = on (P .read) (ap (added (P .read) number) q) net (P .lists-are) table (P .indexed) marks (P .labels-are)
 
     -- a site takes the next place of the names
     pub site-fits : (a b : ℕ) → w ≡ step.Site a b → net .sites < SITES
-    site-fits a b q = omega (arith, sites-are, sound-next _ (ap (applied (P .read) number) q) .few, length-append (P .read .names) ((a, b) ∷ []))
+    site-fits a b q = omega (arith, sites-are, sound-next _ (ap (added (P .read) number) q) .few, length-append (P .read .names) ((a, b) ∷ []))
 
     pub by-site : (a b : ℕ) → w ≡ step.Site a b → (entries : List ℕ) → entries ≡ entered table (hash (part s (a, b))) (net .sites + 1)
-        → Progress s (withSite net a b) entries marks (at + length (lineAt s at) + 1) (number + 1)
+        → Progress ed s (withSite net a b) entries marks (at + length (lineAt s at) + 1) (number + 1)
     unfolding lists
     by-site a b q entries e =
         let names = P .read .names in
         let room : length names < SITES = omega (arith, sites-are, site-fits a b q) in
-        on (record { names = names ++ ((a, b) ∷ []); links = P .read .links; capacities = P .read .capacities }) (ap (applied (P .read) number) q) _
+        on (record { names = names ++ ((a, b) ∷ []); links = P .read .links; capacities = P .read .capacities }) (ap (added (P .read) number) q) _
         (rw (P .lists-are, placed (λ r. r .0) names (a, b) room, placed (λ r. r .1) names (a, b) room, length-append names ((a, b) ∷ [])))
         entries (rw (e, sites-are) (site-entered (P .indexed) (a, b)))
         marks (P .labels-are)
@@ -163,12 +167,12 @@ module _ {s table marks : List ℕ} {net : Lists} {at number : ℕ} (P : Progres
     pub link-fits : (a b size : ℕ) → w ≡ step.Link a b size → (net .links < SITES) × (a < PLACES) × (b < PLACES)
     link-fits a b size q =
         let are-sites : Site (length (P .read .names)) a × Site (length (P .read .names)) b
-        = rw (link-behind a b) at (sound-next _ (ap (applied (P .read) number) q) .ends) 0 (omega arith) in
+        = rw (link-behind a b) at (sound-next _ (ap (added (P .read) number) q) .ends) 0 (omega arith) in
         let few = P .sound .few in
         omega (arith, links-are, links-are-few (P .sound) (omega arith))
 
     pub by-link : (a b size : ℕ) → w ≡ step.Link a b size → (joined : List ℕ) → joined ≡ linked marks a b
-        → Progress s (withLink net a b size) table joined (at + length (lineAt s at) + 1) (number + 1)
+        → Progress ed s (withLink net a b size) table joined (at + length (lineAt s at) + 1) (number + 1)
     unfolding lists
     by-link a b size q joined e =
         let ls = P .read .links in
@@ -177,23 +181,23 @@ module _ {s table marks : List ℕ} {net : Lists} {at number : ℕ} (P : Progres
         let room : length ls < SITES = omega (arith, links-are) in
         let sized : set (padded SITES cs) (length ls) size ≡ padded SITES (cs ++ (size ∷ []))
         = rw (← (P .sound .capacities)) (padded-more SITES cs size (omega (arith, P .sound .capacities))) in
-        on (record { names = P .read .names; links = ls ++ ((a, b) ∷ []); capacities = cs ++ (size ∷ []) }) (ap (applied (P .read) number) q) _
+        on (record { names = P .read .names; links = ls ++ ((a, b) ∷ []); capacities = cs ++ (size ∷ []) }) (ap (added (P .read) number) q) _
         (rw (P .lists-are, placed (λ l. l .0) ls (a, b) room, placed (λ l. l .1) ls (a, b) room, sized, length-append ls ((a, b) ∷ [])))
         table (P .indexed)
         joined
         (e ∙ linked-sites marks a b (omega (arith, lengths)) (omega (arith, lengths)) ∙ ap (λ m. map (relabel (look m a) (look m b)) m) (P .labels-are) ∙ labels-join PLACES a b (reverse ls) (fits .1) (fits .2) ∙ ap (labels PLACES) (sym (link-behind a b)))
 
     -- a refused line decides
-    pub by-refusal : (n : ℕ) → w ≡ step.Refused n → andThen (readLines edition1 s (length s) 1 0 empty) finish ≡ refused n number
+    pub by-refusal : (n : ℕ) → w ≡ step.Refused n → andThen (readLines ed s (length s) 1 0 empty) finish ≡ refused n number
     unfolding andThen
-    by-refusal n q = rw (P .rest, lines-step edition1 s number at (P .read) h, line-is, q)
+    by-refusal n q = rw (P .rest, lines-step ed s number at (P .read) h, line-is, q)
 
   -- ---- after the last line
 
   module _ (h : length s ≤ at) where
-    finished : andThen (readLines edition1 s (length s) 1 0 empty) finish ≡ finish (P .read)
+    finished : andThen (readLines ed s (length s) 1 0 empty) finish ≡ finish (P .read)
     unfolding andThen
-    finished = rw (P .rest, lines-end edition1 s (length s - at) number at (P .read) h)
+    finished = rw (P .rest, lines-end ed s (length s - at) number at (P .read) h)
 
     all-joined : finish (P .read) ≡ cond (whole marks (net .sites)) (accepted (P .read)) (refused 8 0)
     unfolding finish
@@ -201,11 +205,11 @@ module _ {s table marks : List ℕ} {net : Lists} {at number : ℕ} (P : Progres
         rw (whole-sites marks (net .sites) (omega (arith, lengths)), alike-tells (P .read .links) PLACES 1 (length (P .read .names)) (omega arith) (omega (arith, P .sound .few)), ← (P .labels-are), ← sites-are)
 
     -- under two sites, or not all joined
-    pub by-parts : whole marks (net .sites) ≡ false → andThen (readLines edition1 s (length s) 1 0 empty) finish ≡ refused 8 0
+    pub by-parts : whole marks (net .sites) ≡ false → andThen (readLines ed s (length s) 1 0 empty) finish ≡ refused 8 0
     by-parts e = finished ∙ all-joined ∙ rw e
 
     -- else the network is that of the lists
     pub by-acceptance : whole marks (net .sites) ≡ true
-        → reading (andThen (readLines edition1 s (length s) 1 0 empty) finish) ≡ record { answer = Accepted; network = net }
+        → reading (andThen (readLines ed s (length s) 1 0 empty) finish) ≡ record { answer = Accepted; network = net }
     unfolding reading
     by-acceptance e = rw (finished, all-joined, e, ← (P .lists-are))

@@ -15,7 +15,7 @@ use Rattle.theory.specs.Sites.{length-upfrom, look-values}
 use Rattle.theory.specs.Fresh.{joined-reversed}
 use Rattle.sheet.specs.Sheet.{allJoined}
 use Rattle.labels.specs.Labels.{alike}
-use Rattle.sheet.specs.Steps.{labels}
+use Rattle.sheet.specs.Held.{labels}
 
 -- two equations that hold together are tested alike
 test-iff : (a b c d : ℕ) → (a ≡ b) ↔ (c ≡ d) → eqb a b ≡ eqb c d

@@ -1,12 +1,12 @@
 pub mod Sheet
 pub mod Reading
-pub mod Steps
+pub mod Held
 pub mod Causes
 pub mod ListLaws
 pub mod LabelLaws
+pub mod StepCases
 pub mod ReadLaws
 pub mod Sound
-pub mod StepLaws
 pub mod CauseLaws
 pub mod RefusalLaws
 pub mod SheetTheorem

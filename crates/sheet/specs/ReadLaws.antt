@@ -12,7 +12,9 @@ use Rattle.network.specs.declared.Edition.{Edition}
 use Rattle.lines.specs.Lines.{lineLength, lineAt, afterLine, hasLine}
 use Rattle.lines.specs.LineLaws.{no-line-past-the-sheet, after-line-is-later}
 use Rattle.line_kinds.specs.LineKinds.{kind}
-use Rattle.sheet.specs.Sheet.{Network, Read, refused, accepted, readHeading, readRecord, readLine, andThen, readLines}
+use Rattle.sheet.specs.Sheet.{Network, Read, refused, accepted, headingStep, recordStep, stepOf, added, readLine, andThen, readLines}
+use Rattle.sheet.specs.declared.stepping.Step.{Step}
+use Rattle.sheet.specs.declared.stepping.Step.the-variants.{Refused}
 
 -- a sheet is not refused and accepted
 not-both : {n k : ℕ} {net : Network} → refused n k ≡ accepted net → ⊥
@@ -62,11 +64,11 @@ module _ (ed : Edition) (s : List ℕ) where
 
   -- a line that is read is ended
   pub read-line-is-ended : (k at : ℕ) (net next : Network) → readLine ed s net k at ≡ accepted next → at + lineLength (drop at s) < length s
-  unfolding readLine
+  unfolding readLine stepOf
   read-line-is-ended k at net next =
       by (ltb (at + lineLength (drop at s)) (length s)) refl
-      (cond (eqb k 1) (readHeading net (kind (ed .size) (lineAt s at))) (readRecord ed s net k at (kind (ed .size) (lineAt s at))))
+      (cond (eqb k 1) (headingStep (kind (ed .size) (lineAt s at))) (recordStep ed s net at (kind (ed .size) (lineAt s at))))
     where
-      by : (t : Bool) → ltb (at + lineLength (drop at s)) (length s) ≡ t → (r : Read) → cond t r (refused 2 k) ≡ accepted next → at + lineLength (drop at s) < length s
-      by true e r p = ltb-true _ _ e
-      by false e r p = absurd (not-both p)
+      by : (t : Bool) → ltb (at + lineLength (drop at s)) (length s) ≡ t → (w : Step) → added net k (cond t w (Refused 2)) ≡ accepted next → at + lineLength (drop at s) < length s
+      by true e w p = ltb-true _ _ e
+      by false e w p = absurd (not-both p)

@@ -6,7 +6,7 @@ use lib.ListN.{length, replicate}
 use Rattle.network.specs.Limits.{SITES}
 use Rattle.sheet.specs.Sheet.{Network, empty, Read, refused, accepted}
 use Rattle.sheet.specs.declared.Answer.the-variants.{Accepted, Refused}
-use Rattle.sheet.specs.declared.Network.{Network as Lists}
+use Rattle.sheet.specs.declared.Lists.{Lists}
 use Rattle.sheet.specs.declared.Reading.{Reading}
 
 -- a list with zeros behind it, n places in all

@@ -10,9 +10,11 @@ use Rattle.network.specs.declared.Edition.{Edition}
 use Rattle.lines.specs.Lines.{lineLength, lineAt, afterLine, hasLine}
 use Rattle.line_kinds.specs.LineKinds.{kind}
 use Rattle.line_kinds.specs.declared.Line.{Line}
-use Rattle.line_kinds.specs.declared.Line.the-variants.{Heading, Site, Link, Fault}
+use Rattle.line_kinds.specs.declared.Line.the-variants as line
 use Rattle.names.specs.declared.Found.{Found}
 use Rattle.names.specs.declared.Found.the-variants.{At, Absent}
+use Rattle.sheet.specs.declared.stepping.Step.{Step}
+use Rattle.sheet.specs.declared.stepping.Step.the-variants.{Nothing, Site, Link, Refused}
 -- a part of the sheet, and the look-up of a name
 pub use Rattle.names.specs.Names.{part, lookup}
 unfoldable pub use Rattle.names.specs.Names.{lookupFrom}
@@ -33,49 +35,56 @@ pub data Read : Type 0 where
   refused : ℕ → ℕ → Read
   accepted : Network → Read
 
--- ---- a line read into the network: at offset `at`, with number k
+-- ---- what a line adds to the network read so far: the line at offset `at`, with number k
 
--- a site line: 4 where the sites are as many as the edition allows, then 5 where the name is given
-unfoldable pub newName : Network → ℕ → ℕ × ℕ → Found → Read
-newName net k r (At v) = refused 5 k
-newName net k r Absent = accepted (record { names = net .names ++ (r ∷ []); links = net .links; capacities = net .capacities })
+-- a site line, by what the look-up of its name found: 5 where the name is given
+abbrev pub siteBy : ℕ × ℕ → Found → Step
+siteBy r (At v) = Refused 5
+siteBy r Absent = Site (r .0) (r .1)
 
-unfoldable pub addSite : Edition → List ℕ → Network → ℕ → ℕ × ℕ → Read
-addSite ed s net k r =
-    cond (leb (ed .sites) (length (net .names))) (refused 4 k) (newName net k r (lookup s (net .names) (part s r)))
+-- a site line after n sites: 4 where they are as many as the edition allows, then 5
+unfoldable pub siteStep : Edition → ℕ → ℕ × ℕ → Found → Step
+siteStep ed n r found = cond (leb (ed .sites) n) (Refused 4) (siteBy r found)
 
--- a link line: 6 where a name is not given above, then 7 where its sites are joined by links above, or are one site
-unfoldable pub newLink : Network → ℕ → ℕ → Found → Found → Read
-newLink net k size Absent w = refused 6 k
-newLink net k size (At a) Absent = refused 6 k
-newLink net k size (At a) (At b) =
-    cond (eqb (joined (net .links) a b) 1) (refused 7 k)
-    (accepted (record { names = net .names; links = net .links ++ ((a, b) ∷ []); capacities = net .capacities ++ (size ∷ []) }))
-
-unfoldable pub addLink : List ℕ → Network → ℕ → ℕ × ℕ → ℕ × ℕ → ℕ → Read
-addLink s net k r q size = newLink net k size (lookup s (net .names) (part s r)) (lookup s (net .names) (part s q))
+-- a link line, by what the look-ups of its names found: 6 where one is not given above, then 7 where its sites are joined by links above, or are one site
+unfoldable pub linkStep : Links → ℕ → Found → Found → Step
+linkStep ls size Absent w = Refused 6
+linkStep ls size (At a) Absent = Refused 6
+linkStep ls size (At a) (At b) = cond (eqb (joined ls a b) 1) (Refused 7) (Link a b size)
 
 -- line 1 is the heading
-unfoldable pub readHeading : Network → Line → Read
-readHeading net Heading = accepted net
-readHeading net (Site a e) = refused 2 1
-readHeading net (Link a e b f size) = refused 2 1
-readHeading net (Fault n) = refused 2 1
+unfoldable pub headingStep : Line → Step
+headingStep line.Heading = Nothing
+headingStep (line.Site a e) = Refused 2
+headingStep (line.Link a e b f size) = Refused 2
+headingStep (line.Fault n) = Refused 2
 
 -- a later line is a site or a link
-unfoldable pub readRecord : Edition → List ℕ → Network → ℕ → ℕ → Line → Read
-readRecord ed s net k at Heading = refused 2 k
-readRecord ed s net k at (Site a e) = addSite ed s net k (at + a, at + e)
-readRecord ed s net k at (Link a e b f size) = addLink s net k (at + a, at + e) (at + b, at + f) size
-readRecord ed s net k at (Fault n) = refused n k
+unfoldable pub recordStep : Edition → List ℕ → Network → ℕ → Line → Step
+recordStep ed s net at line.Heading = Refused 2
+recordStep ed s net at (line.Site a e) = siteStep ed (length (net .names)) (at + a, at + e) (lookup s (net .names) (part s (at + a, at + e)))
+recordStep ed s net at (line.Link a e b f size) =
+    linkStep (net .links) size (lookup s (net .names) (part s (at + a, at + e))) (lookup s (net .names) (part s (at + b, at + f)))
+recordStep ed s net at (line.Fault n) = Refused n
 
 -- a line that no byte 10 ends is of the wrong form, before any other fault
-unfoldable pub readLine : Edition → List ℕ → Network → ℕ → ℕ → Read
-readLine ed s net k at =
+unfoldable pub stepOf : Edition → List ℕ → Network → ℕ → ℕ → Step
+stepOf ed s net k at =
     let line = kind (ed .size) (lineAt s at) in
     cond (ltb (at + lineLength (drop at s)) (length s))
-    (cond (eqb k 1) (readHeading net line) (readRecord ed s net k at line))
-    (refused 2 k)
+    (cond (eqb k 1) (headingStep line) (recordStep ed s net at line))
+    (Refused 2)
+
+-- the network with what a line adds, or its refusal at line k
+abbrev pub added : Network → ℕ → Step → Read
+added net k Nothing = accepted net
+added net k (Site a e) = accepted (record { names = net .names ++ ((a, e) ∷ []); links = net .links; capacities = net .capacities })
+added net k (Link a b size) = accepted (record { names = net .names; links = net .links ++ ((a, b) ∷ []); capacities = net .capacities ++ (size ∷ []) })
+added net k (Refused n) = refused n k
+
+-- a line read
+unfoldable pub readLine : Edition → List ℕ → Network → ℕ → ℕ → Read
+readLine ed s net k at = added net k (stepOf ed s net k at)
 
 -- ---- the sheet
 

@@ -27,7 +27,8 @@ use Rattle.names.specs.Lists.{one-more}
 use Rattle.names.specs.LookupLaws.{Says, lookup-says}
 use Rattle.names.specs.declared.Found.{Found}
 use Rattle.names.specs.declared.Found.the-variants.{At, Absent}
-use Rattle.sheet.specs.Sheet.{Network, empty, Read, refused, accepted, part, lookup, newName, addSite, newLink, addLink, readHeading, readRecord, readLine, andThen, readLines}
+use Rattle.sheet.specs.Sheet.{Network, empty, Read, refused, accepted, part, lookup, siteBy, siteStep, linkStep, headingStep, recordStep, stepOf, added, readLine, andThen, readLines}
+use Rattle.sheet.specs.declared.stepping.Step.the-variants.{Link, Refused}
 
 -- a range of the sheet that holds a name
 pub record IsNameRange (s : List ℕ) (r : ℕ × ℕ) : Type 0 where
@@ -105,50 +106,51 @@ module _ (ed : Edition) (s : List ℕ) (net : Network) (k : ℕ) (sound : Sound 
     sizes = one-more (λ i c. c ≤ ed .size) (net .capacities) size 0 (sound .sizes) h;
   }
 
-  site-line : (r : ℕ × ℕ) → IsNameRange s r → Accepts (Sound ed s) (addSite ed s net k r)
-  unfolding addSite newName
+  site-line : (r : ℕ × ℕ) → IsNameRange s r → Accepts (Sound ed s) (added net k (siteStep ed (length (net .names)) r (lookup s (net .names) (part s r))))
+  unfolding siteStep
   site-line r named = by (leb (ed .sites) (length (net .names))) refl (lookup s (net .names) (part s r)) (lookup-says s (part s r) (net .names) 1)
     where
-      by : (t : Bool) → leb (ed .sites) (length (net .names)) ≡ t → (w : Found) → Says s (net .names) 1 (part s r) w → Accepts (Sound ed s) (cond t (refused 4 k) (newName net k r w))
+      by : (t : Bool) → leb (ed .sites) (length (net .names)) ≡ t → (w : Found) → Says s (net .names) 1 (part s r) w → Accepts (Sound ed s) (added net k (cond t (Refused 4) (siteBy r w)))
       by true e w h = tt
       by false e (At v) h = tt
       by false e Absent h = new-site r named (leb-false _ _ e) h
 
-  link-line : (r q : ℕ × ℕ) (size : ℕ) → size ≤ ed .size → Accepts (Sound ed s) (addLink s net k r q size)
-  unfolding addLink newLink joined
+  link-line : (r q : ℕ × ℕ) (size : ℕ) → size ≤ ed .size
+      → Accepts (Sound ed s) (added net k (linkStep (net .links) size (lookup s (net .names) (part s r)) (lookup s (net .names) (part s q))))
+  unfolding linkStep joined
   link-line r q size h =
       by (lookup s (net .names) (part s r)) (lookup s (net .names) (part s q)) (lookup-says s (part s r) (net .names) 1) (lookup-says s (part s q) (net .names) 1)
     where
       either : (a b : ℕ) → Site (length (net .names)) a → Site (length (net .names)) b → (t : Bool) → eqb (joined (net .links) a b) 1 ≡ t
-          → Accepts (Sound ed s) (cond t (refused 7 k) (accepted (record { names = net .names; links = net .links ++ ((a, b) ∷ []); capacities = net .capacities ++ (size ∷ []) })))
+          → Accepts (Sound ed s) (added net k (cond t (Refused 7) (Link a b size)))
       either a b p q true e = tt
       either a b p q false e = new-link a b size p q (λ z. eqb-false _ _ e (is-same (joined-reversed (net .links) a b .0 z))) h
 
-      by : (u w : Found) → Says s (net .names) 1 (part s r) u → Says s (net .names) 1 (part s q) w → Accepts (Sound ed s) (newLink net k size u w)
+      by : (u w : Found) → Says s (net .names) 1 (part s r) u → Says s (net .names) 1 (part s q) w → Accepts (Sound ed s) (added net k (linkStep (net .links) size u w))
       by Absent w p j = tt
       by (At a) Absent p j = tt
       by (At a) (At b) p j = either a b (omega arith) (omega arith) (eqb (joined (net .links) a b) 1) refl
 
   -- a line that is read without fault keeps what holds
   pub a-line-keeps-sound : (at : ℕ) → at ≤ length s → Accepts (Sound ed s) (readLine ed s net k at)
-  unfolding readLine readHeading readRecord
+  unfolding readLine stepOf headingStep recordStep
   a-line-keeps-sound at b =
       by (ltb (at + lineLength (drop at s)) (length s)) (eqb k 1) (kind (ed .size) (lineAt s at)) (kinds-are-formed (ed .size) (lineAt s at))
     where
-      heading : (w : Line) → Accepts (Sound ed s) (readHeading net w)
+      heading : (w : Line) → Accepts (Sound ed s) (added net k (headingStep w))
       heading line.Heading = sound
       heading (line.Site a e) = tt
       heading (line.Link a e c f size) = tt
       heading (line.Fault n) = tt
 
-      later : (w : Line) → Formed (ed .size) (lineAt s at) w → Accepts (Sound ed s) (readRecord ed s net k at w)
+      later : (w : Line) → Formed (ed .size) (lineAt s at) w → Accepts (Sound ed s) (added net k (recordStep ed s net at w))
       later line.Heading h = tt
       later (line.Site a e) h = site-line (at + a, at + e) (line-name s at a e b (h .0) (h .1) (h .2))
       later (line.Link a e c f size) h = link-line (at + a, at + e) (at + c, at + f) size (h .4)
       later (line.Fault n) h = tt
 
       by : (t u : Bool) (w : Line) → Formed (ed .size) (lineAt s at) w
-          → Accepts (Sound ed s) (cond t (cond u (readHeading net w) (readRecord ed s net k at w)) (refused 2 k))
+          → Accepts (Sound ed s) (added net k (cond t (cond u (headingStep w) (recordStep ed s net at w)) (Refused 2)))
       by false u w h = tt
       by true true w h = heading w
       by true false w h = later w h

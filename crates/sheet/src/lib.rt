@@ -1,13 +1,17 @@
 // Reading a network sheet (document 01, "The network sheet"): from its bytes to the network and the names, or to its refusal.
 ghost use mathlib.Core.Path.{_≡_};
+ghost use Prim.Native.Nat.{_≤_};
 ghost use lib.ListN.{length};
+ghost use Rattle.network.specs.Limits.{SITES};
 ghost use Rattle.network.specs.Edition.{edition1};
 ghost use Rattle.sheet.specs.Sheet.{empty, refused, readLines, andThen, finish, readSheet, nameOf};
 ghost use Rattle.sheet.specs.Reading.{lists, reading};
+mod stepping;
+
 use names::HASHES;
 use network::Edition;
 use network::SITES;
-use steps::Step;
+use stepping::Step;
 
 // What a sheet is answered: accepted, or refused with the refusal's number and its line.
 pub enum Answer {
@@ -17,7 +21,7 @@ pub enum Answer {
 
 // The network of a sheet: for each site the range of its name on the sheet, for each link its two sites and its capacity, each in the
 // order of the sheet, with zeros behind them; and how many sites and links there are.
-pub struct Network {
+pub struct Lists {
     pub start: [usize; SITES],
     pub end: [usize; SITES],
     pub one: [usize; SITES],
@@ -30,14 +34,14 @@ pub struct Network {
 // What reading a sheet comes to; the network of a sheet that is refused is empty.
 pub struct Reading {
     pub answer: Answer,
-    pub network: Network,
+    pub network: Lists,
 }
 
 // The network of no sites.
-fn nothing() -> Network
+fn nothing() -> Lists
     ensures { λ r. ⌜ r ≡ lists empty ⌝ }
 {
-    Network {
+    Lists {
         start: [0; SITES],
         end: [0; SITES],
         one: [0; SITES],
@@ -59,8 +63,9 @@ fn refusal(number: u64, line: usize) -> Reading
 }
 
 // What the lines of a sheet come to.
-fn read_lines(sheet: &[u8]) -> Reading
-    ensures { λ r. ⌜ r ≡ reading (andThen (readLines edition1 (now (sheet .entry)) (length (now (sheet .entry))) 1 0 empty) finish) ⌝ }
+fn read_lines(sheet: &[u8], edition: Edition) -> Reading
+    requires { ⌜ edition .sites ≤ SITES ⌝ }
+    ensures { λ r. ⌜ r ≡ reading (andThen (readLines edition (now (sheet .entry)) (length (now (sheet .entry))) 1 0 empty) finish) ⌝ }
 {
     let mut net = nothing();
     let mut table = [0u16; HASHES];
@@ -69,7 +74,8 @@ fn read_lines(sheet: &[u8]) -> Reading
     let mut number = 1;
     while at < sheet.len() {
         let line = lines::line(sheet, at);
-        let step = steps::step_at(
+        let step = stepping::step_at(
+            edition,
             sheet,
             line,
             &net.start,
@@ -114,17 +120,25 @@ fn read_lines(sheet: &[u8]) -> Reading
     }
 }
 
-// A sheet read: its network, or its refusal (01: check 1 comes first).
-pub fn read(sheet: &[u8]) -> Reading
-    ensures { λ r. ⌜ r ≡ reading (readSheet edition1 (now (sheet .entry))) ⌝ }
+// A sheet of an edition read: its network, or its refusal (01: check 1 comes first).
+fn read_sheet(sheet: &[u8], edition: Edition) -> Reading
+    requires { ⌜ edition .sites ≤ SITES ⌝ }
+    ensures { λ r. ⌜ r ≡ reading (readSheet edition (now (sheet .entry))) ⌝ }
 {
     if sheet.len() < 1 {
         return refusal(1, 0);
     }
-    if sheet.len() > Edition::BYTES {
+    if sheet.len() > edition.bytes {
         return refusal(1, 0);
     }
-    read_lines(sheet)
+    read_lines(sheet, edition)
+}
+
+// A sheet of the first edition read.
+pub fn read(sheet: &[u8]) -> Reading
+    ensures { λ r. ⌜ r ≡ reading (readSheet edition1 (now (sheet .entry))) ⌝ }
+{
+    read_sheet(sheet, Edition::first())
 }
 
 // The name of a site, by its number: the bytes of its own `N` line; no bytes for a number without a site, or over a sheet that is refused.

@@ -1,60 +1,68 @@
--- `classify` meets its contract: by the first field and what follows it.
-use mathlib.Core.Path.{sym, _∙_}
-use Rattle.fields.specs.FieldLaws.{same-are-equal}
-use Rattle.line_kinds.specs.LineKinds.{kindOf}
-use Rattle.line_kinds.specs.LinesByRest.{kind-by-rest, starts-with-L, no-line}
+-- `classify` meets its contract: a heading, or by the first field.
+use mathlib.Core.Path.{_≡_, sym, _∙_}
+use native.Mathlib.Omega.{arith}
+use Rattle.network.specs.Text.{bytes}
+use Rattle.fields.specs.Fields.{same, fields, field}
+use Rattle.grammar.specs.SplitLaws.{count-of-split}
+use Rattle.line_kinds.specs.LineKinds.{kindOf, kind}
 use borrow.Author.Needs.{needs}
 use Rattle.line_kinds.proofs.classify.Statement.{statement}
 use Rattle.line_kinds.proofs.classify.Tie as tie
+use Rattle.line_kinds.proofs.classify.Reads as reads
+use Rattle.line_kinds.proofs.classify.Lts as lts
+use Rattle.fields.proofs.is_byte.Reads as is-byte-reads
+use Rattle.grammar.proofs.field.Reads as field-reads
+use Rattle.grammar.proofs.split.Reads as split-reads
+use Rattle.line_kinds.proofs.is_heading.Reads as is-heading-reads
+use Rattle.line_kinds.proofs.link.Reads as link-reads
+use Rattle.line_kinds.proofs.site.Reads as site-reads
 
-first-field-requires : tie.Need-first-field-requires
-first-field-requires c κs = search needs
-
-after-requires : tie.Need-after-requires
-after-requires c κs = search needs
+split-requires : tie.Need-split-requires
+split-requires c κs = search needs
 
 is-heading-requires : tie.Need-is-heading-requires
 is-heading-requires c κs = search needs
 
+-- what the first field is found to be
+first-is : (c : tie.After-is-byte) → c .is-byte .result ≡ same (field (fields (c .before .before .before .before .before .before .args .line .now)) 0) (bytes "L")
+first-is c = rw (c .before .field .ensures) at (c .is-byte .ensures)
+
 returns : tie.Need-returns
-unfolding kindOf
-returns c = rw (kind-by-rest _ _ _ _ (c .before .before .before .first-field .ensures) (c .before .before .after .ensures), sym (c .before .is-heading .ensures) ∙ c .if1 .taken)
+unfolding kind kindOf
+returns c = rw (sym (c .before .is-heading .ensures) ∙ c .if1 .taken)
+
+field-requires : tie.Need-field-requires
+field-requires c κs =
+    let split = c .before .before .split in
+    (split .ensures, omega arith, omega (arith, count-of-split (c .before .before .before .before .args .line .now) (split .result) (split .ensures)))
 
 is-byte-requires : tie.Need-is-byte-requires
 is-byte-requires c κs = search needs
 
+link-requires : tie.Need-link-requires
+link-requires c κs = search needs
+
+returns-2 : tie.Need-returns-2
+unfolding kind kindOf
+returns-2 c = rw (sym (c .before .before .before .before .before .is-heading .ensures) ∙ c .before .before .before .before .if1 .left, sym (first-is (c .before .before)) ∙ c .before .if2 .taken) (c .link .ensures)
+
 site-requires : tie.Need-site-requires
 site-requires c κs = search needs
 
-returns-2 : tie.Need-returns-2
-returns-2 c = rw (kind-by-rest _ _ _ _ (c .before .before .before .before .before .before .first-field .ensures) (c .before .before .before .before .before .after .ensures), same-are-equal _ _ (sym (c .before .before .is-byte .ensures) ∙ c .before .if2 .taken)) (c .site .ensures _)
-
-is-byte-requires-2 : tie.Need-is-byte-requires-2
-is-byte-requires-2 c κs = search needs
-
-link-from-requires : tie.Need-link-from-requires
-link-from-requires c κs = search needs
-
 returns-3 : tie.Need-returns-3
-returns-3 c = rw (kind-by-rest _ _ _ _ (c .before .before .before .before .before .before .before .before .first-field .ensures) (c .before .before .before .before .before .before .before .after .ensures), starts-with-L _ _ _ (sym (c .before .before .is-byte2 .ensures) ∙ c .before .if3 .taken)) (c .link-from .ensures)
-
-returns-4 : tie.Need-returns-4
-returns-4 c =
-    rw (kind-by-rest _ _ _ _ (c .before .before .before .before .before .before .before .first-field .ensures) (c .before .before .before .before .before .before .after .ensures))
-    (sym (no-line _ _ _ (sym (c .before .before .before .before .before .is-heading .ensures) ∙ c .before .before .before .before .if1 .left) (sym (c .before .before .before .is-byte .ensures) ∙ c .before .before .if2 .left) (sym (c .before .is-byte2 .ensures) ∙ c .if3 .left)))
+unfolding kind kindOf
+returns-3 c = rw (sym (c .before .before .before .before .before .is-heading .ensures) ∙ c .before .before .before .before .if1 .left, sym (first-is (c .before .before)) ∙ c .before .if2 .left) (c .site .ensures)
 
 pub classify-spec : {M : Type 1} → statement M
 classify-spec =
     tie.close
     (tie.spec
-    first-field-requires
-    after-requires
+    split-requires
     is-heading-requires
     returns
+    field-requires
     is-byte-requires
-    site-requires
+    link-requires
     returns-2
-    is-byte-requires-2
-    link-from-requires
-    returns-3
-    returns-4)
+    site-requires
+    returns-3)

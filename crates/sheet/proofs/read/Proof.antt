@@ -1,32 +1,18 @@
--- `read` meets its contract: the length first, then the lines.
-use borrow.Author.Tests.{le-leb, lt-leb}
-use Rattle.sheet.specs.Sheet.{readSheet}
+-- `read` meets its contract: the first edition is within the limits.
+use mathlib.Core.Path.{_≡_}
+use native.Mathlib.Omega.{arith}
 use borrow.Author.Needs.{needs}
 use Rattle.sheet.proofs.read.Statement.{statement}
 use Rattle.sheet.proofs.read.Tie as tie
 
-refusal-requires : tie.Need-refusal-requires
-refusal-requires c κs = search needs
+first-requires : tie.Need-first-requires
+first-requires c κs = search needs
+
+read-sheet-requires : tie.Need-read-sheet-requires
+read-sheet-requires c κs = rw (c .first .ensures) (omega arith)
 
 returns : tie.Need-returns
-unfolding readSheet
-returns c = rw (lt-leb _ _ (c .before .if1 .taken)) (c .refusal .ensures)
-
-refusal-requires-2 : tie.Need-refusal-requires-2
-refusal-requires-2 c κs = search needs
-
-returns-2 : tie.Need-returns-2
-unfolding readSheet
-returns-2 c = rw (le-leb _ _ (c .before .before .if1 .left), lt-leb _ _ (c .before .if2 .taken)) (c .refusal2 .ensures)
-
-read-lines-requires : tie.Need-read-lines-requires
-read-lines-requires c κs = search needs
-
-returns-3 : tie.Need-returns-3
-unfolding readSheet
-returns-3 c = rw (le-leb _ _ (c .before .before .if1 .left), le-leb _ _ (c .before .if2 .left)) (c .read-lines .ensures)
+returns c = rw (c .before .first .ensures) at (c .read-sheet .ensures)
 
 pub read-spec : {M : Type 1} → statement M
-read-spec =
-    tie.close
-    (tie.spec refusal-requires returns refusal-requires-2 returns-2 read-lines-requires returns-3)
+read-spec = tie.close (tie.spec first-requires read-sheet-requires returns)

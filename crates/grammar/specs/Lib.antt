@@ -1,0 +1,4 @@
+pub mod Grammar
+pub mod SizeLaws
+pub mod SplitLaws
+pub mod FormLaws

@@ -1,0 +1,59 @@
+-- `link_step` meets its contract: look-up by look-up, then the labels.
+use mathlib.Core.Path.{subst}
+use Prim.Native.Nat.{_<_}
+use native.Mathlib.Omega.{arith}
+use borrow.Author.Needs.{needs}
+use borrow.Author.Tests.{eq-eqb, ne-eqb}
+use Rattle.network.specs.Limits.{PLACES}
+use Rattle.network.specs.Numbers.{look}
+use Rattle.sheet.specs.Sheet.{linkStep}
+use Rattle.sheet.specs.StepCases.{Labelled}
+use Rattle.sheet.specs.LabelLaws.{labels-tell}
+use Rattle.sheet.proofs.stepping.link_step.Statement.{statement}
+use Rattle.sheet.proofs.stepping.link_step.Tie as tie
+
+-- the sites found have labels
+first-site : (c : tie.After-known-told) → c .before .first .given .0 .0 < PLACES
+first-site c = subst (Labelled PLACES) (c .before .first .given .1) (c .before .before .before .pre .0)
+
+second-site : (c : tie.After-known-told2) → c .before .second .given .0 .0 < PLACES
+second-site c = subst (Labelled PLACES) (c .before .second .given .1) (c .before .before .before .before .before .before .pre .1)
+
+returns : tie.Need-returns
+unfolding linkStep
+returns c = λ ls h. rw (c .enum-told .given .1)
+
+returns-2 : tie.Need-returns-2
+unfolding linkStep
+returns-2 c = λ ls h. rw (c .before .before .before .first .given .1, c .enum-told2 .given .1)
+
+returns-3 : tie.Need-returns-3
+unfolding linkStep
+returns-3 c = λ ls h.
+    let one = c .before .before .before .before .before .before .before .first .given in
+    let two = c .before .before .before .before .second .given in
+    rw (one .1, two .1, labels-tell ls PLACES (one .0 .0) (two .0 .0) (first-site (c .before .before .before .before .before .before)) (second-site (c .before .before .before)), ← h, eq-eqb _ _ (c .if1 .taken))
+
+returns-4 : tie.Need-returns-4
+unfolding linkStep
+returns-4 c = λ ls h.
+    let one = c .before .before .before .before .before .before .before .first .given in
+    let two = c .before .before .before .before .second .given in
+    rw (one .1, two .1, labels-tell ls PLACES (one .0 .0) (two .0 .0) (first-site (c .before .before .before .before .before .before)) (second-site (c .before .before .before)), ← h, ne-eqb _ _ (c .if1 .left))
+
+pub link-step-spec : {M : Type 1} → statement M
+link-step-spec =
+    tie.close
+    (tie.spec
+    (λ c. search needs)
+    (λ c. search needs)
+    returns
+    (λ c. search needs)
+    (λ c. search needs)
+    returns-2
+    (λ c. omega (arith, first-site (c .before .before .before)))
+    (λ c. first-site (c .before .before .before))
+    (λ c. omega (arith, second-site (c .before)))
+    (λ c. second-site (c .before))
+    returns-3
+    returns-4)

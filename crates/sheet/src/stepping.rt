@@ -1,0 +1,138 @@
+// What a line of a network sheet adds to the network read so far (document 01, "The network sheet"), or the number of its refusal.
+ghost use mathlib.Core.Path.{_≡_};
+ghost use Prim.Native.Nat.{_+_, _≤_, _<_};
+ghost use lib.ListN.{length};
+ghost use Rattle.network.specs.Limits.{PLACES, SITES};
+ghost use Rattle.network.specs.Network.{Links};
+ghost use Rattle.lines.specs.Lines.{lineAt};
+ghost use Rattle.line_kinds.specs.FormedLines.{Formed};
+ghost use Rattle.names.specs.Names.{ranges, Indexes};
+ghost use Rattle.sheet.specs.Sheet.{Network, siteStep, linkStep, headingStep, recordStep, stepOf};
+ghost use Rattle.sheet.specs.Held.{LabelsOf, Held};
+ghost use Rattle.sheet.specs.StepCases.{Labelled};
+use line_kinds::Line;
+use names::Found;
+use names::HASHES;
+use network::Edition;
+use network::PLACES;
+use network::SITES;
+
+// What a line adds to the network, or the number of its refusal.
+pub enum Step {
+    Nothing,
+    Site { start: usize, end: usize },
+    Link { one: usize, two: usize, size: u64 },
+    Refused(u64),
+}
+
+// What a site line adds, its name being the part from a start to an end, by what the look-up of the name found.
+fn site_step(edition: Edition, sites: usize, found: Found, start: usize, end: usize) -> Step
+    ensures { λ r. ⌜ r ≡ siteStep edition sites (start, end) found ⌝ }
+{
+    if sites >= edition.sites {
+        return Step::Refused(4);
+    }
+    match found {
+        Found::At(_) => Step::Refused(5),
+        Found::Absent => Step::Site { start, end },
+    }
+}
+
+// What a link line adds, by what the look-ups of its two names found, and the labels of the sites.
+fn link_step(labels: &[u16; PLACES], first: Found, second: Found, size: u64) -> Step
+    requires { ⌜ Labelled PLACES first × Labelled PLACES second ⌝ }
+    ensures { λ r. ⌜ ((ls : Links) → LabelsOf ls (now (labels .entry)) → r ≡ linkStep ls size first second) ⌝ }
+{
+    let Found::At(one) = first else {
+        return Step::Refused(6);
+    };
+    let Found::At(two) = second else {
+        return Step::Refused(6);
+    };
+    if labels[one] == labels[two] {
+        return Step::Refused(7);
+    }
+    Step::Link { one, two, size }
+}
+
+// What line 1 adds.
+fn heading_step(line: Line) -> Step
+    ensures { λ r. ⌜ r ≡ headingStep line ⌝ }
+{
+    match line {
+        Line::Heading => Step::Nothing,
+        Line::Site { start: _, end: _ } => Step::Refused(2),
+        Line::Link {
+            start: _,
+            end: _,
+            start2: _,
+            end2: _,
+            size: _,
+        } => Step::Refused(2),
+        Line::Fault(_) => Step::Refused(2),
+    }
+}
+
+// What a later line adds, at an offset.
+fn record_step(
+    edition: Edition,
+    sheet: &[u8],
+    starts: &[usize; SITES],
+    ends: &[usize; SITES],
+    sites: usize,
+    table: &[u16; HASHES],
+    labels: &[u16; PLACES],
+    at: usize,
+    line: Line,
+) -> Step
+    requires { ⌜ (sites ≤ SITES) × Indexes (now sheet) (ranges (now starts) (now ends) 0 sites) (now table) × (at + length (lineAt (now sheet) at) < length (now sheet)) × Formed (edition .size) (lineAt (now sheet) at) line ⌝ }
+    ensures { λ r. ⌜ ((net : Network) → Held (now (starts .entry)) (now (ends .entry)) sites (now (labels .entry)) net → r ≡ recordStep edition (now (sheet .entry)) net at line) ⌝ }
+{
+    match line {
+        Line::Heading => Step::Refused(2),
+        Line::Site { start, end } => {
+            let from = at + start;
+            let to = at + end;
+            let found = names::find(sheet, starts, ends, sites, table, from, to);
+            site_step(edition, sites, found, from, to)
+        }
+        Line::Link {
+            start,
+            end,
+            start2,
+            end2,
+            size,
+        } => {
+            let first = names::find(sheet, starts, ends, sites, table, at + start, at + end);
+            let second = names::find(sheet, starts, ends, sites, table, at + start2, at + end2);
+            link_step(labels, first, second, size)
+        }
+        Line::Fault(n) => Step::Refused(n),
+    }
+}
+
+// What the line at an offset adds, `number` being its number, to any network that the lists and the labels hold.
+pub fn step_at<'a>(
+    edition: Edition,
+    sheet: &[u8],
+    line: &[u8],
+    starts: &'a [usize; SITES],
+    ends: &'a [usize; SITES],
+    sites: usize,
+    table: &[u16; HASHES],
+    labels: &[u16; PLACES],
+    number: usize,
+    at: usize,
+) -> Step
+    requires { ⌜ (sites ≤ SITES) × Indexes (now sheet) (ranges (now starts) (now ends) 0 sites) (now table) × (at ≤ length (now sheet)) × (now line ≡ lineAt (now sheet) at) ⌝ }
+    ensures { λ r. ⌜ ((net : Network) → Held (now (starts .entry)) (now (ends .entry)) sites (now (labels .entry)) net → r ≡ stepOf edition (now (sheet .entry)) net number at) ⌝ }
+{
+    if at + line.len() >= sheet.len() {
+        return Step::Refused(2);
+    }
+    let kind = line_kinds::classify(line, edition.size);
+    if number == 1 {
+        return heading_step(kind);
+    }
+    record_step(edition, sheet, starts, ends, sites, table, labels, at, kind)
+}
