@@ -11,7 +11,7 @@ pub fn own_labels() -> [u16; PLACES]
     ensures { λ r. ⌜ r ≡ upfrom 0 PLACES ⌝ }
 {
     let mut labels = [0u16; PLACES];
-    for x in 0..257 {
+    for x in 0..PLACES {
         labels[x] = x as u16;
     }
     labels
