@@ -87,7 +87,7 @@ module _ (most : ℕ) (l : List ℕ) where
   fault-2-is-the-wrong-form = (
     λ e. ⊎-elim (λ h. h .1) (λ h. absurd (omega (arith, h .0))) (subst Faulty e faulty),
     λ h. rw (h .no-heading, wrong (checked linkForm (fields l)) (sizedLink most (fields l)) (h .no-link), wrong (checked siteForm (fields l)) _ (h .no-site))
-    (either (same (field (fields l) 0) (bytes "L"))),
+        (either (same (field (fields l) 0) (bytes "L"))),
   )
     where
       either : (t : Bool) → cond t (Fault 2) (Fault 2) ≡ Fault 2

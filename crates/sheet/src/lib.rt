@@ -6,6 +6,7 @@ ghost use Rattle.network.specs.Limits.{SITES};
 ghost use Rattle.network.specs.Edition.{edition1};
 ghost use Rattle.sheet.specs.Sheet.{empty, refused, readLines, andThen, finish, readSheet, nameOf};
 ghost use Rattle.sheet.specs.Reading.{lists, reading};
+
 mod stepping;
 
 use names::HASHES;

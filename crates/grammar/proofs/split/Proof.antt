@@ -9,9 +9,6 @@ use Rattle.grammar.specs.Grammar.{FIELDS, split}
 use Rattle.grammar.specs.SplitLaws.{Left, split-from-start, split-at-tab, split-at-other, split-at-end}
 use Rattle.grammar.proofs.split.Statement.{statement}
 use Rattle.grammar.proofs.split.Tie as tie
-use Rattle.grammar.proofs.split.Reads as reads
-use Rattle.grammar.proofs.split.Lts as lts
-use Rattle.grammar.proofs.mark.Reads as mark-reads
 
 abbrev Inv-loop : tie.InvT-loop
 Inv-loop line end₀ count₀ i₀ end count i = (i ≤ length line) × (count ≤ i) × (length end ≡ FIELDS) × (split line ≡ Left line end count i)
@@ -44,14 +41,20 @@ loop-again c =
     ⊎-elim
     (λ w.
     let marked : c .if1 .end ≡ set (l .end) (l .count) (l .i) = w .3 ∙ w .2 .ensures in
-    let counted : c .if1 .count ≡ l .count + 1 = w .4 in
-    (omega arith, omega arith, rw marked (length-set (l .end) (l .count) (l .i) ∙ l .inv .2),
-    rw (marked, counted) (l .inv .3 ∙ split-at-tab line (l .end) (l .count) (l .i) (omega arith) (w .0 .taken))))
+    let counted : c .if1 .count ≡ l .count + 1 = w .4 in (
+      omega arith,
+      omega arith,
+      rw marked (length-set (l .end) (l .count) (l .i) ∙ l .inv .2),
+      rw (marked, counted) (l .inv .3 ∙ split-at-tab line (l .end) (l .count) (l .i) (omega arith) (w .0 .taken)),
+    ))
     (λ w.
     let unmarked : c .if1 .end ≡ l .end = w .1 in
-    let uncounted : c .if1 .count ≡ l .count = w .2 in
-    (omega arith, omega arith, rw unmarked (l .inv .2),
-    rw (unmarked, uncounted) (l .inv .3 ∙ split-at-other line (l .end) (l .count) (l .i) (omega arith) (w .0 .left))))
+    let uncounted : c .if1 .count ≡ l .count = w .2 in (
+      omega arith,
+      omega arith,
+      rw unmarked (l .inv .2),
+      rw (unmarked, uncounted) (l .inv .3 ∙ split-at-other line (l .end) (l .count) (l .i) (omega arith) (w .0 .left)),
+    ))
     (c .if1 .came)
 
 mark-requires-2 : tie.Need-mark-requires-2 Inv-loop μ-loop
