@@ -14,10 +14,6 @@ use Rattle.grammar.specs.FormLaws.{fields-step}
 use Rattle.grammar.specs.declared.Check.the-variants.{Name, Number}
 use Rattle.grammar.proofs.check_fields.Statement.{statement}
 use Rattle.grammar.proofs.check_fields.Tie as tie
-use Rattle.grammar.proofs.check_fields.Reads as reads
-use Rattle.grammar.proofs.check_fields.Lts as lts
-use Rattle.grammar.proofs.field.Reads as field-reads
-use Rattle.grammar.proofs.is_right.Reads as is-right-reads
 
 abbrev Inv-loop : tie.InvT-loop
 Inv-loop line found names k₀ k = (1 ≤ k) × (k ≤ found .count) × (checkedFields names (drop 1 (fields line)) ≡ checkedFields (names + 1 - k) (drop k (fields line)))

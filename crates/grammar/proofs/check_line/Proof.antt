@@ -9,11 +9,6 @@ use Rattle.grammar.specs.FormLaws.{another-letter, too-few, too-many, ri
 use borrow.Author.Needs.{needs}
 use Rattle.grammar.proofs.check_line.Statement.{statement}
 use Rattle.grammar.proofs.check_line.Tie as tie
-use Rattle.grammar.proofs.check_line.Reads as reads
-use Rattle.grammar.proofs.check_line.Lts as lts
-use Rattle.fields.proofs.is_byte.Reads as is-byte-reads
-use Rattle.grammar.proofs.check_fields.Reads as check-fields-reads
-use Rattle.grammar.proofs.field.Reads as field-reads
 
 -- what the test of the letter says
 tested : (c : tie.After-is-byte) → let a = c .before .before .before .args in c .is-byte .result ≡ same (field (fields (a .line .now)) 0) (a .form .letter ∷ [])

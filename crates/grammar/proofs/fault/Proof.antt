@@ -3,8 +3,6 @@ use Rattle.grammar.specs.Grammar.{faultOf}
 use borrow.Author.Needs.{needs}
 use Rattle.grammar.proofs.fault.Statement.{statement}
 use Rattle.grammar.proofs.fault.Tie as tie
-use Rattle.grammar.proofs.fault.Reads as reads
-use Rattle.grammar.proofs.fault.Lts as lts
 
 enum-told : tie.Need-enum-told
 enum-told c = search needs

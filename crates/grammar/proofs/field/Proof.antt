@@ -10,8 +10,6 @@ use Rattle.grammar.specs.SplitLaws.{startIn, Lies, field-of-split, first
 use borrow.Author.Needs.{needs}
 use Rattle.grammar.proofs.field.Statement.{statement}
 use Rattle.grammar.proofs.field.Tie as tie
-use Rattle.grammar.proofs.field.Reads as reads
-use Rattle.grammar.proofs.field.Lts as lts
 
 -- the field lies between its places
 lies : (c : tie.Start) → Lies (c .args .line .now) 0 (startIn 0 (c .args .t2 .end) (c .args .k)) (getD (c .args .t2 .end) (c .args .k) 0) (field (fields (c .args .line .now)) (c .args .k))

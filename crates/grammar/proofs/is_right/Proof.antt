@@ -2,10 +2,6 @@
 use borrow.Author.Needs.{needs}
 use Rattle.grammar.proofs.is_right.Statement.{statement}
 use Rattle.grammar.proofs.is_right.Tie as tie
-use Rattle.grammar.proofs.is_right.Reads as reads
-use Rattle.grammar.proofs.is_right.Lts as lts
-use Rattle.fields.proofs.is_name.Reads as is-name-reads
-use Rattle.fields.proofs.is_number.Reads as is-number-reads
 
 is-name-requires : tie.Need-is-name-requires
 is-name-requires c κs = search needs

@@ -5,8 +5,6 @@ use Rattle.grammar.specs.SplitLaws.{set-past}
 use borrow.Author.Needs.{needs}
 use Rattle.grammar.proofs.mark.Statement.{statement}
 use Rattle.grammar.proofs.mark.Tie as tie
-use Rattle.grammar.proofs.mark.Reads as reads
-use Rattle.grammar.proofs.mark.Lts as lts
 
 mul-end : tie.Need-mul-end
 mul-end c = search needs

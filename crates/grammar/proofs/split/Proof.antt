@@ -9,9 +9,6 @@ use Rattle.grammar.specs.Grammar.{FIELDS, split}
 use Rattle.grammar.specs.SplitLaws.{Left, split-from-start, split-at-tab, split-at-other, split-at-end}
 use Rattle.grammar.proofs.split.Statement.{statement}
 use Rattle.grammar.proofs.split.Tie as tie
-use Rattle.grammar.proofs.split.Reads as reads
-use Rattle.grammar.proofs.split.Lts as lts
-use Rattle.grammar.proofs.mark.Reads as mark-reads
 
 abbrev Inv-loop : tie.InvT-loop
 Inv-loop line end₀ count₀ i₀ end count i = (i ≤ length line) × (count ≤ i) × (length end ≡ FIELDS) × (split line ≡ Left line end count i)

@@ -8,14 +8,6 @@ use Rattle.line_kinds.specs.LineKinds.{kindOf, kind}
 use borrow.Author.Needs.{needs}
 use Rattle.line_kinds.proofs.classify.Statement.{statement}
 use Rattle.line_kinds.proofs.classify.Tie as tie
-use Rattle.line_kinds.proofs.classify.Reads as reads
-use Rattle.line_kinds.proofs.classify.Lts as lts
-use Rattle.fields.proofs.is_byte.Reads as is-byte-reads
-use Rattle.grammar.proofs.field.Reads as field-reads
-use Rattle.grammar.proofs.split.Reads as split-reads
-use Rattle.line_kinds.proofs.is_heading.Reads as is-heading-reads
-use Rattle.line_kinds.proofs.link.Reads as link-reads
-use Rattle.line_kinds.proofs.site.Reads as site-reads
 
 split-requires : tie.Need-split-requires
 split-requires c κs = search needs

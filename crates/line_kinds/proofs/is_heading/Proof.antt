@@ -10,11 +10,6 @@ use Rattle.line_kinds.specs.LineKinds.{isHeading}
 use borrow.Author.Needs.{needs}
 use Rattle.line_kinds.proofs.is_heading.Statement.{statement}
 use Rattle.line_kinds.proofs.is_heading.Tie as tie
-use Rattle.line_kinds.proofs.is_heading.Reads as reads
-use Rattle.line_kinds.proofs.is_heading.Lts as lts
-use Rattle.fields.proofs.is_byte.Reads as is-byte-reads
-use Rattle.fields.proofs.same.Reads as same-reads
-use Rattle.grammar.proofs.field.Reads as field-reads
 
 -- how many fields there are, and what the first is found to be
 count-is : (c : tie.Start) → c .args .found .count ≡ length (fields (c .args .line .now))

@@ -12,13 +12,6 @@ use Rattle.line_kinds.specs.FormedLines.{link-ends}
 use borrow.Author.Needs.{needs}
 use Rattle.line_kinds.proofs.link.Statement.{statement}
 use Rattle.line_kinds.proofs.link.Tie as tie
-use Rattle.line_kinds.proofs.link.Reads as reads
-use Rattle.line_kinds.proofs.link.Lts as lts
-use Rattle.grammar.proofs.check_line.Reads as check-line-reads
-use Rattle.grammar.proofs.fault.Reads as fault-reads
-use Rattle.grammar.proofs.field.Reads as field-reads
-use Rattle.grammar.proofs.size_of.Reads as size-of-reads
-use Rattle.line_kinds.proofs.link_form.Reads as link-form-reads
 
 link-form-requires : tie.Need-link-form-requires
 link-form-requires c κs = search needs

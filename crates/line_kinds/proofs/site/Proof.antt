@@ -10,11 +10,6 @@ use Rattle.line_kinds.specs.declared.Line.the-variants.{Site}
 use borrow.Author.Needs.{needs}
 use Rattle.line_kinds.proofs.site.Statement.{statement}
 use Rattle.line_kinds.proofs.site.Tie as tie
-use Rattle.line_kinds.proofs.site.Reads as reads
-use Rattle.line_kinds.proofs.site.Lts as lts
-use Rattle.grammar.proofs.check_line.Reads as check-line-reads
-use Rattle.grammar.proofs.fault.Reads as fault-reads
-use Rattle.line_kinds.proofs.site_form.Reads as site-form-reads
 
 site-form-requires : tie.Need-site-form-requires
 site-form-requires c κs = search needs
