@@ -9,12 +9,12 @@ use Rattle.network.specs.Limits.{SITES}
 use Rattle.network.specs.Numbers.{look}
 use Rattle.network.specs.Edition.{largest}
 use Rattle.network.specs.Network.{Links, ends}
-use Rattle.network.specs.Cuts.{cutSize, cutCount, owner}
 use Rattle.tree.specs.Offer.{links, offer}
 use Rattle.tree.specs.declared.Offer.{Offer}
 use Rattle.tree.specs.declared.Offer.the-variants as offered
--- `places n f`: f at the sites 1 .. n, then 0 up to SITES places; `ofTerminal terminal f`: f at a terminal, 0 at an inner site
+-- the owner of each site, and of each terminal the size and the count of its cut, each in a place for each site
 unfoldable pub use Rattle.groups.specs.Places.{places, ofTerminal}
+unfoldable pub use Rattle.groups.specs.Steps.{owned}
 use Rattle.cuts.specs.declared.Answer.{Answer}
 use Rattle.cuts.specs.declared.Answer.the-variants.{NoTree, TooLarge, Unequal, Done}
 use Rattle.cuts.specs.declared.Cuts.{Cuts}
@@ -25,12 +25,7 @@ noCuts a = record { owner = replicate SITES 0; size = replicate SITES 0; count =
 
 -- the cuts of the terminals of a network with n sites
 unfoldable pub cuts : Links → ℕ → (ℕ → ℕ) → (ℕ → ℕ) → (ℕ → ℕ) → Cuts
-cuts ls n terminal c t = record {
-  owner = places n (owner ls c t terminal n);
-  size = places n (ofTerminal terminal (cutSize ls c t));
-  count = places n (ofTerminal terminal (cutCount ls c t n));
-  answer = Done;
-}
+cuts ls n terminal c t = let r = owned ls n terminal c t in record { owner = r .owner; size = r .size; count = r .count; answer = Done }
 
 -- the cuts of an offer; its terminals are its ends
 abbrev pub offeredCuts : ℕ → List ℕ → List ℕ → List ℕ → List ℕ → Cuts

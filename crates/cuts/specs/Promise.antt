@@ -25,7 +25,7 @@ use Rattle.tree.specs.declared.Offer.{Offer}
 use Rattle.tree.specs.declared.Offer.the-variants as offered
 use Rattle.cuts.specs.declared.Answer.the-variants.{Done}
 use Rattle.cuts.specs.declared.Cuts.{Cuts}
-use Rattle.cuts.specs.Outcome.{places, ofTerminal, noCuts, cuts, offeredCuts, decide, outcome}
+use Rattle.cuts.specs.Outcome.{places, ofTerminal, owned, noCuts, cuts, offeredCuts, decide, outcome}
 use Rattle.groups.specs.Places.{of-inner, of-terminal, look-places, places-sum, places-count}
 
 -- ---- for accepted offers and no others
@@ -71,15 +71,15 @@ module _ (n : ℕ) (a b c t : List ℕ) where
     at-terminal f x p m = at-site (ofTerminal terminal f) x p ∙ of-terminal terminal f x m
 
     pub owner-of-a-site : (x : ℕ) → Site n x → look (outcome n a b c t .owner) (x - 1) ≡ owner ls (look c) (look t) terminal n x
-    unfolding cuts
+    unfolding cuts owned
     owner-of-a-site x p = rw whole (at-site (owner ls (look c) (look t) terminal n) x p)
 
     pub size-of-a-cut : (w : ℕ) → Site n w → terminal w ≡ 1 → look (outcome n a b c t .size) (w - 1) ≡ cutSize ls (look c) (look t) w
-    unfolding cuts
+    unfolding cuts owned
     size-of-a-cut w p m = rw whole (at-terminal (cutSize ls (look c) (look t)) w p m)
 
     pub count-of-a-cut : (w : ℕ) → Site n w → terminal w ≡ 1 → look (outcome n a b c t .count) (w - 1) ≡ cutCount ls (look c) (look t) n w
-    unfolding cuts
+    unfolding cuts owned
     count-of-a-cut w p m = rw whole (at-terminal (cutCount ls (look c) (look t) n) w p m)
 
     -- ---- for the greatest balanced capacities
@@ -95,7 +95,7 @@ module _ (n : ℕ) (a b c t : List ℕ) where
 
       pub a-count-is-how-often-its-terminal-is-owner : (w : ℕ) → Site n w → terminal w ≡ 1
           → look (outcome n a b c t .count) (w - 1) ≡ count (outcome n a b c t .owner) w
-      unfolding cuts cutCount inCut
+      unfolding cuts cutCount inCut owned
       a-count-is-how-often-its-terminal-is-owner w p m =
           let own = owner ls (look c) (look t) terminal n in
           let labels = group ls (look c) (look t) in
@@ -106,7 +106,7 @@ module _ (n : ℕ) (a b c t : List ℕ) where
           ∙ sym (rw whole (places-count own n w (p .0)))
 
       pub sizes-sum-to-the-terminals : sum SITES (look (outcome n a b c t .size)) ≡ atTerminals ls n terminal (look t)
-      unfolding cuts
+      unfolding cuts owned
       sizes-sum-to-the-terminals = rw whole (
           places-sum (ofTerminal terminal (cutSize ls (look c) (look t))) n (within .few)
           ∙ over-eq (sites n) (ofTerminal terminal (cutSize ls (look c) (look t))) (λ w. is (terminal w) 1 * cutSize ls (look c) (look t) w)

@@ -1,4 +1,5 @@
 // Terminal cuts: for each site the terminal whose cut holds it, and each cut's size and number of sites.
+use groups::NONE;
 use network::SITES;
 use tree::Offer;
 ghost use mathlib.Core.Path.{_≡_};
@@ -27,9 +28,6 @@ pub struct Cuts {
     pub count: [usize; SITES],
     pub answer: Answer,
 }
-
-// The owner of a place without one.
-const NONE: usize = 0;
 
 // An answer without cuts.
 fn no_cuts(answer: Answer) -> Cuts

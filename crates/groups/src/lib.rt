@@ -21,9 +21,9 @@ ghost use Rattle.groups.specs.Places.{places, ofTerminal};
 ghost use Rattle.groups.specs.Steps.{members, claim, ownersTo, cutsBy, owned};
 
 // At place x the label of site x, and at place l the sum of label l.
-pub struct Tally {
-    pub labels: [u16; PLACES],
-    pub leaving: [u64; PLACES],
+struct Tally {
+    labels: [u16; PLACES],
+    leaving: [u64; PLACES],
 }
 
 // The cuts, at place x - 1 for site x: the terminal whose cut holds the site, and for a terminal the size and the number of sites of
@@ -35,7 +35,7 @@ pub struct Owned {
 }
 
 // The owner of a place without one.
-const NONE: usize = 0;
+pub const NONE: usize = 0;
 
 // Joins the sites of the links whose balanced capacity is below the given one, the last link first.
 fn join_kept(one: &[usize], two: &[usize], capacity: &[u64], balanced: &[u64], labels: &mut [u16])

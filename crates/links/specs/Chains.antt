@@ -36,7 +36,7 @@ pub record Chained (one two last before : List ℕ) : Type 0 where
   pub firsts : (j : ℕ) → j < length one → look before (2 * j) ≡ lastAt (links one two) j (look one j)
   pub others : (j : ℕ) → j < length one → look before (2 * j + 1) ≡ lastAt (links one two) j (look two j)
 
--- a place for each link, with a capacity of at most 1,000,000
+-- a place for each link, with a capacity of at most SIZE
 pub record Limited (one c : List ℕ) : Type 0 where
   pub places : length one ≤ length c
   pub small : (j : ℕ) → j < length one → look c j ≤ SIZE

@@ -23,7 +23,7 @@ given c κs =
     (p .0 .few, offer-placed (p .0), offer-limited (p .0), p .1)
 
 returns : tie.Need-returns
-unfolding cuts owned
+unfolding cuts
 returns c =
     let done = c .before .before .before in
     let listed = done .before .before in

@@ -6,7 +6,7 @@ use native.Mathlib.Omega.{arith}
 use native.Mathlib.Nat.{mul-le-mul-right}
 use lib.Seq.{getD-set-same, getD-set-other}
 use lib.ListN.{length, set, replicate, length-set, length-replicate}
-use Rattle.network.specs.Limits.{PLACES}
+use Rattle.network.specs.Limits.{LINKS, PLACES}
 use Rattle.network.specs.Numbers.{pick, is, look, sum}
 use Rattle.network.specs.Network.{at, sumAt}
 use Rattle.theory.specs.Sums.{is-same, is-other, same?}
@@ -20,13 +20,13 @@ use Rattle.elimination.proofs.keys_of.Tie as tie
 abbrev Inv-loop : tie.InvT-loop
 Inv-loop one two root keys₀ j₀ j-end keys j =
     (j ≤ length one) × (length keys ≡ PLACES)
-    × ((x : ℕ) → (look keys x ≤ j * 65791 + 131072) × (look keys x ≡ sum j (λ i. at (links one two) x i * share i) + is root x * 131072))
+    × ((x : ℕ) → (look keys x ≤ j * (65536 + LINKS) + 131072) × (look keys x ≡ sum j (λ i. at (links one two) x i * share i) + is root x * 131072))
 
 abbrev μ-loop : tie.MeasureT-loop
 μ-loop one two root keys₀ j₀ j-end keys j = length one - j
 
 -- at first there is only what the root has more
-only-root : (m root x : ℕ) → root < m → let l : List ℕ = set (replicate m 0) root 131072 in (look l x ≤ 0 * 65791 + 131072)
+only-root : (m root x : ℕ) → root < m → let l : List ℕ = set (replicate m 0) root 131072 in (look l x ≤ 0 * (65536 + LINKS) + 131072)
     × (look l x ≡ 0 + is root x * 131072)
 only-root m root x h = same? root x
     (λ e. let k = getD-set-same {A = ℕ} (replicate m 0) root 131072 0 (omega (arith, length-replicate {A = ℕ} m 0)) in rw (is-same e, ← e)
@@ -56,7 +56,7 @@ next c =
     let j = top .loop .j in
     let added = c .add-at .ensures in
     let site : (x : ℕ) → pick (look a j) x 1 (is (look b j) x) ≡ at (links a b) x j = λ x. sym (links-at-site a b x j (omega arith) (omega arith)) in
-    let less : share j ≤ 65791 = omega arith in (
+    let less : share j ≤ (65536 + LINKS) = omega arith in (
       omega arith,
       added .0,
       λ x. (

@@ -1,4 +1,4 @@
--- `sums_leaving` meets its contract: after j links the sums are those of the first j, at most 1,000,000 for each.
+-- `sums_leaving` meets its contract: after j links the sums are those of the first j, at most SIZE for each.
 use mathlib.Core.Path.{_≡_, refl, _∙_}
 use Prim.Native.Nat.{ℕ, _-_, _*_, _≤_}
 use native.Mathlib.Omega.{arith}
