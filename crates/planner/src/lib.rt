@@ -2,14 +2,9 @@
 ghost use mathlib.Core.Path.{_≡_};
 ghost use mathlib.Core.List.{[]};
 ghost use Prim.Native.Nat.{_≤_};
-ghost use lib.ListN.{length, take};
-ghost use Rattle.network.specs.Edition.{edition1, largest};
-ghost use Rattle.network.specs.Limits.{SITES};
-ghost use Rattle.network.specs.Numbers.{look};
+ghost use lib.ListN.{length};
+ghost use Rattle.network.specs.Edition.{edition1};
 ghost use Rattle.network.specs.Text.{bytes};
-ghost use Rattle.network.specs.Trimming.{balanced};
-ghost use Rattle.tree.specs.Accepted.{TreeWithin};
-ghost use Rattle.tree.specs.Offer.{links};
 ghost use Rattle.report.specs.Shown.{shownBy};
 ghost use Rattle.planner.specs.Outcome.{planned, answered};
 ghost use Rattle.planner.specs.Ready.{TakenApart, Charted, Ready};
@@ -138,26 +133,6 @@ fn deliver(
     Outcome::Refused { number: 9, line: 0 }
 }
 
-// The balanced capacities of a tree, from the front of a list.
-fn balanced_of(
-    n: usize,
-    order: &[usize; SITES],
-    ends: &[u8; PLACES],
-    last: &[usize; PLACES],
-    before: &[usize; CHAINS],
-    one: &[usize],
-    two: &[usize],
-    capacity: &[u64],
-) -> [u64; SITES]
-    requires { ⌜ TreeWithin largest n (now one) (now two) (now capacity) × Charted n (now one) (now two) (now order) (now ends) (now last) (now before) ⌝ }
-    ensures { λ r. ⌜ (take (length (now (one .entry))) r ≡ balanced (links (now (one .entry)) (now (two .entry))) n (look (now (ends .entry))) (now (capacity .entry))) × (length r ≡ SITES) ⌝ }
-{
-    let mut trimmed = [0u64; SITES];
-    balancing::copy(capacity, &mut trimmed);
-    balancing::balance(n, order, ends, last, before, one, two, &mut trimmed);
-    trimmed
-}
-
 // The lists of an accepted sheet, with the order, the ends and the chains of its tree, planned.
 fn plan_charted(
     sheet: &[u8],
@@ -178,7 +153,8 @@ fn plan_charted(
     ensures left { λ r. ⌜ now (report .exit) ≡ planned edition1 (now (sheet .entry)) (now (report .entry)) .buffer ⌝ }
 {
     let m = one.len();
-    let list = balanced_of(n, order, ends, last, before, one, two, capacity);
+    let mut list = [0u64; SITES];
+    balancing::balance(n, order, ends, last, before, one, two, capacity, &mut list);
     let trimmed = &list[..m];
     let cuts = groups::cuts_of(n, ends, one, two, capacity, trimmed);
     let owner = cuts.owner;
