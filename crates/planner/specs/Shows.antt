@@ -100,8 +100,9 @@ module _ (net : Network) where
     cut-lines : lines (cutLine name marks sizes counts) (sites size) ≡ lines (cutLine name (ends (net .links) size) cutSizes cutCounts) (sites size)
     unfolding cutLine
     cut-lines = lines-same _ _ 1 size (λ i l.
+        let here : look marks (1 + i) ≡ terminal (1 + i) = ap (λ (f : ℕ → ℕ). f (1 + i)) (w .marked) in
         rw (
-          w .marked,
+          here,
           place i,
           look-from (cutSize (net .links) given (look trimmed)) 1 size i l,
           look-from (cutCount (net .links) given (look trimmed) size) 1 size i l,

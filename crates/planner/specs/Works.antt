@@ -1,5 +1,5 @@
 -- What is worked out of the lists of an accepted sheet is ready to be written: balanced capacities, terminal cuts and the pair list show its plan.
-use mathlib.Core.Path.{_≡_, refl, sym, ap, _∙_}
+use mathlib.Core.Path.{_≡_, refl, sym, ap, subst, _∙_}
 use mathlib.Core.Logic.{inl, inr}
 use mathlib.Core.List.{List, [], _∷_, _++_, map}
 use Prim.Native.Nat.{ℕ, zero, suc, _+_, _-_, _≤_, _<_}
@@ -8,22 +8,27 @@ use native.Mathlib.Numerals.{one-add}
 use lib.ListN.{length, getD, take, drop, length-append, length-map, List·getD-map}
 use lib.Seq.{take-at, getD-take, length-take-le}
 use Rattle.network.specs.Limits.{LINKS, SITES}
-use Rattle.network.specs.Edition.{edition1}
+use Rattle.network.specs.Edition.{edition1, largest}
 use Rattle.network.specs.Numbers.{look, Each}
 use Rattle.network.specs.Network.{Links, Site, Route, one, two, ends}
-use Rattle.network.specs.Trimming.{balanced}
+use Rattle.network.specs.Trimming.{Balanced, balanced}
 use Rattle.network.specs.Cuts.{cutSize, cutCount, owner}
 use Rattle.network.specs.Pairing.{pairs, pairList, ordered}
 use Rattle.network.specs.Text.{bytes}
 use Rattle.network.specs.declared.Pair.{Pair}
 use Rattle.network.specs.declared.Pairs.{Pairs}
 use Rattle.theory.specs.Owners.{owner-or-none}
+use Rattle.theory.specs.Leaves.{Outer}
+use Rattle.theory.specs.Ends.{ends-are-outer}
 use Rattle.theory.specs.Greatest.{balanced-has-each-link}
 use Rattle.tree.specs.Offer.{links}
+use Rattle.tree.specs.Accepted.{TreeWithin}
+use Rattle.trimming.specs.Outcome.{capacities}
+use Rattle.trimming.specs.Promise.{Promise, capacities-keep-the-promise, promised-within}
 use Rattle.groups.specs.Places.{places, ofTerminal, length-places, look-places, of-terminal}
 use Rattle.groups.specs.Steps.{owned}
 use Rattle.groups.specs.declared.Owned.{Owned}
-use Rattle.decomposition.specs.Visits.{Listing}
+use Rattle.decomposition.specs.Visits.{Walkable, Listing}
 use Rattle.pairlist.specs.Laws.{ordering-keeps-length}
 use Rattle.sheet.specs.Sheet.{Network, accepted, readSheet}
 use Rattle.sheet.specs.SheetTheorem.{IsNetwork}
@@ -31,7 +36,7 @@ use Rattle.report.specs.Shown.{Named, AllNamed, Links as Linked, Owners, Paired
 use Rattle.planner.specs.Small.{trimmed-are-greatest, pairs-are-sound, few-links, total-within, a-report-is-small}
 use Rattle.planner.specs.Shows.{starts, stops, ranges, trimmed, Works, planBy, the-lists-show-the-plan}
 use Rattle.planner.specs.Taken.{padded-length, the-network-is-given, the-links-are-the-networks}
-use Rattle.planner.specs.Ready.{TakenApart, Ready}
+use Rattle.planner.specs.Ready.{TakenApart, Charted, Ready}
 
 module _ {s : List ℕ} {net : Network} (N : IsNetwork edition1 s net) where
   abbrev size : ℕ
@@ -173,3 +178,39 @@ what-is-worked-out-is-ready {s} {starting} {stopping} {n} {one} {two} {c} a show
     let told : look marks ≡ look (ends (a .net .links) (length (a .net .names))) = rw (ls, a .counted) at marked in
     rw (ls, told, a .counted, a .sizes, a .started, a .stopped, a .firsts, a .seconds) (λ e. rw e (λ cut listed held.
     the-report-is-ready (the-network-is-given a) marks cuts ps told cut listed held (a .read)))
+
+-- ---- from what the inner functions promise
+
+module _ {n : ℕ} {one two c : List ℕ} (w : TreeWithin largest n one two c) where
+  -- the front of a list that begins with the balanced capacities keeps the promise of trimming
+  pub the-front-keeps-the-promise : (terminal : ℕ → ℕ) → terminal ≡ look (ends (links one two) n) → (list rest : List ℕ)
+      → list ≡ balanced (links one two) n terminal c ++ rest
+      → (take (length one) list ≡ balanced (links one two) n terminal c) × Promise n one two c (take (length one) list)
+  unfolding capacities
+  the-front-keeps-the-promise terminal marked list rest e =
+      let promise = capacities-keep-the-promise w in
+      let long : length (balanced (links one two) n terminal c) ≡ length one = rw marked (promise .each) in
+      let front : take (length one) list ≡ balanced (links one two) n terminal c =
+      ap (take (length one)) e ∙ take-at (balanced (links one two) n terminal c) rest (length one) long in
+      (front, rw (front, marked) promise)
+
+  -- what keeps the promise of trimming can be walked
+  pub the-promised-can-be-walked : {order marks last before : List ℕ} → Charted n one two order marks last before
+      → (t : List ℕ) → Promise n one two c t → Walkable n marks last before one two t
+  the-promised-can-be-walked chart t p = record {
+    tree = promised-within w t p;
+    chained = chart .chained;
+    outer = subst (Outer (links one two) n) (sym (chart .marked)) (ends-are-outer (w .tree));
+    balanced = subst (λ (f : ℕ → ℕ). Balanced (links one two) f (look t)) (sym (chart .marked)) (p .greatest .balanced);
+  }
+
+-- pairs put in order are the pair list
+pub pairs-in-order : (es : List Pair) (made ps : Pairs) → Listing es made
+    → (ps .count ≡ made .count) × (ps .list ≡ ordered (take (made .count) (made .list)) ++ drop (made .count) (made .list))
+    → (take (ps .count) (ps .list) ≡ ordered es) × (ps .count ≤ length (ps .list))
+pairs-in-order es made ps l h =
+    let e : ps .list ≡ ordered es ++ drop (made .count) (made .list) = rw (l .held) at (h .1) in
+    let k : ps .count ≡ length (ordered es) = h .0 ∙ l .counted ∙ sym (ordering-keeps-length es) in (
+      rw (e, k) (take-at (ordered es) (drop (made .count) (made .list)) (length (ordered es)) refl),
+      rw (e, k) (omega (arith, length-append (ordered es) (drop (made .count) (made .list)))),
+    )

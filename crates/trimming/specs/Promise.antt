@@ -36,7 +36,7 @@ balanced-is-accepted offered.TooLarge enough e = absurd (let z : _≡_ {A = ℕ}
 balanced-is-accepted offered.Accepted enough e = refl
 
 module _ {n : ℕ} {one two c : List ℕ} (w : TreeWithin largest n one two c) where
-  capacities-keep-the-promise : Promise n one two c (capacities n one two c)
+  pub capacities-keep-the-promise : Promise n one two c (capacities n one two c)
   unfolding capacities
   capacities-keep-the-promise = record {
     tree = w .tree;
@@ -44,23 +44,24 @@ module _ {n : ℕ} {one two c : List ℕ} (w : TreeWithin largest n one two c) w
     greatest = balanced-is-greatest (w .tree) (look (ends (links one two) n)) c;
   }
 
-  -- they are accepted as capacities, and balanced already
+  -- capacities that keep the promise are within the limits too
+  pub promised-within : (t : List ℕ) → Promise n one two c t → TreeWithin largest n one two t
+  promised-within t p = record {
+    tree = w .tree;
+    few = w .few;
+    firsts = w .firsts;
+    seconds = w .seconds;
+    capacities = omega (arith, p .each);
+    limited = λ j h. omega (
+      arith,
+      p .each,
+      p .greatest .below j (omega (arith, p .each, length-links one two (omega arith))),
+      w .limited j (omega (arith, p .each)),
+    );
+  }
+
   again-within : TreeWithin largest n one two (capacities n one two c)
-  again-within =
-      let p = capacities-keep-the-promise in
-      record {
-        tree = w .tree;
-        few = w .few;
-        firsts = w .firsts;
-        seconds = w .seconds;
-        capacities = omega (arith, p .each);
-        limited = λ j h. omega (
-          arith,
-          p .each,
-          p .greatest .below j (omega (arith, p .each, length-links one two (omega arith))),
-          w .limited j (omega (arith, p .each)),
-        );
-      }
+  again-within = promised-within (capacities n one two c) capacities-keep-the-promise
 
 module _ (n : ℕ) (one two c lent : List ℕ) (e : answer n one two c lent ≡ Balanced) where
   within : TreeWithin largest n one two c

@@ -1,6 +1,6 @@
 -- `plan` meets its contract: a refusal of the reading is passed on, and an accepted sheet's network is planned.
 use mathlib.Core.Path.{sym, ap, _∙_}
-use Rattle.planner.specs.Worked.{accepted-is-listed, refused-is-told}
+use Rattle.planner.specs.Taken.{accepted-is-listed, refused-is-told}
 use borrow.Author.Needs.{needs}
 use Rattle.planner.proofs.plan.Statement.{statement}
 use Rattle.planner.proofs.plan.Tie as tie

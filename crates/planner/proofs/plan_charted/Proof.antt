@@ -1,0 +1,86 @@
+-- `plan_charted` meets its contract: the balanced capacities keep the promise of trimming, so they can be walked, and what is worked out is ready.
+use mathlib.Core.Path.{_≡_, sym, ap, _∙_}
+use Prim.Native.Nat.{ℕ}
+use native.Mathlib.Omega.{arith}
+use lib.ListN.{length, take, length-replicate}
+use borrow.Author.Needs.{needs}
+use Rattle.network.specs.Limits.{SITES}
+use Rattle.network.specs.Numbers.{look}
+use Rattle.network.specs.Trimming.{balanced}
+use Rattle.network.specs.Pairing.{pairList}
+use Rattle.tree.specs.Offer.{links}
+use Rattle.trimming.specs.Promise.{Promise}
+use Rattle.groups.specs.Places.{length-places}
+use Rattle.groups.specs.Steps.{owned}
+use Rattle.links.specs.Chains.{offer-placed, offer-limited}
+use Rattle.planner.specs.Taken.{the-network-is-a-tree-within}
+use Rattle.planner.specs.Works.{the-front-keeps-the-promise, the-promised-can-be-walked, pairs-in-order, what-is-worked-out-is-ready}
+use Rattle.planner.proofs.plan_charted.Statement.{statement}
+use Rattle.planner.proofs.plan_charted.Tie as tie
+
+balance-requires : tie.Need-balance-requires
+balance-requires c κs =
+    let s = c .before .before .before .before .before .before .before .before in
+    let tree = the-network-is-a-tree-within (s .pre .0) in
+    (tree, s .pre .1 .ordered, s .pre .1 .chained, omega (arith, tree .firsts, tree .few, length-replicate {A = ℕ} SITES 0))
+
+-- what stands at the front of the list after balancing
+promised : (c : tie.After-balance) → let s = c .before .before .before .before .before .before .before .before .before in
+    let a = s .args in
+    let front = take (length (a .one .now)) (c .balance .last .1 .1 .1 .1 .1 .1 .1 .1 .0) in
+    (front ≡ balanced (links (a .one .now) (a .two .now)) (a .n) (look (a .ends .now)) (a .capacity .now))
+    × Promise (a .n) (a .one .now) (a .two .now) (a .capacity .now) front
+promised c =
+    let s = c .before .before .before .before .before .before .before .before .before in
+    the-front-keeps-the-promise (the-network-is-a-tree-within (s .pre .0)) (look (s .args .ends .now)) (s .pre .1 .marked) _ _ (c .balance .ensures)
+
+slice-aggregate-trimmed : tie.Need-slice-aggregate-trimmed
+slice-aggregate-trimmed c = sym (promised (c .before .before) .1 .each)
+
+cuts-of-requires : tie.Need-cuts-of-requires
+cuts-of-requires c κs =
+    let s = c .before .before .before .before .before .before .before .before .before .before .before in
+    let tree = the-network-is-a-tree-within (s .pre .0) in
+    (tree .few, offer-placed tree, offer-limited tree, promised (c .before .before) .1 .each)
+
+decompose-requires : tie.Need-decompose-requires
+decompose-requires c κs =
+    let balanced = c .before .before .before .before .before .before in
+    let s = balanced .before .before .before .before .before .before .before .before .before in
+    the-promised-can-be-walked (the-network-is-a-tree-within (s .pre .0)) (s .pre .1) _ (promised balanced .1)
+
+slice-aggregate-deliver-3 : tie.Need-slice-aggregate-deliver-3
+unfolding owned
+slice-aggregate-deliver-3 c =
+    let cut = c .before .before .before .before .before .before .before .before in
+    let s = cut .before .before .before .before .before .before .before .before .before .before .before .before in
+    sym (ap (λ o. length (o .count)) (cut .cuts-of .ensures) ∙ length-places _ (s .args .n) (the-network-is-a-tree-within (s .pre .0) .few))
+
+deliver-requires : tie.Need-deliver-requires
+unfolding pairList
+deliver-requires c κs =
+    let paired = c .before .before .before .before in
+    let cut = paired .before .before .before .before .before in
+    let balanced = cut .before .before .before in
+    let s = balanced .before .before .before .before .before .before .before .before .before in
+    let listed = pairs-in-order _ (paired .before .decompose .result) (paired .ordered .result) (paired .before .decompose .ensures) (paired .ordered .ensures) in
+    what-is-worked-out-is-ready (s .pre .0) _ (s .args .ends .now) (cut .cuts-of .result) (paired .ordered .result)
+    (s .pre .1 .marked) (promised balanced .0) (cut .cuts-of .ensures) (listed .0) (listed .1)
+
+pub plan-charted-spec : {M : Type 1} → statement M
+plan-charted-spec =
+    tie.close
+    (tie.spec
+    (λ c. search needs)
+    balance-requires
+    (λ c. search needs)
+    slice-aggregate-trimmed
+    cuts-of-requires
+    decompose-requires
+    (λ c κs. search needs)
+    (λ c. search needs)
+    (λ c. search needs)
+    slice-aggregate-deliver-3
+    deliver-requires
+    (λ c. search needs)
+    (λ c. search needs))
