@@ -1,3 +1,4 @@
+pub mod Weighing
 pub mod Outcome
 pub mod Storing
 pub mod Promise

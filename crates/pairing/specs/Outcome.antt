@@ -13,7 +13,7 @@ use Rattle.network.specs.declared.Pair.{Pair}
 use Rattle.tree.specs.Offer.{links, offer}
 use Rattle.tree.specs.declared.Offer.{Offer}
 use Rattle.tree.specs.declared.Offer.the-variants as offered
-use Rattle.heavy.specs.Heavy.{heavySomewhere}
+use Rattle.pairing.specs.Weighing.Heavy.{heavySomewhere}
 use Rattle.pairing.specs.declared.Pairing.{Pairing}
 use Rattle.pairing.specs.declared.Pairing.the-variants.{NoTree, TooLarge, Short, Heavy, Pairs}
 

@@ -18,7 +18,7 @@ use Rattle.tree.specs.Offer.{links, offer}
 use Rattle.tree.specs.Accepted.{TreeWithin, accepted-is-a-tree-within-the-limits, a-tree-within-the-limits-is-accepted}
 use Rattle.tree.specs.declared.Offer.{Offer}
 use Rattle.tree.specs.declared.Offer.the-variants as offered
-use Rattle.heavy.specs.Heavy.{heavySomewhere, balanced-has-no-heavy-link, no-heavy-link-is-balanced}
+use Rattle.pairing.specs.Weighing.Heavy.{heavySomewhere, balanced-has-no-heavy-link, no-heavy-link-is-balanced}
 use Rattle.walk.specs.Sound.{Sound, Ascending}
 use Rattle.theory.specs.Leaves.{Outer}
 use Rattle.theory.specs.Ends.{ends-are-outer}

@@ -1,4 +1,6 @@
 // What is said of an offered tree whose capacities are to be paired, and its pair list.
+mod weighing;
+
 use network::Pair;
 use network::Pairs;
 use network::SITES;
@@ -57,7 +59,7 @@ fn take_apart(n: usize, one: &[usize], two: &[usize], capacity: &[u64]) -> Work
     let last = chains.last;
     let before = chains.before;
     let ends = links::ends(n, &last, &before, one, two);
-    if heavy::heavy(n, &ends, &last, &before, one, two, capacity) {
+    if weighing::heavy(n, &ends, &last, &before, one, two, capacity) {
         return refused(Pairing::Heavy);
     }
     let pairs = decomposition::decompose(n, &ends, &last, &before, one, two, capacity);

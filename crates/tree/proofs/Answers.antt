@@ -6,8 +6,8 @@ use Prim.Native.Nat.{ℕ}
 use native.Mathlib.Omega.{arith}
 use Rattle.network.specs.Limits.{SITES}
 use Rattle.theory.specs.Trees.{loopless}
-use Rattle.elimination.specs.Links.{length-links, links-one, links-two}
-use Rattle.elimination.specs.Steps.{Proper}
+use Rattle.tree.specs.Ordering.Links.{length-links, links-one, links-two}
+use Rattle.tree.specs.Ordering.Steps.{Proper}
 use Rattle.tree.specs.Accepted.{TreeOf}
 use Rattle.tree.specs.Steps.{Tells}
 

@@ -6,7 +6,7 @@ use lib.ListN.{replicate}
 use Rattle.network.specs.Limits.{SITES}
 use Rattle.network.specs.Edition.{largest}
 use Rattle.network.specs.Trimming.{elimination}
-use Rattle.elimination.specs.Toward.{eliminationToward, orderIn}
+use Rattle.tree.specs.Ordering.Toward.{eliminationToward, orderIn}
 use Rattle.tree.specs.Offer.{links, offer}
 use Rattle.tree.specs.declared.Elimination.{Elimination}
 use Rattle.tree.specs.declared.Offer.{Offer}

@@ -1,3 +1,4 @@
+pub mod Ordering
 pub mod Offer
 pub mod Places
 pub mod Links

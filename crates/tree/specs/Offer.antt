@@ -7,7 +7,7 @@ use lib.Dec.{eqb, leb}
 use lib.ListN.{length}
 use Rattle.network.specs.Network.{Links, sites, label}
 use Rattle.network.specs.declared.Edition.{Edition}
-unfoldable pub use Rattle.elimination.specs.Links.{links}
+unfoldable pub use Rattle.tree.specs.Ordering.Links.{links}
 use Rattle.tree.specs.declared.Offer.{Offer}
 use Rattle.tree.specs.declared.Offer.the-variants.{NoTree, TooLarge, Accepted}
 

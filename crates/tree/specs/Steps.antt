@@ -4,8 +4,8 @@ use mathlib.Core.Bool.{Bool, true, false}
 use mathlib.Core.List.{List}
 use Prim.Native.Nat.{ℕ}
 use Rattle.network.specs.Limits.{SITES}
-use Rattle.elimination.specs.Toward.{eliminationToward, orderIn}
-use Rattle.elimination.specs.declared.Order.{Order}
+use Rattle.tree.specs.Ordering.Toward.{eliminationToward, orderIn}
+use Rattle.tree.specs.declared.ordering.Order.{Order}
 use Rattle.tree.specs.Offer.{links, isTree}
 
 -- an answer tells whether P holds

@@ -1,13 +1,15 @@
 // A tree that is offered as lists: whether it is one within the limits of the edition, and the elimination order of its sites.
-use elimination::Order;
+mod ordering;
+
 use network::SITES;
 use network::SIZE;
+use ordering::Order;
 ghost use mathlib.Core.Path.{_≡_};
 ghost use Prim.Native.Nat.{ℕ, _<_};
 ghost use lib.ListN.{length};
 ghost use Rattle.network.specs.Numbers.{look};
 ghost use Rattle.network.specs.Edition.{largest};
-ghost use Rattle.elimination.specs.Steps.{Link, Proper};
+ghost use Rattle.tree.specs.Ordering.Steps.{Link, Proper};
 ghost use Rattle.tree.specs.Offer.{within, offerOf, offer};
 ghost use Rattle.tree.specs.Elimination.{decide, eliminated, eliminatedToward};
 ghost use Rattle.tree.specs.Steps.{Tells, Ordered};
@@ -99,9 +101,9 @@ fn order_of(n: usize, one: &[usize], two: &[usize], root: usize) -> Order
         };
     }
     if n < root {
-        return elimination::order_of(n, one, two, 0);
+        return ordering::order_of(n, one, two, 0);
     }
-    elimination::order_of(n, one, two, root)
+    ordering::order_of(n, one, two, root)
 }
 
 // What is said of an offer, by whether its links make a tree, how many they are, and the capacities.

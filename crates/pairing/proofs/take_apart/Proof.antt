@@ -12,7 +12,7 @@ use Rattle.tree.specs.Offer.{links}
 use Rattle.tree.specs.Links.{length-links}
 use Rattle.tree.specs.Accepted.{a-tree-within-the-limits-is-accepted}
 use Rattle.links.specs.Chains.{offer-placed, offer-limited}
-use Rattle.heavy.specs.Heavy.{heavySomewhere, no-heavy-link-is-balanced}
+use Rattle.pairing.specs.Weighing.Heavy.{heavySomewhere, no-heavy-link-is-balanced}
 use Rattle.theory.specs.Leaves.{Outer}
 use Rattle.theory.specs.Ends.{ends-are-outer}
 use Rattle.walk.specs.PairingTheorem.{pairs-are-sound}

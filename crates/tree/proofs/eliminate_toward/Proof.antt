@@ -4,8 +4,8 @@ use mathlib.Core.List.{List}
 use Prim.Native.Nat.{ℕ}
 use lib.ListN.{length}
 use Rattle.network.specs.Edition.{largest}
-use Rattle.elimination.specs.Toward.{eliminationToward, orderIn}
-use Rattle.elimination.specs.declared.Order.{Order}
+use Rattle.tree.specs.Ordering.Toward.{eliminationToward, orderIn}
+use Rattle.tree.specs.declared.ordering.Order.{Order}
 use Rattle.tree.specs.declared.Elimination.{Elimination}
 use Rattle.tree.specs.declared.Offer.{Offer}
 use Rattle.tree.specs.declared.Offer.the-variants.{NoTree, TooLarge, Accepted}

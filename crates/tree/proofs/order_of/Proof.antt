@@ -6,10 +6,10 @@ use Prim.Native.Nat.{ℕ}
 use native.Mathlib.Omega.{arith}
 use borrow.Author.Tests.{not-true, not-false}
 use Rattle.network.specs.Limits.{SITES}
-use Rattle.elimination.specs.Links.{links}
-use Rattle.elimination.specs.Toward.{eliminationToward, orderIn}
-use Rattle.elimination.specs.Steps.{Proper, Eliminated}
-use Rattle.elimination.specs.Rooted.{without-a-root}
+use Rattle.tree.specs.Ordering.Links.{links}
+use Rattle.tree.specs.Ordering.Toward.{eliminationToward, orderIn}
+use Rattle.tree.specs.Ordering.Steps.{Proper, Eliminated}
+use Rattle.tree.specs.Ordering.Rooted.{without-a-root}
 use Rattle.tree.specs.Offer.{isTree}
 use Rattle.tree.specs.Accepted.{is-tree-is-a-tree, a-tree-is-tree, is-false}
 use Rattle.tree.proofs.Answers.{told, denied, a-tree-is-proper}

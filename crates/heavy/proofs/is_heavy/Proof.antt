@@ -1,8 +1,0 @@
--- `heavy::is_heavy` meets its contract, by its test.
-use mathlib.Core.Path.{refl}
-use native.Mathlib.Omega.{arith}
-use Rattle.heavy.proofs.is_heavy.Statement.{statement}
-use Rattle.heavy.proofs.is_heavy.Tie as tie
-
-pub is-heavy-spec : {M : Type 1} → statement M
-is-heavy-spec = tie.close (tie.spec (λ c. omega arith) (λ c. refl))

@@ -1,0 +1,14 @@
+-- `elimination::others` meets its contract: of the numbers up to n only 0 is no site.
+use native.Mathlib.Omega.{arith}
+use Rattle.theory.specs.Sites.{count-low, sites-once}
+use Rattle.tree.proofs.ordering.others.Statement.{statement}
+use Rattle.tree.proofs.ordering.others.Tie as tie
+
+no-root : tie.Need-returns
+no-root c = let a = c .before .args in omega (arith, count-low 1 (a .n) (a .root) (omega arith))
+
+root : tie.Need-returns-2
+root c = let a = c .before .args in omega (arith, sites-once (a .n) (a .root) (omega arith, omega arith))
+
+pub others-spec : {M : Type 1} → statement M
+others-spec = tie.close (tie.spec (λ c. omega arith) no-root root)
