@@ -5,16 +5,16 @@ use mathlib.Core.List.{List}
 use Prim.Native.Nat.{ℕ}
 use lib.Dec.{eqb}
 use lib.ListN.{length, replicate}
-use Rattle.network.specs.Limits.{SITES}
-use Rattle.network.specs.Numbers.{look}
-use Rattle.network.specs.Edition.{largest}
-use Rattle.network.specs.Network.{Links, ends}
+use Rattle.model.specs.Limits.{SITES}
+use Rattle.lists.specs.Numbers.{look}
+use Rattle.model.specs.Edition.{largest}
+use Rattle.model.specs.Flows.{Links, ends}
 use Rattle.tree.specs.Offer.{links, offer}
 use Rattle.tree.specs.declared.Offer.{Offer}
 use Rattle.tree.specs.declared.Offer.the-variants as offered
 -- the owner of each site, and of each terminal the size and the count of its cut, each in a place for each site
-unfoldable pub use Rattle.groups.specs.Places.{places, ofTerminal}
-unfoldable pub use Rattle.groups.specs.Steps.{owned}
+unfoldable pub use Rattle.cuts_groups.specs.Places.{places, ofTerminal}
+unfoldable pub use Rattle.cuts_groups.specs.Steps.{owned}
 use Rattle.cuts.specs.declared.Answer.{Answer}
 use Rattle.cuts.specs.declared.Answer.the-variants.{NoTree, TooLarge, Unequal, Done}
 use Rattle.cuts.specs.declared.Cuts.{Cuts}

@@ -9,16 +9,16 @@ use native.Mathlib.Omega.{arith}
 use borrow.Author.Tests.{eqb-true, eq-eqb}
 use lib.Dec.{eqb}
 use lib.ListN.{length}
-use Rattle.network.specs.Limits.{SITES}
-use Rattle.network.specs.Numbers.{is, sum, count, look}
-use Rattle.network.specs.Edition.{largest}
-use Rattle.network.specs.Network.{Links, Site, sites, ends, atTerminals}
-use Rattle.network.specs.Trimming.{Greatest}
-use Rattle.network.specs.Cuts.{group, inCut, cutSize, cutCount, owner}
-use Rattle.theory.specs.Sums.{is-same, is-other, is-one, is-iff, same?}
-use Rattle.theory.specs.Sites.{over-eq}
-use Rattle.theory.specs.TerminalCuts.{cut-sizes-sum-to-the-terminals}
-use Rattle.theory.specs.Owners.{owner-iff-in-cut, a-terminal-owns-itself}
+use Rattle.model.specs.Limits.{SITES}
+use Rattle.lists.specs.Numbers.{is, sum, count, look}
+use Rattle.model.specs.Edition.{largest}
+use Rattle.model.specs.Flows.{Links, Site, sites, ends, atTerminals}
+use Rattle.model.specs.Trimming.{Greatest}
+use Rattle.model.specs.Cuts.{group, inCut, cutSize, cutCount, owner}
+use Rattle.lists.specs.Sums.{is-same, is-other, is-one, is-iff, same?, contradiction}
+use Rattle.lists.specs.Places.{over-eq}
+use Rattle.theory_trees.specs.TerminalCuts.{cut-sizes-sum-to-the-terminals}
+use Rattle.theory_trees.specs.Owners.{owner-iff-in-cut, a-terminal-owns-itself}
 use Rattle.tree.specs.Offer.{links, offer}
 use Rattle.tree.specs.Accepted.{TreeWithin, accepted-is-a-tree-within-the-limits, a-tree-within-the-limits-is-accepted}
 use Rattle.tree.specs.declared.Offer.{Offer}
@@ -26,15 +26,15 @@ use Rattle.tree.specs.declared.Offer.the-variants as offered
 use Rattle.cuts.specs.declared.Answer.the-variants.{Done}
 use Rattle.cuts.specs.declared.Cuts.{Cuts}
 use Rattle.cuts.specs.Outcome.{places, ofTerminal, owned, noCuts, cuts, offeredCuts, decide, outcome}
-use Rattle.groups.specs.Places.{of-inner, of-terminal, look-places, places-sum, places-count}
+use Rattle.cuts_groups.specs.Places.{of-inner, of-terminal, look-places, places-sum, places-count}
 
 -- ---- for accepted offers and no others
 
 decided : (o : Offer) (b : Bool) (r : Cuts) → decide o b r .answer ≡ Done → (o ≡ offered.Accepted) × (b ≡ true)
 unfolding decide noCuts
-decided offered.NoTree b r e = absurd (let z : _≡_ {A = ℕ} 0 1 = cc in omega arith)
-decided offered.TooLarge b r e = absurd (let z : _≡_ {A = ℕ} 0 1 = cc in omega arith)
-decided offered.Accepted false r e = absurd (let z : _≡_ {A = ℕ} 0 1 = cc in omega arith)
+decided offered.NoTree b r e = contradiction cc
+decided offered.TooLarge b r e = contradiction cc
+decided offered.Accepted false r e = contradiction cc
 decided offered.Accepted true r e = (refl, refl)
 
 module _ (n : ℕ) (a b c t : List ℕ) where

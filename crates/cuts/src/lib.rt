@@ -1,10 +1,10 @@
 // Terminal cuts: for each site the terminal whose cut holds it, and each cut's size and number of sites.
-use groups::NONE;
-use network::SITES;
+use cuts_groups::NONE;
+use model::SITES;
 use tree::Offer;
 ghost use mathlib.Core.Path.{_≡_};
 ghost use lib.ListN.{length};
-ghost use Rattle.network.specs.Edition.{largest};
+ghost use Rattle.model.specs.Edition.{largest};
 ghost use Rattle.tree.specs.Accepted.{TreeWithin};
 ghost use Rattle.cuts.specs.Outcome.{noCuts, offeredCuts, outcome};
 
@@ -46,11 +46,11 @@ fn cuts_by_ends(n: usize, one: &[usize], two: &[usize], capacity: &[u64], balanc
     requires { ⌜ TreeWithin largest n (now one) (now two) (now capacity) × (length (now balanced) ≡ length (now one)) ⌝ }
     ensures { λ r. ⌜ r ≡ offeredCuts n (now (one .entry)) (now (two .entry)) (now (capacity .entry)) (now (balanced .entry)) ⌝ }
 {
-    let chains = links::chain(one, two);
+    let chains = tree_links::chain(one, two);
     let last = chains.last;
     let before = chains.before;
-    let ends = links::ends(n, &last, &before, one, two);
-    let made = groups::cuts_of(n, &ends, one, two, capacity, balanced);
+    let ends = tree_links::ends(n, &last, &before, one, two);
+    let made = cuts_groups::cuts_of(n, &ends, one, two, capacity, balanced);
     let owner = made.owner;
     let size = made.size;
     let count = made.count;

@@ -8,20 +8,20 @@ use Prim.Native.Nat.{ℕ, _*_, _≤_, _<_}
 use native.Mathlib.Omega.{arith}
 use native.Mathlib.Decide.{decLe}
 use lib.ListN.{length, drop}
-use Rattle.network.specs.Edition.{edition1}
-use Rattle.network.specs.Numbers.{count, look, Each}
-use Rattle.network.specs.Network.{Links, Site, Tree, Fits, sites, load, total}
-use Rattle.network.specs.Trimming.{balanced}
-use Rattle.network.specs.Cuts.{inCut}
-use Rattle.network.specs.Text.{bytes}
-use Rattle.network.specs.declared.Edition.{Edition}
-use Rattle.network.specs.declared.Pair.{Pair}
-use Rattle.theory.specs.Sums.{cases, same?}
-use Rattle.theory.specs.Ends.{ends-are-outer}
-use Rattle.theory.specs.Greatest.{balanced-again}
-use Rattle.theory.specs.Leaves.{Outer}
-use Rattle.theory.specs.Bounds.{what-fits-fits-the-balanced, the-same-multiflows-fit-iff-the-balanced-agree, a-full-multiflow-has-the-greatest-total}
-use Rattle.walk.specs.Sound.{arises}
+use Rattle.model.specs.Edition.{edition1}
+use Rattle.lists.specs.Numbers.{count, look, Each}
+use Rattle.model.specs.Flows.{Links, Site, Tree, Fits, sites, load, total}
+use Rattle.model.specs.Trimming.{balanced}
+use Rattle.model.specs.Cuts.{inCut}
+use Rattle.model.specs.Text.{bytes}
+use Rattle.model.specs.declared.Edition.{Edition}
+use Rattle.model.specs.declared.Pair.{Pair}
+use Rattle.lists.specs.Sums.{cases, same?}
+use Rattle.theory_trees.specs.Ends.{ends-are-outer}
+use Rattle.theory_trees.specs.Greatest.{balanced-again}
+use Rattle.theory_trees.specs.Leaves.{Outer}
+use Rattle.theory_trees.specs.Bounds.{what-fits-fits-the-balanced, the-same-multiflows-fit-iff-the-balanced-agree, a-full-multiflow-has-the-greatest-total}
+use Rattle.theory_walk.specs.Sound.{arises}
 use Rattle.sheet.specs.Sheet.{Network, Read, refused, accepted, readSheet}
 use Rattle.sheet.specs.SheetTheorem.{IsNetwork, an-accepted-sheet-is-a-tree}
 use Rattle.report.specs.Report.{report}
@@ -29,7 +29,8 @@ use Rattle.planner.specs.Small.{a-report-is-small}
 use Rattle.planner.specs.Outcome.{Planned, number, lineOf, lengthOf, planned}
 use Rattle.demands.specs.Printed.{IsPlan, siteCount, isEnd, endsAmong, Printed, printedBy, printedOwner, setSize, sizeSum}
 use Rattle.demands.specs.Plans.{multiflow-is-plan, plan-is-multiflow, fullPlan, trimmed-is-greatest, full-plan-is-sound, full-plan-fits}
-use Rattle.demands.specs.Lists.{map-map, map-own}
+use Rattle.lists.specs.Maps.{map-map}
+use Rattle.demands.specs.Lists.{map-own}
 use Rattle.demands.specs.ReadBack.{planSays}
 use Rattle.demands.specs.Sets.{owners-tell-the-cuts, told-sets-are-owned, told-sizes-sum-to-the-terminals}
 use Rattle.demands.specs.Refusals.{sheets-are-refused-with-1-to-8}
@@ -57,7 +58,8 @@ pub record FullReport (r b : List ℕ) (p : Planned) : Type 0 where
 pub data Demand1 (ed : Edition) (s b : List ℕ) : Type 0 where
   faulty-sheet : (k l : ℕ) → readSheet ed s ≡ refused k l → 1 ≤ k → k ≤ 8 → Refusal k l b (planned ed s b) → Demand1 ed s b
   long-report : (net : Network) → readSheet ed s ≡ accepted net → length b < length (report s net) → Refusal 9 0 b (planned ed s b) → Demand1 ed s b
-  full-report : (net : Network) → readSheet ed s ≡ accepted net → length (report s net) ≤ length b → FullReport (report s net) b (planned ed s b) → Demand1 ed s b
+  full-report : (net : Network) → readSheet ed s ≡ accepted net → length (report s net) ≤ length b → FullReport (report s net) b (planned ed s b)
+      → Demand1 ed s b
 
 module _ (ed : Edition) (s b : List ℕ) where
   pub demand-1 : Demand1 ed s b
@@ -190,7 +192,8 @@ module _ {ed : Edition} {s : List ℕ} {net : Network} (N : IsNetwork ed s net) 
       let greatest = trimmed-is-greatest T end O (net .capacities) in
       let full = full-plan-is-sound T end O (net .capacities) in
       record {
-        largest = λ fs h k _ f. a-full-multiflow-has-the-greatest-total T end greatest plan (full .routes) 2 (full .loads) fs (plan-is-multiflow T end O fs h) k f;
+        largest =
+            λ fs h k _ f. a-full-multiflow-has-the-greatest-total T end greatest plan (full .routes) 2 (full .loads) fs (plan-is-multiflow T end O fs h) k f;
         printed-plan = multiflow-is-plan ls n end plan (full .routes);
         once = full .once;
         printed-plan-fits = full-plan-fits T end O (net .capacities);

@@ -1,9 +1,9 @@
 -- Document 01's worked report, star 5, 1, 1, read off its bytes: by computation.
 use mathlib.Core.Path.{_≡_, refl}
-use mathlib.Core.List.{List, [], _∷_}
+use mathlib.Core.List.{List, [], _∷_, _++_}
 use Prim.Native.Nat.{ℕ}
-use Rattle.network.specs.Text.{bytes}
-use Rattle.line_kinds.specs.LineKinds.{push, fields, same, valueFrom}
+use Rattle.model.specs.Text.{bytes}
+use Rattle.sheet_kinds.specs.LineKinds.{push, fields, same, valueFrom}
 use Rattle.sheet.specs.Sheet.{Network, lookupFrom}
 use Rattle.demands.specs.Printed.{linesOf, records, headed, siteFound, siteNamed, readRecords, readReport}
 
@@ -19,7 +19,8 @@ net = record {
 }
 
 abbrev worked : List ℕ
-worked = bytes "plan\t4\t2\nL\thub\ta\t5\t2\nL\thub\tb\t1\t1\nL\thub\tc\t1\t1\nN\thub\ta\nN\ta\ta\nN\tb\tb\nN\tc\tc\nX\ta\t2\t2\nX\tb\t1\t1\nX\tc\t1\t1\nP\ta\tb\t2\nP\ta\tc\t2\n"
+worked = bytes "plan\t4\t2\nL\thub\ta\t5\t2\nL\thub\tb\t1\t1\nL\thub\tc\t1\t1\nN\thub\ta\nN\ta\ta\nN\tb\tb\nN\tc\tc\nX\ta\t2\t2\n"
+    ++ bytes "X\tb\t1\t1\nX\tc\t1\t1\nP\ta\tb\t2\nP\ta\tc\t2\n"
 
 what-it-says : readReport sheet net worked ≡ record {
   heading = bytes "plan";

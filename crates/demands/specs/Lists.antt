@@ -1,20 +1,12 @@
 -- Laws of lists made by a function: of each element, of each place, of each site.
 use mathlib.Core.Path.{_≡_, refl, ap, _∙_}
 use mathlib.Core.List.{List, [], _∷_, map}
-use Prim.Native.Nat.{ℕ, zero, suc, _+_, _≤_, _<_}
+use Prim.Native.Nat.{ℕ, suc, _+_, _<_}
 use native.Mathlib.Omega.{arith}
 use lib.ListN.{length, getD}
-use Rattle.network.specs.Numbers.{upfrom, Each}
-use Rattle.network.specs.Network.{Site, sites}
-
-module _ {A B : Type 0} where
-  pub map-map : {C : Type 0} (f : B → C) (g : A → B) (l : List A) → map f (map g l) ≡ map (λ a. f (g a)) l
-  map-map f g [] = refl
-  map-map f g (a ∷ l) = ap (λ y. f (g a) ∷ y) (map-map f g l)
-
-  pub map-same : (f g : A → B) (l : List A) → Each (λ a. f a ≡ g a) l → map f l ≡ map g l
-  map-same f g [] e = refl
-  map-same f g (a ∷ l) e = rw (e .0, map-same f g l (e .1))
+use Rattle.lists.specs.Numbers.{upfrom, Each}
+use Rattle.model.specs.Flows.{Site, sites}
+use Rattle.lists.specs.Maps.{each-from}
 
 module _ {A : Type 0} where
   pub map-own : (l : List A) → map (λ a. a) l ≡ l
@@ -32,12 +24,6 @@ module _ {A : Type 0} where
   -- a list is made of its elements, place by place
   pub map-places : (l : List A) (d : A) (f : ℕ → A) → ((i : ℕ) → i < length l → f i ≡ getD l i d) → map f (upfrom 0 (length l)) ≡ l
   map-places l d f h = places-from l d f 0 (λ i k. let same : 0 + i ≡ i = omega arith in ap f same ∙ h i k)
-
--- what holds from b up holds of each
-pub each-from : (P : ℕ → Type 0) (b n : ℕ) → ((i : ℕ) → b ≤ i → i < b + n → P i) → Each P (upfrom b n)
-unfolding upfrom
-each-from P b zero h = tt
-each-from P b (suc n) h = (h b (omega arith) (omega arith), each-from P (suc b) n (λ i l k. h i (omega arith) (omega arith)))
 
 pub each-site : (P : ℕ → Type 0) (n : ℕ) → ((x : ℕ) → Site n x → P x) → Each P (sites n)
 each-site P n h = each-from P 1 n (λ i l k. h i (omega arith))

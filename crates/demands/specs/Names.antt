@@ -8,19 +8,19 @@ use native.Mathlib.Decide.{decLt}
 use borrow.Author.Tests.{lt-leb}
 use lib.Dec.{leb}
 use lib.ListN.{length}
-use Rattle.network.specs.Network.{Site}
-use Rattle.network.specs.Text.{bytes}
-use Rattle.network.specs.declared.Edition.{Edition}
-use Rattle.theory.specs.Sums.{cases}
-use Rattle.line_kinds.specs.LineKinds.{all, isLetterOrDigit, isName}
-use Rattle.line_kinds.specs.LineKindLaws.{both}
+use Rattle.model.specs.Flows.{Site}
+use Rattle.model.specs.Text.{bytes}
+use Rattle.model.specs.declared.Edition.{Edition}
+use Rattle.lists.specs.Sums.{cases, contradiction}
+use Rattle.sheet_kinds.specs.LineKinds.{all, isLetterOrDigit, isName}
+use Rattle.sheet_kinds.specs.LineKindLaws.{both}
 use Rattle.sheet.specs.Sheet.{Network, lookup}
-use Rattle.names.specs.Names.{nameAt}
-use Rattle.names.specs.LookupLaws.{Says, lookup-says}
+use Rattle.sheet_names.specs.Names.{nameAt}
+use Rattle.sheet_names.specs.LookupLaws.{Says, lookup-says}
 use Rattle.sheet.specs.SheetTheorem.{IsNetwork}
 use Rattle.planner.specs.Small.{name-or-nothing}
-use Rattle.names.specs.declared.Found.{Found}
-use Rattle.names.specs.declared.Found.the-variants.{At, Absent}
+use Rattle.sheet_names.specs.declared.Found.{Found}
+use Rattle.sheet_names.specs.declared.Found.the-variants.{At, Absent}
 use Rattle.demands.specs.Printed.{siteFound, siteNamed}
 use Rattle.demands.specs.Parsing.{Plain}
 
@@ -28,7 +28,7 @@ use Rattle.demands.specs.Parsing.{Plain}
 
 letter-is-plain : (b : ℕ) → isLetterOrDigit b ≡ true → 45 ≤ b
 letter-is-plain b e = cases (decLt b 45)
-    (λ l. absurd (let z : _≡_ {A = ℕ} 0 1 = cc (lt-leb 65 b (omega arith), lt-leb 97 b (omega arith), lt-leb 48 b (omega arith)) in omega arith))
+    (λ l. contradiction (cc (lt-leb 65 b (omega arith), lt-leb 97 b (omega arith), lt-leb 48 b (omega arith))))
     (λ l. omega arith)
 
 letters-are-plain : (f : List ℕ) → all isLetterOrDigit f ≡ true → Plain f
@@ -64,7 +64,7 @@ module _ {ed : Edition} {s : List ℕ} {net : Network} (N : IsNetwork ed s net) 
   dash-read-back = by (lookup s (net .names) (bytes "-")) (lookup-says s (bytes "-") (net .names) 1)
     where
       by : (w : Found) → Says s (net .names) 1 (bytes "-") w → siteFound w ≡ 0
-      by (At u) h = absurd (let z : _≡_ {A = ℕ} 0 1 = cc (N .names (h .0) (h .2) .name, h .3) in omega arith)
+      by (At u) h = contradiction (cc (N .names (h .0) (h .2) .name, h .3))
       by Absent h = refl
 
   pub site-name-is-plain : (v : ℕ) → Plain (nameAt s (net .names) (v - 1))

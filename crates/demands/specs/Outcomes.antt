@@ -7,8 +7,8 @@ use native.Mathlib.Decide.{decLe}
 use borrow.Author.Tests.{le-leb, lt-leb}
 use lib.ListN.{length, drop}
 use lib.Seq.{take-append-seam}
-use Rattle.network.specs.declared.Edition.{Edition}
-use Rattle.theory.specs.Sums.{cases}
+use Rattle.model.specs.declared.Edition.{Edition}
+use Rattle.lists.specs.Sums.{cases}
 use Rattle.sheet.specs.Sheet.{Network, refused, accepted, readSheet}
 use Rattle.sheet.specs.SheetTheorem.{an-accepted-sheet-is-a-tree}
 use Rattle.report.specs.Report.{report}
@@ -36,5 +36,6 @@ module _ (ed : Edition) (s b : List ℕ) where
     pub the-plan-is-printed : number (planned ed s b .outcome) ≡ 0 → printedBy s net (planned ed s b) ≡ planSays net
     unfolding printedBy
     the-plan-is-printed success = cases (decLe (length (report s net)) (length b))
-        (λ l. rw (report-delivered l, take-append-seam (report s net) (drop (length (report s net)) b)) (report-read-back (an-accepted-sheet-is-a-tree ed s net read)))
+        (λ l. rw (report-delivered l, take-append-seam (report s net) (drop (length (report s net)) b))
+        (report-read-back (an-accepted-sheet-is-a-tree ed s net read)))
         (λ l. absurd (omega (arith, sym success ∙ ap (λ p. number (p .outcome)) (report-too-long (omega arith)))))

@@ -8,10 +8,10 @@ use native.Mathlib.Omega.{arith}
 use native.Mathlib.Decide.{decLt}
 use borrow.Author.Tests.{ne-eqb, lt-ltb, le-ltb}
 use lib.Dec.{eqb}
-use Rattle.network.specs.Numbers.{Each}
-use Rattle.theory.specs.Sums.{cases}
-use Rattle.walk.specs.Lists.{each-append}
-use Rattle.line_kinds.specs.LineKinds.{push, fields, field, same, value, valueFrom}
+use Rattle.lists.specs.Numbers.{Each}
+use Rattle.lists.specs.Sums.{cases}
+use Rattle.lists.specs.Tallies.{each-append}
+use Rattle.sheet_kinds.specs.LineKinds.{push, fields, field, same, value, valueFrom}
 use Rattle.report.specs.Report.{digits, decimal, line, lines}
 use Rattle.demands.specs.Printed.{linesOf, Record, records, headed}
 
@@ -67,7 +67,8 @@ unfolding line
 line-read-back f [] p x = rw (append-assoc f (10 ∷ []) x) (plain-bytes f (p .0) (10 ∷ x) [] [] (records x) (line-end x) ∙ rw (append-nil f))
 line-read-back f (g ∷ fs) p x =
     rw (append-assoc f (9 ∷ line (g ∷ fs)) x)
-    (plain-bytes f (p .0) (9 ∷ (line (g ∷ fs) ++ x)) [] (g ∷ fs) (records x) (tab (line (g ∷ fs) ++ x) (g ∷ fs) (records x) (line-read-back g fs (p .1) x)) ∙ rw (append-nil f))
+    (plain-bytes f (p .0) (9 ∷ (line (g ∷ fs) ++ x)) [] (g ∷ fs) (records x) (tab (line (g ∷ fs) ++ x) (g ∷ fs) (records x) (line-read-back g fs (p .1) x))
+    ∙ rw (append-nil f))
 
 -- ---- decimals
 

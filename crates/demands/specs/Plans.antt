@@ -3,16 +3,16 @@
 use mathlib.Core.List.{List}
 use Prim.Native.Nat.{ℕ}
 use native.Mathlib.Omega.{arith}
-use Rattle.network.specs.Numbers.{look}
-use Rattle.network.specs.Network.{Links, Tree, Route, Multiflow, Fits}
-use Rattle.network.specs.Trimming.{Greatest, balanced}
-use Rattle.network.specs.Pairing.{pairList}
-use Rattle.network.specs.declared.Pair.{Pair}
-use Rattle.theory.specs.Greatest.{balanced-is-greatest}
-use Rattle.theory.specs.Leaves.{Outer, outer-route}
-use Rattle.walk.specs.Lists.{each-map}
-use Rattle.walk.specs.PairingTheorem.{pair-list-is-sound}
-use Rattle.walk.specs.Sound.{Sound}
+use Rattle.lists.specs.Numbers.{look}
+use Rattle.model.specs.Flows.{Links, Tree, Route, Multiflow, Fits}
+use Rattle.model.specs.Trimming.{Greatest, balanced}
+use Rattle.model.specs.Pairing.{pairList}
+use Rattle.model.specs.declared.Pair.{Pair}
+use Rattle.theory_trees.specs.Greatest.{balanced-is-greatest}
+use Rattle.theory_trees.specs.Leaves.{Outer, outer-route}
+use Rattle.lists.specs.Tallies.{each-map}
+use Rattle.theory_walk.specs.PairingTheorem.{pair-list-is-sound}
+use Rattle.theory_walk.specs.Sound.{Sound}
 use Rattle.demands.specs.Printed.{JoinsEnds, IsPlan}
 
 pub multiflow-is-plan : (ls : Links) (n : ℕ) (terminal : ℕ → ℕ) (fs : List Pair) → Multiflow ls n terminal fs → IsPlan n terminal fs

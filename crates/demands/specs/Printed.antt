@@ -7,14 +7,14 @@ use mathlib.Core.List.{List, [], _∷_, map}
 use Prim.Native.Nat.{ℕ, _+_, _-_, _*_}
 use lib.Dec.{eqb}
 use lib.ListN.{length, getD, take}
-use Rattle.network.specs.Numbers.{pick, is, differ, sum, look, Each}
-use Rattle.network.specs.Network.{Links, Site, one, two, ends}
-use Rattle.network.specs.Text.{bytes}
-use Rattle.network.specs.declared.Pair.{Pair}
-use Rattle.line_kinds.specs.LineKinds.{push, fields, field, same, value}
+use Rattle.lists.specs.Numbers.{pick, is, differ, sum, look, Each}
+use Rattle.model.specs.Flows.{Links, Site, one, two, ends}
+use Rattle.model.specs.Text.{bytes}
+use Rattle.model.specs.declared.Pair.{Pair}
+use Rattle.sheet_kinds.specs.LineKinds.{push, fields, field, same, value}
 use Rattle.sheet.specs.Sheet.{Network, lookup}
-use Rattle.names.specs.declared.Found.{Found}
-use Rattle.names.specs.declared.Found.the-variants.{At, Absent}
+use Rattle.sheet_names.specs.declared.Found.{Found}
+use Rattle.sheet_names.specs.declared.Found.the-variants.{At, Absent}
 use Rattle.planner.specs.Outcome.{Planned, lengthOf}
 
 -- ---- plans

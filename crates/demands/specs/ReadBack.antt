@@ -6,22 +6,22 @@ use mathlib.Core.List.{List, [], _∷_, map, flatMap}
 use Prim.Native.Nat.{ℕ, _-_, _<_}
 use native.Mathlib.Omega.{arith}
 use lib.ListN.{length, getD, length-map, List·getD-map}
-use Rattle.network.specs.Numbers.{look, upfrom, Each}
-use Rattle.network.specs.Network.{Links, Site, Route, sites, one, two, total}
-use Rattle.network.specs.Trimming.{balanced}
-use Rattle.network.specs.Cuts.{cutSize, cutCount, owner}
-use Rattle.network.specs.Pairing.{pairList}
-use Rattle.network.specs.Text.{bytes}
-use Rattle.network.specs.declared.Edition.{Edition}
-use Rattle.network.specs.declared.Pair.{Pair}
-use Rattle.theory.specs.Sums.{same?, pick-same, pick-other, pick-cases}
-use Rattle.theory.specs.Ends.{ends-are-outer}
-use Rattle.theory.specs.Greatest.{balanced-has-each-link}
-use Rattle.theory.specs.Owners.{owner-or-none}
-use Rattle.walk.specs.Lists.{each-map}
-use Rattle.line_kinds.specs.LineKinds.{field, value}
+use Rattle.lists.specs.Numbers.{look, upfrom, Each}
+use Rattle.model.specs.Flows.{Links, Site, Route, sites, one, two, total}
+use Rattle.model.specs.Trimming.{balanced}
+use Rattle.model.specs.Cuts.{cutSize, cutCount, owner}
+use Rattle.model.specs.Pairing.{pairList}
+use Rattle.model.specs.Text.{bytes}
+use Rattle.model.specs.declared.Edition.{Edition}
+use Rattle.model.specs.declared.Pair.{Pair}
+use Rattle.lists.specs.Sums.{same?, pick-same, pick-other, pick-cases}
+use Rattle.theory_trees.specs.Ends.{ends-are-outer}
+use Rattle.theory_trees.specs.Greatest.{balanced-has-each-link}
+use Rattle.theory_trees.specs.Owners.{owner-or-none}
+use Rattle.lists.specs.Tallies.{each-map}
+use Rattle.sheet_kinds.specs.LineKinds.{field, value}
 use Rattle.sheet.specs.Sheet.{Network}
-use Rattle.names.specs.Names.{nameAt}
+use Rattle.sheet_names.specs.Names.{nameAt}
 use Rattle.sheet.specs.SheetTheorem.{IsNetwork}
 use Rattle.report.specs.Report.{decimal, ownerName, planOf, report}
 use Rattle.demands.specs.Printed.{Record, records, headed, lastField, siteNamed, isEnd, endsAmong, EndSet, Printed, readRecords, readReport}
@@ -30,8 +30,9 @@ use Rattle.demands.specs.Parsing.{decimal-read-back}
 use Rattle.demands.specs.Records.{linkFields, siteFields, cutFields, cutLines, pairFields, first-line, link-lines, site-lines, cut-lines, pair-lines}
 use Rattle.demands.specs.Names.{name-read-back, dash-read-back, site-name-is-plain}
 use Rattle.demands.specs.Sets.{cutOf}
-use Rattle.theory.specs.Sites.{look-site}
-use Rattle.demands.specs.Lists.{map-map, map-same, map-own, map-places, each-site}
+use Rattle.theory_trees.specs.Sites.{look-site}
+use Rattle.lists.specs.Maps.{map-map, map-same}
+use Rattle.demands.specs.Lists.{map-own, map-places, each-site}
 
 -- what the report of a network says: the plan of the network
 unfoldable pub planSays : Network → Printed

@@ -6,13 +6,14 @@ use mathlib.Core.List.{List, [], _∷_, _++_, map, flatMap, append-assoc, append
 use Prim.Native.Nat.{ℕ, _-_}
 use native.Mathlib.Omega.{arith}
 use lib.ListN.{length, getD}
-use Rattle.network.specs.Numbers.{pick, look, upfrom}
-use Rattle.network.specs.Network.{sites, total}
-use Rattle.network.specs.Text.{bytes}
-use Rattle.network.specs.declared.Pair.{Pair}
-use Rattle.theory.specs.Sums.{same?, pick-same, pick-other, pick-cases}
-use Rattle.line_kinds.specs.LineKinds.{same}
-use Rattle.report.specs.Report.{decimal, lines, Plan, headRecord, linkRecord, linkLine, ownerName, siteRecord, siteLine, cutRecord, cutLine, pairLine, reportOf}
+use Rattle.lists.specs.Numbers.{pick, look, upfrom}
+use Rattle.model.specs.Flows.{sites, total}
+use Rattle.model.specs.Text.{bytes}
+use Rattle.model.specs.declared.Pair.{Pair}
+use Rattle.lists.specs.Sums.{same?, pick-same, pick-other, pick-cases}
+use Rattle.sheet_kinds.specs.LineKinds.{same}
+use Rattle.report.specs.Report.{decimal, lines, Plan, headRecord, linkRecord, linkLine, ownerName, siteRecord, siteLine, cutRecord, cutLine, pairLine}
+use Rattle.report.specs.Report.{reportOf}
 use Rattle.demands.specs.Printed.{Record, linesOf, records, headed}
 use Rattle.demands.specs.Parsing.{Plain, line-read-back, decimal-plain, lines-read-back, headed-append, headed-parts}
 
@@ -83,7 +84,8 @@ module _ (p : Plan) (word : p .word ≡ bytes "plan") (none : p .before ≡ []) 
   cut-back : (a : ℕ) (x : List ℕ) → records (cutLine (p .names) (p .ends) (p .cutSizes) (p .cutCounts) a ++ x) ≡ cutLines p a ++ records x
   unfolding cutLine cutRecord
   cut-back a x = same? (look (p .ends) a) 1
-      (λ e. rw (pick-same {A = List ℕ} e, pick-same {A = List Record} e) (line-read-back _ _ (omega arith, (plain _, (decimal-plain _, (decimal-plain _, tt)))) x))
+      (λ e. rw (pick-same {A = List ℕ} e, pick-same {A = List Record} e)
+      (line-read-back _ _ (omega arith, (plain _, (decimal-plain _, (decimal-plain _, tt)))) x))
       (λ d. rw (pick-other {A = List ℕ} d, pick-other {A = List Record} d))
 
   pair-back : (e : Pair) (x : List ℕ) → records (pairLine (p .names) e ++ x) ≡ pairFields p e ∷ records x

@@ -6,21 +6,23 @@ use Prim.Native.Nat.{ℕ, zero, suc, _+_, _≤_}
 use native.Mathlib.Omega.{arith}
 use lib.Dec.{eqb, leb, ltb}
 use lib.ListN.{length, drop}
-use Rattle.network.specs.Network.{Links, sites, joined}
-use Rattle.network.specs.declared.Edition.{Edition}
-use Rattle.lines.specs.Lines.{lineLength, lineAt, afterLine, hasLine}
-use Rattle.network.specs.Text.{bytes}
-use Rattle.grammar.specs.declared.Check.{Check}
-use Rattle.grammar.specs.declared.Check.the-variants as check
-use Rattle.line_kinds.specs.LineKinds.{same, fields, field, value, isHeading, checked, faultOf, siteForm, linkForm, judged, siteLine, sizedLink, linkLine, kindOf, kind}
-use Rattle.line_kinds.specs.declared.Line.{Line}
-use Rattle.line_kinds.specs.declared.Line.the-variants as line
-use Rattle.sheet.specs.Sheet.{Network, empty, Read, refused, accepted, part, lookup, siteBy, siteStep, linkStep, headingStep, recordStep, stepOf, added, readLine}
+use Rattle.model.specs.Flows.{Links, sites, joined}
+use Rattle.model.specs.declared.Edition.{Edition}
+use Rattle.text_lines.specs.Lines.{lineLength, lineAt, afterLine, hasLine}
+use Rattle.model.specs.Text.{bytes}
+use Rattle.text_grammar.specs.declared.Check.{Check}
+use Rattle.text_grammar.specs.declared.Check.the-variants as check
+use Rattle.sheet_kinds.specs.LineKinds.{same, fields, field, value, isHeading, checked, faultOf, siteForm, linkForm, judged, siteLine, sizedLink, linkLine}
+use Rattle.sheet_kinds.specs.LineKinds.{kindOf, kind}
+use Rattle.sheet_kinds.specs.declared.Line.{Line}
+use Rattle.sheet_kinds.specs.declared.Line.the-variants as line
+use Rattle.sheet.specs.Sheet.{Network, empty, Read, refused, accepted, part, lookup, siteBy, siteStep, linkStep, headingStep, recordStep, stepOf, added}
+use Rattle.sheet.specs.Sheet.{readLine}
 use Rattle.sheet.specs.declared.stepping.Step.{Step}
 use Rattle.sheet.specs.declared.stepping.Step.the-variants as step
 use Rattle.sheet.specs.Sheet.{andThen, readLines, allJoined, finish, readSheet}
-use Rattle.names.specs.declared.Found.{Found}
-use Rattle.names.specs.declared.Found.the-variants.{At, Absent}
+use Rattle.sheet_names.specs.declared.Found.{Found}
+use Rattle.sheet_names.specs.declared.Found.the-variants.{At, Absent}
 
 -- a number of the table's causes 1 to 8
 abbrev pub Cause : ℕ → Type 0
@@ -125,7 +127,8 @@ module _ (ed : Edition) (s : List ℕ) where
   unfolding readLines
   lines-told zero k at net = tt
   lines-told (suc fuel) k at net = either Told (hasLine s at) _ _
-      (then-told (readLine ed s net k at) (λ next. readLines ed s fuel (suc k) (afterLine s at) next) (line-told net k at) (lines-told fuel (suc k) (afterLine s at))) tt
+      (then-told (readLine ed s net k at) (λ next. readLines ed s fuel (suc k) (afterLine s at) next) (line-told net k at)
+      (lines-told fuel (suc k) (afterLine s at))) tt
 
   finish-told : (net : Network) → Told (finish net)
   unfolding finish

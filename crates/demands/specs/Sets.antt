@@ -6,14 +6,15 @@ use mathlib.Core.List.{List, [], _∷_, map}
 use Prim.Native.Nat.{ℕ, _+_, _-_, _*_}
 use native.Mathlib.Omega.{arith}
 use lib.ListN.{length}
-use Rattle.network.specs.Numbers.{is, differ, sum, over, count, look, Each}
-use Rattle.network.specs.Network.{Links, Site, Tree, sites, one, two, atTerminals}
-use Rattle.network.specs.Trimming.{Greatest}
-use Rattle.network.specs.Cuts.{group, inCut, cutSize, cutCount, owner}
-use Rattle.theory.specs.Sums.{same?, pick-same, pick-other, is-same, is-other, is-one, is-iff, sum-eq}
-use Rattle.theory.specs.Sites.{over-eq, look-site}
-use Rattle.theory.specs.TerminalCuts.{cut-sizes-sum-to-the-terminals}
-use Rattle.theory.specs.Owners.{owner-iff-in-cut}
+use Rattle.lists.specs.Numbers.{is, differ, sum, over, count, look, Each}
+use Rattle.model.specs.Flows.{Links, Site, Tree, sites, one, two, atTerminals}
+use Rattle.model.specs.Trimming.{Greatest}
+use Rattle.model.specs.Cuts.{group, inCut, cutSize, cutCount, owner}
+use Rattle.lists.specs.Sums.{same?, pick-same, pick-other, is-same, is-other, is-one, is-iff, sum-eq}
+use Rattle.lists.specs.Places.{over-eq}
+use Rattle.theory_trees.specs.Sites.{look-site}
+use Rattle.theory_trees.specs.TerminalCuts.{cut-sizes-sum-to-the-terminals}
+use Rattle.theory_trees.specs.Owners.{owner-iff-in-cut}
 use Rattle.demands.specs.Printed.{EndSet, sizeSum, endsAmong}
 use Rattle.demands.specs.Lists.{each-site}
 
@@ -79,7 +80,8 @@ module _ {ls : Links} {n : ℕ} (T : Tree ls n) (terminal : ℕ → ℕ) {c t : 
       ∙ over-eq (sites n) (λ x. is (owner ls c t terminal n x) a) (λ x. inCut ls c t a x) (λ x q. owned a x p e)
 
   -- so each set told is the set of the sites owned
-  pub told-sets-are-owned : Each (λ x. (x .size ≡ sizeOwned (x .end)) × (x .count ≡ count owners (x .end))) (map (cutOf ls n c t) (endsAmong terminal (sites n)))
+  pub told-sets-are-owned : Each (λ x. (x .size ≡ sizeOwned (x .end)) × (x .count ≡ count owners (x .end)))
+      (map (cutOf ls n c t) (endsAmong terminal (sites n)))
   told-sets-are-owned = each-mapped _ (cutOf ls n c t) (endsAmong terminal (sites n)) (each-end terminal _ (sites n)
       (each-site _ n (λ a p e. (sym (size-owned a p e), sym (count-owned a p e)))))
 

@@ -3,17 +3,19 @@ use mathlib.Core.Path.{_≡_, refl}
 use mathlib.Core.List.{map}
 use lib.ListN.{length, replicate}
 use native.Mathlib.Decide.{ℕ-discrete, decLe, decLt}
-use Rattle.network.specs.Edition.{edition1}
-use Rattle.network.specs.Numbers.{pick, is, differ, less, sum, over, count, upfrom}
-use Rattle.network.specs.Network.{at, sumAt, leaf, ends, relabel, label, joined, total}
-use Rattle.network.specs.Trimming.{cutAt, cutSite, cutSites, unvisited, first, remove, taken, elimination, balancedAlong, balanced}
-use Rattle.network.specs.Cuts.{kept, group, inCut, cutSize, cutCount, ownerAmong, owner}
-use Rattle.network.specs.Pairing.{put, takeHalves, dropHalves, halves, give, match, joins, between, children, gather, alone, settle, walk, pairsFrom, lowestInner, pairs}
-use Rattle.network.specs.Pairing.{lowerFirst, before, insert, ordered, pairList}
-use Rattle.lines.specs.Lines.{lineLength, lineAt, afterLine, hasLine}
-use Rattle.line_kinds.specs.LineKinds.{same, push, fields, all, isName, isNumber, valueFrom, isHeading, checkedFields, checked, faultOf, judged, siteLine as sheetSite, sizedLink, linkLine as sheetLink, kindOf, kind}
+use Rattle.model.specs.Edition.{edition1}
+use Rattle.lists.specs.Numbers.{pick, is, differ, less, sum, over, count, upfrom}
+use Rattle.model.specs.Flows.{at, sumAt, leaf, ends, relabel, label, joined, total}
+use Rattle.model.specs.Trimming.{cutAt, cutSite, cutSites, unvisited, first, remove, taken, elimination, balancedAlong, balanced}
+use Rattle.model.specs.Cuts.{kept, group, inCut, cutSize, cutCount, ownerAmong, owner}
+use Rattle.model.specs.Pairing.{put, takeHalves, dropHalves, halves, give, match, joins, between, children, gather, alone, settle, walk, pairsFrom}
+use Rattle.model.specs.Pairing.{lowestInner, pairs, lowerFirst, before, insert, ordered, pairList}
+use Rattle.text_lines.specs.Lines.{lineLength, lineAt, afterLine, hasLine}
+use Rattle.sheet_kinds.specs.LineKinds.{same, push, fields, all, isName, isNumber, valueFrom, isHeading, checkedFields, checked, faultOf, judged}
+use Rattle.sheet_kinds.specs.LineKinds.{siteLine as sheetSite, sizedLink, linkLine as sheetLink, kindOf, kind}
 use Rattle.sheet.specs.Sheet.{lookupFrom, siteStep, linkStep, headingStep, recordStep, stepOf, readLine, andThen, readLines, allJoined, finish, readSheet}
-use Rattle.report.specs.Report.{digits, decimal, line, lines, planOf, ownerName, headRecord, linkRecord, linkLine, siteRecord, siteLine, cutRecord, cutLine, pairLine, reportOf, report}
+use Rattle.report.specs.Report.{digits, decimal, line, lines, planOf, ownerName, headRecord, linkRecord, linkLine, siteRecord, siteLine, cutRecord, cutLine}
+use Rattle.report.specs.Report.{pairLine, reportOf, report}
 use Rattle.planner.specs.Outcome.{Planned, deliver, planRead, planned}
 use Rattle.planner.specs.declared.Outcome.the-variants.{Report}
 use Rattle.nine.specs.Sheets.{Example, sheets}
@@ -27,5 +29,11 @@ expected : Example → Planned
 expected e = record { outcome = Report (length (e .report)); buffer = e .report }
 
 nine-sheets : map plannedFor sheets ≡ map expected sheets
-unfolding plannedFor expected planned planRead deliver ℕ-discrete decLe decLt pick is differ less sum over count upfrom at sumAt leaf ends relabel label joined total cutAt cutSite cutSites unvisited first remove taken elimination balancedAlong balanced kept group inCut cutSize cutCount ownerAmong owner put takeHalves dropHalves halves give match joins between children gather alone settle walk pairsFrom lowestInner pairs lowerFirst before insert ordered pairList lineLength lineAt afterLine hasLine same push fields all isName isNumber valueFrom isHeading checkedFields checked faultOf judged sheetSite sizedLink sheetLink kindOf kind lookupFrom siteStep linkStep headingStep recordStep stepOf readLine andThen readLines allJoined finish readSheet digits decimal line lines planOf ownerName headRecord linkRecord linkLine siteRecord siteLine cutRecord cutLine pairLine reportOf report
+unfolding plannedFor expected planned planRead deliver ℕ-discrete decLe decLt pick is differ less sum over count upfrom at sumAt leaf ends relabel label joined
+    total cutAt cutSite cutSites unvisited first remove taken elimination balancedAlong balanced kept group inCut cutSize cutCount ownerAmong owner put
+    takeHalves dropHalves halves give match joins between children gather alone settle walk pairsFrom lowestInner pairs lowerFirst before insert ordered
+    pairList lineLength lineAt afterLine hasLine same push fields all isName isNumber valueFrom isHeading checkedFields checked faultOf judged
+    sheetSite sizedLink sheetLink kindOf kind lookupFrom siteStep linkStep headingStep recordStep stepOf readLine andThen readLines allJoined
+    finish readSheet digits decimal line lines planOf ownerName headRecord linkRecord linkLine siteRecord siteLine cutRecord cutLine pairLine
+    reportOf report
 nine-sheets = refl

@@ -1,7 +1,7 @@
 -- Document 01's "Sheets to try", those marked with a star: nine sheets and the reports that 01's text and rules give for them.
-use mathlib.Core.List.{List, [], _∷_}
+use mathlib.Core.List.{List, [], _∷_, _++_}
 use Prim.Native.Nat.{ℕ}
-use Rattle.network.specs.Text.{bytes}
+use Rattle.model.specs.Text.{bytes}
 
 -- a sheet and its report
 pub record Example : Type 0 where
@@ -13,27 +13,32 @@ sheets =
     -- star 1, 1, 1
     record {
       sheet = bytes "network\t1\nN\thub\nN\ta\nN\tb\nN\tc\nL\thub\ta\t1\nL\thub\tb\t1\nL\thub\tc\t1\n";
-      report = bytes "plan\t3\t3\nL\thub\ta\t1\t1\nL\thub\tb\t1\t1\nL\thub\tc\t1\t1\nN\thub\t-\nN\ta\ta\nN\tb\tb\nN\tc\tc\nX\ta\t1\t1\nX\tb\t1\t1\nX\tc\t1\t1\nP\ta\tb\t1\nP\ta\tc\t1\nP\tb\tc\t1\n";
+      report = bytes "plan\t3\t3\nL\thub\ta\t1\t1\nL\thub\tb\t1\t1\nL\thub\tc\t1\t1\nN\thub\t-\nN\ta\ta\nN\tb\tb\nN\tc\tc\nX\ta\t1\t1\n"
+          ++ bytes "X\tb\t1\t1\nX\tc\t1\t1\nP\ta\tb\t1\nP\ta\tc\t1\nP\tb\tc\t1\n";
     }
     -- star 5, 1, 1
     ∷ record {
       sheet = bytes "network\t1\nN\thub\nN\ta\nN\tb\nN\tc\nL\thub\ta\t5\nL\thub\tb\t1\nL\thub\tc\t1\n";
-      report = bytes "plan\t4\t2\nL\thub\ta\t5\t2\nL\thub\tb\t1\t1\nL\thub\tc\t1\t1\nN\thub\ta\nN\ta\ta\nN\tb\tb\nN\tc\tc\nX\ta\t2\t2\nX\tb\t1\t1\nX\tc\t1\t1\nP\ta\tb\t2\nP\ta\tc\t2\n";
+      report = bytes "plan\t4\t2\nL\thub\ta\t5\t2\nL\thub\tb\t1\t1\nL\thub\tc\t1\t1\nN\thub\ta\nN\ta\ta\nN\tb\tb\nN\tc\tc\n"
+          ++ bytes "X\ta\t2\t2\nX\tb\t1\t1\nX\tc\t1\t1\nP\ta\tb\t2\nP\ta\tc\t2\n";
     }
     -- star 3, 1, 1, 1
     ∷ record {
       sheet = bytes "network\t1\nN\thub\nN\ta\nN\tb\nN\tc\nN\td\nL\thub\ta\t3\nL\thub\tb\t1\nL\thub\tc\t1\nL\thub\td\t1\n";
-      report = bytes "plan\t6\t3\nL\thub\ta\t3\t3\nL\thub\tb\t1\t1\nL\thub\tc\t1\t1\nL\thub\td\t1\t1\nN\thub\t-\nN\ta\ta\nN\tb\tb\nN\tc\tc\nN\td\td\nX\ta\t3\t1\nX\tb\t1\t1\nX\tc\t1\t1\nX\td\t1\t1\nP\ta\tb\t2\nP\ta\tc\t2\nP\ta\td\t2\n";
+      report = bytes "plan\t6\t3\nL\thub\ta\t3\t3\nL\thub\tb\t1\t1\nL\thub\tc\t1\t1\nL\thub\td\t1\t1\nN\thub\t-\nN\ta\ta\nN\tb\tb\nN\tc\tc\n"
+          ++ bytes "N\td\td\nX\ta\t3\t1\nX\tb\t1\t1\nX\tc\t1\t1\nX\td\t1\t1\nP\ta\tb\t2\nP\ta\tc\t2\nP\ta\td\t2\n";
     }
     -- star 4, 1, 1, 1
     ∷ record {
       sheet = bytes "network\t1\nN\thub\nN\ta\nN\tb\nN\tc\nN\td\nL\thub\ta\t4\nL\thub\tb\t1\nL\thub\tc\t1\nL\thub\td\t1\n";
-      report = bytes "plan\t6\t3\nL\thub\ta\t4\t3\nL\thub\tb\t1\t1\nL\thub\tc\t1\t1\nL\thub\td\t1\t1\nN\thub\ta\nN\ta\ta\nN\tb\tb\nN\tc\tc\nN\td\td\nX\ta\t3\t2\nX\tb\t1\t1\nX\tc\t1\t1\nX\td\t1\t1\nP\ta\tb\t2\nP\ta\tc\t2\nP\ta\td\t2\n";
+      report = bytes "plan\t6\t3\nL\thub\ta\t4\t3\nL\thub\tb\t1\t1\nL\thub\tc\t1\t1\nL\thub\td\t1\t1\nN\thub\ta\nN\ta\ta\nN\tb\tb\nN\tc\tc\n"
+          ++ bytes "N\td\td\nX\ta\t3\t2\nX\tb\t1\t1\nX\tc\t1\t1\nX\td\t1\t1\nP\ta\tb\t2\nP\ta\tc\t2\nP\ta\td\t2\n";
     }
     -- star 2, 0, 0
     ∷ record {
       sheet = bytes "network\t1\nN\thub\nN\ta\nN\tb\nN\tc\nL\thub\ta\t2\nL\thub\tb\t0\nL\thub\tc\t0\n";
-      report = bytes "plan\t0\t0\nL\thub\ta\t2\t0\nL\thub\tb\t0\t0\nL\thub\tc\t0\t0\nN\thub\ta\nN\ta\ta\nN\tb\tb\nN\tc\tc\nX\ta\t0\t2\nX\tb\t0\t1\nX\tc\t0\t1\n";
+      report = bytes "plan\t0\t0\nL\thub\ta\t2\t0\nL\thub\tb\t0\t0\nL\thub\tc\t0\t0\nN\thub\ta\nN\ta\ta\nN\tb\tb\nN\tc\tc\nX\ta\t0\t2\n"
+          ++ bytes "X\tb\t0\t1\nX\tc\t0\t1\n";
     }
     -- path a-h-k-b of 7, 3, 5
     ∷ record {
@@ -53,6 +58,7 @@ sheets =
     -- sites h, k, a, b, c, d; links h-k 10, h-a 3, h-b 3, k-c 1, k-d 1
     ∷ record {
       sheet = bytes "network\t1\nN\th\nN\tk\nN\ta\nN\tb\nN\tc\nN\td\nL\th\tk\t10\nL\th\ta\t3\nL\th\tb\t3\nL\tk\tc\t1\nL\tk\td\t1\n";
-      report = bytes "plan\t8\t3\nL\th\tk\t10\t2\nL\th\ta\t3\t3\nL\th\tb\t3\t3\nL\tk\tc\t1\t1\nL\tk\td\t1\t1\nN\th\t-\nN\tk\t-\nN\ta\ta\nN\tb\tb\nN\tc\tc\nN\td\td\nX\ta\t3\t1\nX\tb\t3\t1\nX\tc\t1\t1\nX\td\t1\t1\nP\ta\tb\t4\nP\ta\tc\t2\nP\tb\td\t2\n";
+      report = bytes "plan\t8\t3\nL\th\tk\t10\t2\nL\th\ta\t3\t3\nL\th\tb\t3\t3\nL\tk\tc\t1\t1\nL\tk\td\t1\t1\nN\th\t-\nN\tk\t-\nN\ta\ta\n"
+          ++ bytes "N\tb\tb\nN\tc\tc\nN\td\td\nX\ta\t3\t1\nX\tb\t3\t1\nX\tc\t1\t1\nX\td\t1\t1\nP\ta\tb\t4\nP\ta\tc\t2\nP\tb\td\t2\n";
     }
     ∷ []

@@ -15,12 +15,12 @@ use denote.Laws.{Is}
 use denote.Builtin.{usize}
 use denote.Array.{Array, each}
 use denote.Struct.Laws as LL
-use Rattle.network.specs.Limits.{SITES}
-use Rattle.network.specs.declared.Pair.{Pair}
-use Rattle.network.proofs.Pair as T
-use Rattle.network.proofs.Pair.Laws as T′
-use Rattle.network.proofs.Pairs as Q
-use Rattle.network.proofs.Pairs.Laws as Q′
+use Rattle.model.specs.Limits.{SITES}
+use Rattle.model.specs.declared.Pair.{Pair}
+use Rattle.model.proofs.Pair as T
+use Rattle.model.proofs.Pair.Laws as T′
+use Rattle.model.proofs.Pairs as Q
+use Rattle.model.proofs.Pairs.Laws as Q′
 use Rattle.pairing.specs.declared.Pairing.{Pairing}
 use Rattle.pairing.specs.declared.Work.{Work}
 use Rattle.pairing.proofs.Pairing as P
@@ -29,7 +29,8 @@ use Rattle.pairing.proofs.Work as D
 use Rattle.pairing.proofs.Work.Laws as D′
 
 -- the pairs of a list one by one, as tuples of their fields and as records
-each-pair : (ps : List Pair) (us : List Val) → each (T.the-field .row .Denot) (T.the-field .row .own) (map (T.the-field .into) ps) us ≡ each Pair (T.the-row .own) ps us
+each-pair : (ps : List Pair) (us : List Val)
+    → each (T.the-field .row .Denot) (T.the-field .row .own) (map (T.the-field .into) ps) us ≡ each Pair (T.the-row .own) ps us
 each-pair [] [] = refl
 each-pair [] (u ∷ us) = refl
 each-pair (p ∷ ps) [] = refl

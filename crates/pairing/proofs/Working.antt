@@ -8,19 +8,19 @@ use native.Mathlib.Omega.{arith}
 use native.Mathlib.Decide.{decLe}
 use lib.Seq.{length-take-le}
 use lib.ListN.{length, take, drop}
-use Rattle.network.specs.Limits.{LINKS, SITES}
-use Rattle.network.specs.Numbers.{look}
-use Rattle.network.specs.Edition.{largest}
-use Rattle.network.specs.Trimming.{Balanced}
-use Rattle.network.specs.Pairing.{pairList, ordered}
-use Rattle.network.specs.declared.Pair.{Pair}
+use Rattle.model.specs.Limits.{LINKS, SITES}
+use Rattle.lists.specs.Numbers.{look}
+use Rattle.model.specs.Edition.{largest}
+use Rattle.model.specs.Trimming.{Balanced}
+use Rattle.model.specs.Pairing.{pairList, ordered}
+use Rattle.model.specs.declared.Pair.{Pair}
 use Rattle.tree.specs.Offer.{links}
 use Rattle.tree.specs.Links.{length-links}
 use Rattle.tree.specs.Accepted.{TreeWithin}
-use Rattle.theory.specs.Ends.{ends-are-outer}
-use Rattle.walk.specs.PairingTheorem.{pairs-are-sound}
-use Rattle.pairlist.specs.PairList.{stored}
-use Rattle.pairlist.specs.Laws.{ordering-keeps-length}
+use Rattle.theory_trees.specs.Ends.{ends-are-outer}
+use Rattle.theory_walk.specs.PairingTheorem.{pairs-are-sound}
+use Rattle.pairing_order.specs.PairList.{stored}
+use Rattle.pairing_order.specs.Laws.{ordering-keeps-length}
 use Rattle.pairing.specs.declared.Pairing.{Pairing}
 use Rattle.pairing.specs.declared.Pairing.the-variants.{NoTree, TooLarge, Short, Heavy, Pairs}
 use Rattle.pairing.specs.declared.Work.{Work}

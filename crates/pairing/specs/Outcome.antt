@@ -5,11 +5,11 @@ use mathlib.Core.List.{List, _++_}
 use Prim.Native.Nat.{ℕ}
 use lib.Dec.{leb}
 use lib.ListN.{length, drop}
-use Rattle.network.specs.Numbers.{look}
-use Rattle.network.specs.Edition.{largest}
-use Rattle.network.specs.Network.{ends}
-use Rattle.network.specs.Pairing.{pairList}
-use Rattle.network.specs.declared.Pair.{Pair}
+use Rattle.lists.specs.Numbers.{look}
+use Rattle.model.specs.Edition.{largest}
+use Rattle.model.specs.Flows.{ends}
+use Rattle.model.specs.Pairing.{pairList}
+use Rattle.model.specs.declared.Pair.{Pair}
 use Rattle.tree.specs.Offer.{links, offer}
 use Rattle.tree.specs.declared.Offer.{Offer}
 use Rattle.tree.specs.declared.Offer.the-variants as offered
@@ -38,7 +38,8 @@ listOf n one two c = pairList (links one two) n (look c) (terminals n one two)
 -- what is said of an offer with so many lent places
 unfoldable pub answer : ℕ → List ℕ → List ℕ → List ℕ → ℕ → Pairing
 answer n one two c places =
-    decide (offer largest n one two c) (leb (length one) places) (heavySomewhere (links one two) n (terminals n one two) (look c)) (length (listOf n one two c))
+    decide (offer largest n one two c) (leb (length one) places) (heavySomewhere (links one two) n (terminals n one two) (look c))
+    (length (listOf n one two c))
 
 -- ---- the lent list after
 

@@ -4,27 +4,27 @@ use mathlib.Core.Path.{_≡_, refl, ap, _∙_}
 use mathlib.Core.Bool.{Bool, true, false}
 use mathlib.Core.List.{List, _++_}
 use Prim.Native.Nat.{ℕ, _≤_, _<_}
-use native.Mathlib.Omega.{arith}
 use borrow.Author.Tests.{le-leb}
 use lib.Dec.{leb}
 use lib.Seq.{take-at, drop-at}
 use lib.ListN.{length, take, drop}
-use Rattle.network.specs.Numbers.{look, Each}
-use Rattle.network.specs.Edition.{largest}
-use Rattle.network.specs.Network.{Tree}
-use Rattle.network.specs.Trimming.{Balanced}
-use Rattle.network.specs.declared.Pair.{Pair}
+use Rattle.lists.specs.Numbers.{look, Each}
+use Rattle.model.specs.Edition.{largest}
+use Rattle.model.specs.Flows.{Tree}
+use Rattle.model.specs.Trimming.{Balanced}
+use Rattle.model.specs.declared.Pair.{Pair}
 use Rattle.tree.specs.Offer.{links, offer}
 use Rattle.tree.specs.Accepted.{TreeWithin, accepted-is-a-tree-within-the-limits, a-tree-within-the-limits-is-accepted}
 use Rattle.tree.specs.declared.Offer.{Offer}
 use Rattle.tree.specs.declared.Offer.the-variants as offered
 use Rattle.pairing.specs.Weighing.Heavy.{heavySomewhere, balanced-has-no-heavy-link, no-heavy-link-is-balanced}
-use Rattle.walk.specs.Sound.{Sound, Ascending}
-use Rattle.theory.specs.Leaves.{Outer}
-use Rattle.theory.specs.Ends.{ends-are-outer}
-use Rattle.walk.specs.PairingTheorem.{pair-list-is-sound, pair-list-ascends, pair-list-lower-first}
+use Rattle.theory_walk.specs.Sound.{Sound, Ascending}
+use Rattle.theory_trees.specs.Leaves.{Outer}
+use Rattle.theory_trees.specs.Ends.{ends-are-outer}
+use Rattle.theory_walk.specs.PairingTheorem.{pair-list-is-sound, pair-list-ascends, pair-list-lower-first}
 use Rattle.pairing.specs.declared.Pairing.the-variants.{Heavy, Pairs}
 use Rattle.pairing.specs.Outcome.{terminals, listOf, decide, answer, after, paired}
+use Rattle.lists.specs.Sums.{contradiction}
 
 -- the first `count` places of a list hold the pairs of a tree with the balanced capacities c
 pub record Promise (n : ℕ) (one two c : List ℕ) (count : ℕ) (list : List Pair) : Type 0 where
@@ -50,19 +50,19 @@ balanced-capacities-are-paired {n} {one} {two} {c} t B places enough = rw (
 pairs-are-told : (o : Offer) (enough heavy : Bool) (m count : ℕ) → decide o enough heavy m ≡ Pairs count
     → (o ≡ offered.Accepted) × (enough ≡ true) × (heavy ≡ false) × (m ≡ count)
 unfolding decide
-pairs-are-told offered.NoTree enough heavy m count e = absurd (let z : _≡_ {A = ℕ} 0 1 = cc in omega arith)
-pairs-are-told offered.TooLarge enough heavy m count e = absurd (let z : _≡_ {A = ℕ} 0 1 = cc in omega arith)
-pairs-are-told offered.Accepted false heavy m count e = absurd (let z : _≡_ {A = ℕ} 0 1 = cc in omega arith)
-pairs-are-told offered.Accepted true true m count e = absurd (let z : _≡_ {A = ℕ} 0 1 = cc in omega arith)
+pairs-are-told offered.NoTree enough heavy m count e = contradiction cc
+pairs-are-told offered.TooLarge enough heavy m count e = contradiction cc
+pairs-are-told offered.Accepted false heavy m count e = contradiction cc
+pairs-are-told offered.Accepted true true m count e = contradiction cc
 pairs-are-told offered.Accepted true false m count e = (refl, refl, refl, cc)
 
 heavy-is-told : (o : Offer) (enough heavy : Bool) (m : ℕ) → decide o enough heavy m ≡ Heavy → (o ≡ offered.Accepted) × (heavy ≡ true)
 unfolding decide
-heavy-is-told offered.NoTree enough heavy m e = absurd (let z : _≡_ {A = ℕ} 0 1 = cc in omega arith)
-heavy-is-told offered.TooLarge enough heavy m e = absurd (let z : _≡_ {A = ℕ} 0 1 = cc in omega arith)
-heavy-is-told offered.Accepted false heavy m e = absurd (let z : _≡_ {A = ℕ} 0 1 = cc in omega arith)
+heavy-is-told offered.NoTree enough heavy m e = contradiction cc
+heavy-is-told offered.TooLarge enough heavy m e = contradiction cc
+heavy-is-told offered.Accepted false heavy m e = contradiction cc
 heavy-is-told offered.Accepted true true m e = (refl, refl)
-heavy-is-told offered.Accepted true false m e = absurd (let z : _≡_ {A = ℕ} 0 1 = cc in omega arith)
+heavy-is-told offered.Accepted true false m e = contradiction cc
 
 -- a heavy link is told of no balanced capacities
 pub heavy-is-not-balanced : (n : ℕ) (one two c : List ℕ) (places : ℕ) → answer n one two c places ≡ Heavy
@@ -72,7 +72,7 @@ heavy-is-not-balanced n one two c places e B =
     let told = heavy-is-told (offer largest n one two c) (leb (length one) places) (heavySomewhere (links one two) n (terminals n one two) (look c))
     (length (listOf n one two c)) e in
     let none = balanced-has-no-heavy-link (links one two) (terminals n one two) (look c) n B in
-    let z : _≡_ {A = ℕ} 0 1 = cc in omega arith
+    contradiction cc
 
 module _ (n : ℕ) (one two c : List ℕ) (lent : List Pair) (count : ℕ) (e : answer n one two c (length lent) ≡ Pairs count) where
   told : (offer largest n one two c ≡ offered.Accepted) × (leb (length one) (length lent) ≡ true)

@@ -3,10 +3,10 @@ use mathlib.Core.Path.{_≡_}
 use mathlib.Core.List.{List, []}
 use Prim.Native.Nat.{ℕ, _≤_}
 use lib.ListN.{take}
-use Rattle.network.specs.Limits.{SITES}
-use Rattle.network.specs.Numbers.{look}
-use Rattle.network.specs.Pairing.{pairs}
-use Rattle.network.specs.declared.Pair.{Pair}
+use Rattle.model.specs.Limits.{SITES}
+use Rattle.lists.specs.Numbers.{look}
+use Rattle.model.specs.Pairing.{pairs}
+use Rattle.model.specs.declared.Pair.{Pair}
 use Rattle.tree.specs.Offer.{links}
 use Rattle.pairing.specs.declared.Pairing.{Pairing}
 use Rattle.pairing.specs.declared.Pairing.the-variants.{NoTree, TooLarge, Short, Heavy, Pairs}

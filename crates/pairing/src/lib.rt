@@ -1,14 +1,14 @@
 // What is said of an offered tree whose capacities are to be paired, and its pair list.
 mod weighing;
 
-use network::Pair;
-use network::Pairs;
-use network::SITES;
+use model::Pair;
+use model::Pairs;
+use model::SITES;
 use tree::Offer;
 ghost use mathlib.Core.Path.{_≡_};
 ghost use Prim.Native.Nat.{ℕ, _≤_};
 ghost use lib.ListN.{length};
-ghost use Rattle.network.specs.Edition.{largest};
+ghost use Rattle.model.specs.Edition.{largest};
 ghost use Rattle.tree.specs.Accepted.{TreeWithin};
 ghost use Rattle.pairing.specs.Outcome.{answer, paired};
 ghost use Rattle.pairing.specs.Storing.{Worked};
@@ -55,14 +55,14 @@ fn take_apart(n: usize, one: &[usize], two: &[usize], capacity: &[u64]) -> Work
     ensures { λ r. ⌜ ((places : ℕ) → length (now (one .entry)) ≤ places
         → Worked n (now (one .entry)) (now (two .entry)) (now (capacity .entry)) places r) ⌝ }
 {
-    let chains = links::chain(one, two);
+    let chains = tree_links::chain(one, two);
     let last = chains.last;
     let before = chains.before;
-    let ends = links::ends(n, &last, &before, one, two);
+    let ends = tree_links::ends(n, &last, &before, one, two);
     if weighing::heavy(n, &ends, &last, &before, one, two, capacity) {
         return refused(Pairing::Heavy);
     }
-    let pairs = decomposition::decompose(n, &ends, &last, &before, one, two, capacity);
+    let pairs = pairing_walk::decompose(n, &ends, &last, &before, one, two, capacity);
     let count = pairs.count;
     Work {
         answer: Pairing::Pairs { count },
@@ -98,6 +98,6 @@ pub fn pair_up(
         × (now (pairs .exit) ≡ paired n (now (one .entry)) (now (two .entry)) (now (capacity .entry)) (now (pairs .entry))) ⌝ }
 {
     let done = work_out(n, one, two, capacity, pairs.len());
-    pairlist::store(pairs, done.pairs.list, done.pairs.count);
+    pairing_order::store(pairs, done.pairs.list, done.pairs.count);
     done.answer
 }

@@ -2,13 +2,13 @@
 ghost use mathlib.Core.Path.{_≡_};
 ghost use Prim.Native.Nat.{_-_, _≤_};
 ghost use lib.Dec.{ltb};
-ghost use Rattle.network.specs.Limits.{SITES};
-ghost use Rattle.network.specs.Numbers.{look};
+ghost use Rattle.model.specs.Limits.{SITES};
+ghost use Rattle.lists.specs.Numbers.{look};
 ghost use Rattle.tree.specs.Offer.{links};
-ghost use Rattle.links.specs.Chains.{Chained, Limited};
+ghost use Rattle.tree_links.specs.Chains.{Chained, Limited};
 ghost use Rattle.pairing.specs.Weighing.Heavy.{heavyAt, heavySomewhere};
-use network::CHAINS;
-use network::PLACES;
+use model::CHAINS;
+use model::PLACES;
 
 // Whether a link of capacity t is larger than the other links have together at a site whose links have the sum.
 fn is_heavy(t: u64, sum: u64) -> bool
@@ -34,13 +34,13 @@ fn heavy_at(
     if ends[v] == 1 {
         return false;
     }
-    let sum = links::sum_at(v, last, before, one, two, capacity);
+    let sum = tree_links::sum_at(v, last, before, one, two, capacity);
     let mut p = last[v];
     while 0 < p {
         if is_heavy(capacity[p - 1], sum) {
             return true;
         }
-        p = links::link_before(v, p - 1, one, two, before);
+        p = tree_links::link_before(v, p - 1, one, two, before);
     }
     false
 }

@@ -1,7 +1,7 @@
 // Plans the sheet on standard input: writes its report, or the line of its refusal, to standard output.
 use libc::STDIN_FILENO;
 use libc::STDOUT_FILENO;
-use network::BYTES;
+use model::BYTES;
 
 // One byte more than a sheet may have is enough to see that it has too many.
 fn main() {

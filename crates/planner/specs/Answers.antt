@@ -7,29 +7,34 @@ use native.Mathlib.Omega.{arith}
 use lib.Dec.{leb}
 use lib.ListN.{length, drop, length-append}
 use lib.Seq.{length-sets}
-use Rattle.network.specs.Edition.{edition1}
+use Rattle.model.specs.Edition.{edition1}
 use Rattle.sheet.specs.Sheet.{Read, refused, accepted, readSheet}
 use Rattle.report.specs.Report.{report, refusalLine}
-use Rattle.writers.specs.Wrote.{Wrote}
+use Rattle.text_writers.specs.Wrote.{Wrote}
 use Rattle.planner.specs.Outcome.{Planned, deliver, planRead, planned, spelt, answered}
 use Rattle.planner.specs.declared.Outcome.the-variants.{Report, Refused}
+use Rattle.lists.specs.Sums.{contradiction}
 
 -- a report's length is within the buffer after
 delivered-within : (r b : List ℕ) (n : ℕ) → deliver r b .outcome ≡ Report n → n ≤ length (deliver r b .buffer)
 unfolding deliver
 delivered-within r b n e = by (leb (length r) (length b)) e
   where
-    by : (t : Bool) → (cond {A = Planned} t (record { outcome = Report (length r); buffer = r ++ drop (length r) b }) (record { outcome = Refused 9 0; buffer = b })) .outcome ≡ Report n
-        → n ≤ length ((cond {A = Planned} t (record { outcome = Report (length r); buffer = r ++ drop (length r) b }) (record { outcome = Refused 9 0; buffer = b })) .buffer)
+    by : (t : Bool)
+        → (cond {A = Planned} t (record { outcome = Report (length r); buffer = r ++ drop (length r) b })
+        (record { outcome = Refused 9 0; buffer = b })) .outcome ≡ Report n
+        → n ≤ length
+        ((cond {A = Planned} t (record { outcome = Report (length r); buffer = r ++ drop (length r) b })
+        (record { outcome = Refused 9 0; buffer = b })) .buffer)
     by true q = let z : length r ≡ n = cc in omega (arith, length-append r (drop (length r) b))
-    by false q = absurd (let z : _≡_ {A = ℕ} 0 1 = cc in omega arith)
+    by false q = contradiction cc
 
 pub a-report-is-within-the-buffer : (s b : List ℕ) (n : ℕ) → planned edition1 s b .outcome ≡ Report n → n ≤ length (planned edition1 s b .buffer)
 unfolding planned planRead
 a-report-is-within-the-buffer s b n e = by (readSheet edition1 s) e
   where
     by : (r : Read) → planRead s b r .outcome ≡ Report n → n ≤ length (planRead s b r .buffer)
-    by (refused k l) q = absurd (let z : _≡_ {A = ℕ} 0 1 = cc in omega arith)
+    by (refused k l) q = contradiction cc
     by (accepted net) q = delivered-within (report s net) b n q
 
 -- a refusal leaves the buffer
@@ -37,9 +42,12 @@ refused-stays : (s b : List ℕ) (k l : ℕ) → planned edition1 s b .outcome �
 unfolding planned planRead deliver
 refused-stays s b k l e = by (readSheet edition1 s) e
   where
-    within : (r : List ℕ) (t : Bool) → (cond {A = Planned} t (record { outcome = Report (length r); buffer = r ++ drop (length r) b }) (record { outcome = Refused 9 0; buffer = b })) .outcome ≡ Refused k l
-        → (cond {A = Planned} t (record { outcome = Report (length r); buffer = r ++ drop (length r) b }) (record { outcome = Refused 9 0; buffer = b })) .buffer ≡ b
-    within r true q = absurd (let z : _≡_ {A = ℕ} 0 1 = cc in omega arith)
+    within : (r : List ℕ) (t : Bool)
+        → (cond {A = Planned} t (record { outcome = Report (length r); buffer = r ++ drop (length r) b })
+        (record { outcome = Refused 9 0; buffer = b })) .outcome ≡ Refused k l
+        → (cond {A = Planned} t (record { outcome = Report (length r); buffer = r ++ drop (length r) b })
+        (record { outcome = Refused 9 0; buffer = b })) .buffer ≡ b
+    within r true q = contradiction cc
     within r false q = refl
 
     by : (r : Read) → planRead s b r .outcome ≡ Refused k l → planRead s b r .buffer ≡ b

@@ -9,14 +9,15 @@ use borrow.Author.Tests.{le-leb, lt-leb, leb-true, leb-false}
 use lib.Dec.{leb}
 use lib.ListN.{length, drop}
 use lib.Seq.{sets-eq}
-use Rattle.network.specs.Limits.{REPORT}
-use Rattle.network.specs.Edition.{edition1}
-use Rattle.network.specs.declared.Pairs.{Pairs}
-use Rattle.writers.specs.Wrote.{Wrote}
+use Rattle.model.specs.Limits.{REPORT}
+use Rattle.model.specs.Edition.{edition1}
+use Rattle.model.specs.declared.Pairs.{Pairs}
+use Rattle.text_writers.specs.Wrote.{Wrote}
 use Rattle.report.specs.Report.{Plan, reportOf, report}
 use Rattle.planner.specs.Outcome.{deliver, planRead, planned}
 use Rattle.planner.specs.Ready.{Ready}
 use Rattle.planner.specs.declared.Outcome.the-variants.{Report, Refused}
+use Rattle.lists.specs.Sums.{contradiction}
 
 -- whether the report of a plan goes into so many bytes: no report has more than REPORT
 unfoldable pub fits : Plan → ℕ → Bool
@@ -27,7 +28,7 @@ unfolding fits
 no-room p room e = by (leb REPORT room) e
   where
     by : (t : Bool) → cond t true (leb (length (reportOf p)) room) ≡ false → room < length (reportOf p)
-    by true q = absurd (let z : _≡_ {A = ℕ} 0 1 = cc in omega arith)
+    by true q = contradiction cc
     by false q = leb-false _ _ q
 
 pub room-enough : (p : Plan) (room : ℕ) → fits p room ≡ true → length (reportOf p) ≤ REPORT → length (reportOf p) ≤ room

@@ -6,7 +6,7 @@ use Prim.Native.Nat.{ℕ}
 use lib.Dec.{leb}
 use lib.ListN.{length, drop}
 use lib.Seq.{sets}
-use Rattle.network.specs.declared.Edition.{Edition}
+use Rattle.model.specs.declared.Edition.{Edition}
 use Rattle.sheet.specs.Sheet.{Read, refused, accepted, readSheet}
 use Rattle.report.specs.Report.{report, refusalLine}
 use Rattle.planner.specs.declared.Outcome.{Outcome}

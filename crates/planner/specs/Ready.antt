@@ -4,13 +4,13 @@ use mathlib.Core.Path.{_≡_}
 use mathlib.Core.List.{List, [], map}
 use Prim.Native.Nat.{ℕ}
 use lib.ListN.{length, take}
-use Rattle.network.specs.Edition.{edition1}
-use Rattle.network.specs.Numbers.{look}
-use Rattle.network.specs.Network.{ends}
-use Rattle.network.specs.Trimming.{elimination}
-use Rattle.network.specs.declared.Pairs.{Pairs}
+use Rattle.model.specs.Edition.{edition1}
+use Rattle.lists.specs.Numbers.{look}
+use Rattle.model.specs.Flows.{ends}
+use Rattle.model.specs.Trimming.{elimination}
+use Rattle.model.specs.declared.Pairs.{Pairs}
 use Rattle.tree.specs.Offer.{links}
-use Rattle.links.specs.Chains.{Chained}
+use Rattle.tree_links.specs.Chains.{Chained}
 use Rattle.sheet.specs.Sheet.{Network, accepted, readSheet}
 use Rattle.report.specs.Report.{Plan, reportOf, report}
 use Rattle.report.specs.Shown.{CanWrite}

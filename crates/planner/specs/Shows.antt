@@ -7,17 +7,17 @@ use native.Mathlib.Nat.{add-zero}
 use native.Mathlib.Omega.{arith}
 use lib.ListN.{length, getD, take}
 use lib.Seq.{length-take-le}
-use Rattle.network.specs.Limits.{SITES}
-use Rattle.network.specs.Numbers.{look, upfrom}
-use Rattle.network.specs.Network.{sites, ends, total}
-use Rattle.network.specs.Trimming.{balanced}
-use Rattle.network.specs.Cuts.{cutSize, cutCount, owner}
-use Rattle.network.specs.Pairing.{pairList}
-use Rattle.network.specs.Text.{bytes}
-use Rattle.network.specs.declared.Pair.{Pair}
-use Rattle.network.specs.declared.Pairs.{Pairs}
-use Rattle.theory.specs.Sums.{pick-same, pick-other, same?}
-use Rattle.theory.specs.Sites.{look-from}
+use Rattle.model.specs.Limits.{SITES}
+use Rattle.lists.specs.Numbers.{look, upfrom}
+use Rattle.model.specs.Flows.{sites, ends, total}
+use Rattle.model.specs.Trimming.{balanced}
+use Rattle.model.specs.Cuts.{cutSize, cutCount, owner}
+use Rattle.model.specs.Pairing.{pairList}
+use Rattle.model.specs.Text.{bytes}
+use Rattle.model.specs.declared.Pair.{Pair}
+use Rattle.model.specs.declared.Pairs.{Pairs}
+use Rattle.lists.specs.Sums.{pick-same, pick-other, same?}
+use Rattle.lists.specs.Places.{look-from}
 use Rattle.sheet.specs.Sheet.{Network, part}
 use Rattle.sheet.specs.Reading.{padded}
 use Rattle.sheet.specs.ListLaws.{look-padded}

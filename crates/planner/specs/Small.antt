@@ -8,24 +8,25 @@ use native.Mathlib.Omega.{arith}
 use native.Mathlib.Nat.{mul-le-mul-right}
 use native.Mathlib.Decide.{decLt}
 use lib.ListN.{length, length-map, List·getD-eq-default}
-use Rattle.network.specs.Limits.{SITES, LINKS, SIZE, REPORT}
-use Rattle.network.specs.Edition.{edition1}
-use Rattle.network.specs.Numbers.{is, differ, sum, look}
-use Rattle.network.specs.Network.{Links, sites, one, two, sumAt, ends, total, atTerminals}
-use Rattle.network.specs.Trimming.{Greatest, balanced}
-use Rattle.network.specs.Cuts.{inCut, cutSize, cutCount}
-use Rattle.network.specs.Pairing.{pairList}
-use Rattle.network.specs.declared.Edition.{Edition}
-use Rattle.theory.specs.Sums.{cases, is-le, differ-le, sum-mul, sum-one, sum-le}
-use Rattle.theory.specs.Sites.{length-upfrom, look-site, over-le, over-one}
-use Rattle.theory.specs.Leaves.{sums-at-sites-count-links-twice}
-use Rattle.theory.specs.Ends.{ends-are-outer}
-use Rattle.theory.specs.Greatest.{balanced-is-greatest}
-use Rattle.walk.specs.Sound.{Sound}
-use Rattle.walk.specs.PairingTheorem.{pair-list-is-sound, amounts-are-bounded}
-use Rattle.fields.specs.Fields.{isName}
-use Rattle.fields.specs.FieldLaws.{name-length}
-use Rattle.names.specs.Names.{nameAt}
+use Rattle.model.specs.Limits.{SITES, LINKS, SIZE, REPORT}
+use Rattle.model.specs.Edition.{edition1}
+use Rattle.lists.specs.Numbers.{is, differ, sum, look}
+use Rattle.model.specs.Flows.{Links, sites, one, two, sumAt, ends, total, atTerminals}
+use Rattle.model.specs.Trimming.{Greatest, balanced}
+use Rattle.model.specs.Cuts.{inCut, cutSize, cutCount}
+use Rattle.model.specs.Pairing.{pairList}
+use Rattle.model.specs.declared.Edition.{Edition}
+use Rattle.lists.specs.Sums.{cases, is-le, differ-le, sum-mul, sum-one, sum-le}
+use Rattle.lists.specs.Places.{length-upfrom, over-le, over-one}
+use Rattle.theory_trees.specs.Sites.{look-site}
+use Rattle.theory_trees.specs.Leaves.{sums-at-sites-count-links-twice}
+use Rattle.theory_trees.specs.Ends.{ends-are-outer}
+use Rattle.theory_trees.specs.Greatest.{balanced-is-greatest}
+use Rattle.theory_walk.specs.Sound.{Sound}
+use Rattle.theory_walk.specs.PairingTheorem.{pair-list-is-sound, amounts-are-bounded}
+use Rattle.text_fields.specs.Fields.{isName}
+use Rattle.text_fields.specs.FieldLaws.{name-length}
+use Rattle.sheet_names.specs.Names.{nameAt}
 use Rattle.sheet.specs.Sheet.{Network}
 use Rattle.sheet.specs.SheetTheorem.{IsNetwork}
 use Rattle.report.specs.Report.{planOf, report}

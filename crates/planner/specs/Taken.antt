@@ -5,9 +5,9 @@ use Prim.Native.Nat.{ℕ, suc, _-_, _≤_}
 use native.Mathlib.Omega.{arith}
 use lib.ListN.{length, take, replicate, length-append, length-map, length-replicate}
 use lib.Seq.{take-at}
-use Rattle.network.specs.Limits.{LINKS, SITES}
-use Rattle.network.specs.Edition.{edition1, largest}
-use Rattle.network.specs.Network.{Links}
+use Rattle.model.specs.Limits.{LINKS, SITES}
+use Rattle.model.specs.Edition.{edition1, largest}
+use Rattle.model.specs.Flows.{Links}
 use Rattle.tree.specs.Offer.{links, offer}
 use Rattle.tree.specs.Accepted.{TreeWithin, a-tree-within-the-limits-is-accepted}
 use Rattle.tree.specs.declared.Offer.the-variants.{Accepted}
@@ -19,6 +19,7 @@ use Rattle.sheet.specs.declared.Lists.{Lists}
 use Rattle.planner.specs.Outcome.{planRead, planned}
 use Rattle.planner.specs.Ready.{TakenApart}
 use Rattle.planner.specs.declared.Outcome.the-variants.{Refused}
+use Rattle.lists.specs.Sums.{contradiction}
 
 -- ---- lists with zeros behind them
 
@@ -44,7 +45,7 @@ unfolding reading
 accepted-is-listed s e = by (readSheet edition1 s) refl e
   where
     by : (r : Read) → readSheet edition1 s ≡ r → reading r .answer ≡ answered.Accepted → Listed s (reading r .network)
-    by (refused n k) q e = absurd (let z : _≡_ {A = ℕ} 0 1 = cc in omega arith)
+    by (refused n k) q e = contradiction cc
     by (accepted net) q e = record { net = net; read = q; listed = refl }
 
 -- a refused sheet is refused with the same number and line, and the buffer stays
@@ -55,7 +56,7 @@ refused-is-told s b n k e = by (readSheet edition1 s) e
   where
     by : (r : Read) → reading r .answer ≡ answered.Refused n k → planRead s b r ≡ record { outcome = Refused n k; buffer = b }
     by (refused m l) e = let p : m ≡ n = cc in let q : l ≡ k = cc in rw (p, q)
-    by (accepted net) e = absurd (let z : _≡_ {A = ℕ} 0 1 = cc in omega arith)
+    by (accepted net) e = contradiction cc
 
 -- ---- taken apart
 

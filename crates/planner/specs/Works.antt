@@ -7,29 +7,29 @@ use native.Mathlib.Omega.{arith}
 use native.Mathlib.Numerals.{one-add}
 use lib.ListN.{length, getD, take, drop, length-append, length-map, List·getD-map}
 use lib.Seq.{take-at, getD-take, length-take-le}
-use Rattle.network.specs.Limits.{LINKS, SITES}
-use Rattle.network.specs.Edition.{edition1, largest}
-use Rattle.network.specs.Numbers.{look, Each}
-use Rattle.network.specs.Network.{Links, Site, Route, one, two, ends}
-use Rattle.network.specs.Trimming.{Balanced, balanced}
-use Rattle.network.specs.Cuts.{cutSize, cutCount, owner}
-use Rattle.network.specs.Pairing.{pairs, pairList, ordered}
-use Rattle.network.specs.Text.{bytes}
-use Rattle.network.specs.declared.Pair.{Pair}
-use Rattle.network.specs.declared.Pairs.{Pairs}
-use Rattle.theory.specs.Owners.{owner-or-none}
-use Rattle.theory.specs.Leaves.{Outer}
-use Rattle.theory.specs.Ends.{ends-are-outer}
-use Rattle.theory.specs.Greatest.{balanced-has-each-link}
+use Rattle.model.specs.Limits.{LINKS, SITES}
+use Rattle.model.specs.Edition.{edition1, largest}
+use Rattle.lists.specs.Numbers.{look, Each}
+use Rattle.model.specs.Flows.{Links, Site, Route, one, two, ends}
+use Rattle.model.specs.Trimming.{Balanced, balanced}
+use Rattle.model.specs.Cuts.{cutSize, cutCount, owner}
+use Rattle.model.specs.Pairing.{pairs, pairList, ordered}
+use Rattle.model.specs.Text.{bytes}
+use Rattle.model.specs.declared.Pair.{Pair}
+use Rattle.model.specs.declared.Pairs.{Pairs}
+use Rattle.theory_trees.specs.Owners.{owner-or-none}
+use Rattle.theory_trees.specs.Leaves.{Outer}
+use Rattle.theory_trees.specs.Ends.{ends-are-outer}
+use Rattle.theory_trees.specs.Greatest.{balanced-has-each-link}
 use Rattle.tree.specs.Offer.{links}
 use Rattle.tree.specs.Accepted.{TreeWithin}
 use Rattle.trimming.specs.Outcome.{capacities}
 use Rattle.trimming.specs.Promise.{Promise, capacities-keep-the-promise, promised-within}
-use Rattle.groups.specs.Places.{places, ofTerminal, length-places, look-places, of-terminal}
-use Rattle.groups.specs.Steps.{owned}
-use Rattle.groups.specs.declared.Owned.{Owned}
-use Rattle.decomposition.specs.Visits.{Walkable, Listing}
-use Rattle.pairlist.specs.Laws.{ordering-keeps-length}
+use Rattle.cuts_groups.specs.Places.{places, ofTerminal, length-places, look-places, of-terminal}
+use Rattle.cuts_groups.specs.Steps.{owned}
+use Rattle.cuts_groups.specs.declared.Owned.{Owned}
+use Rattle.pairing_walk.specs.Visits.{Walkable, Listing}
+use Rattle.pairing_order.specs.Laws.{ordering-keeps-length}
 use Rattle.sheet.specs.Sheet.{Network, accepted, readSheet}
 use Rattle.sheet.specs.SheetTheorem.{IsNetwork}
 use Rattle.report.specs.Shown.{Named, AllNamed, Links as Linked, Owners, Paired, no-pair, shownBy, CanWrite}
@@ -143,7 +143,8 @@ module _ {s : List ℕ} {net : Network} (N : IsNetwork edition1 s net) where
           rw (← listed, getD-take (ps .count) (ps .list) i no-pair l) at named;
     }
 
-    the-report-is-ready : readSheet edition1 s ≡ accepted net → Ready s (starts net) (stops net) (planBy net s marks (cuts .owner) (cuts .size) (cuts .count) ps) ps
+    the-report-is-ready : readSheet edition1 s ≡ accepted net
+        → Ready s (starts net) (stops net) (planBy net s marks (cuts .owner) (cuts .size) (cuts .count) ps) ps
     unfolding owned
     the-report-is-ready read =
         let shows = the-lists-show-the-plan net s ps works in

@@ -3,18 +3,18 @@ ghost use mathlib.Core.Path.{_≡_};
 ghost use mathlib.Core.List.{[]};
 ghost use Prim.Native.Nat.{_≤_};
 ghost use lib.ListN.{length};
-ghost use Rattle.network.specs.Edition.{edition1};
-ghost use Rattle.network.specs.Text.{bytes};
+ghost use Rattle.model.specs.Edition.{edition1};
+ghost use Rattle.model.specs.Text.{bytes};
 ghost use Rattle.report.specs.Shown.{shownBy};
 ghost use Rattle.planner.specs.Outcome.{planned, answered};
 ghost use Rattle.planner.specs.Ready.{TakenApart, Charted, Ready};
 ghost use Rattle.planner.specs.Taken.{Listed};
 ghost use Rattle.planner.specs.Fits.{fits};
-use network::CHAINS;
-use network::PLACES;
-use network::Pairs;
-use network::REPORT;
-use network::SITES;
+use model::CHAINS;
+use model::PLACES;
+use model::Pairs;
+use model::REPORT;
+use model::SITES;
 use sheet::Answer;
 use sheet::Lists;
 
@@ -42,9 +42,11 @@ fn fits(
     room: usize,
 ) -> bool
     requires { ⌜ Ready (now sheet) (now start) (now end)
-        (shownBy (bytes "plan") [] (now sheet) (now start) (now end) n (now one) (now two) (now capacity) (now trimmed) (now ends) (now owner) (now size) (now count) pairs) pairs ⌝ }
+        (shownBy (bytes "plan") [] (now sheet) (now start) (now end) n (now one) (now two) (now capacity) (now trimmed) (now ends) (now owner) (now size)
+        (now count) pairs) pairs ⌝ }
     ensures { λ r. ⌜ r ≡ fits (shownBy (bytes "plan") [] (now (sheet .entry)) (now (start .entry)) (now (end .entry)) n
-        (now (one .entry)) (now (two .entry)) (now (capacity .entry)) (now (trimmed .entry)) (now (ends .entry)) (now (owner .entry)) (now (size .entry)) (now (count .entry)) pairs) room ⌝ }
+        (now (one .entry)) (now (two .entry)) (now (capacity .entry)) (now (trimmed .entry)) (now (ends .entry)) (now (owner .entry)) (now (size .entry))
+        (now (count .entry)) pairs) room ⌝ }
 {
     if REPORT <= room {
         return true;
@@ -89,7 +91,8 @@ fn deliver(
     report: &mut [u8],
 ) -> Outcome
     requires { ⌜ Ready (now sheet) (now start) (now end)
-        (shownBy (bytes "plan") [] (now sheet) (now start) (now end) n (now one) (now two) (now capacity) (now trimmed) (now ends) (now owner) (now size) (now count) pairs) pairs ⌝ }
+        (shownBy (bytes "plan") [] (now sheet) (now start) (now end) n (now one) (now two) (now capacity) (now trimmed) (now ends) (now owner) (now size)
+        (now count) pairs) pairs ⌝ }
     ensures told { λ r. ⌜ r ≡ planned edition1 (now (sheet .entry)) (now (report .entry)) .outcome ⌝ }
     ensures left { λ r. ⌜ now (report .exit) ≡ planned edition1 (now (sheet .entry)) (now (report .entry)) .buffer ⌝ }
 {
@@ -148,20 +151,21 @@ fn plan_charted(
     before: &[usize; CHAINS],
     report: &mut [u8],
 ) -> Outcome
-    requires { ⌜ TakenApart (now sheet) (now start) (now end) n (now one) (now two) (now capacity) × Charted n (now one) (now two) (now order) (now ends) (now last) (now before) ⌝ }
+    requires { ⌜ TakenApart (now sheet) (now start) (now end) n (now one) (now two) (now capacity)
+        × Charted n (now one) (now two) (now order) (now ends) (now last) (now before) ⌝ }
     ensures told { λ r. ⌜ r ≡ planned edition1 (now (sheet .entry)) (now (report .entry)) .outcome ⌝ }
     ensures left { λ r. ⌜ now (report .exit) ≡ planned edition1 (now (sheet .entry)) (now (report .entry)) .buffer ⌝ }
 {
     let m = one.len();
     let mut list = [0u64; SITES];
-    balancing::balance(n, order, ends, last, before, one, two, capacity, &mut list);
+    trimming_passes::balance(n, order, ends, last, before, one, two, capacity, &mut list);
     let trimmed = &list[..m];
-    let cuts = groups::cuts_of(n, ends, one, two, capacity, trimmed);
+    let cuts = cuts_groups::cuts_of(n, ends, one, two, capacity, trimmed);
     let owner = cuts.owner;
     let size = cuts.size;
     let count = cuts.count;
-    let made = decomposition::decompose(n, ends, last, before, one, two, trimmed);
-    let pairs = pairlist::ordered(made);
+    let made = pairing_walk::decompose(n, ends, last, before, one, two, trimmed);
+    let pairs = pairing_order::ordered(made);
     deliver(
         sheet,
         start,
@@ -197,10 +201,10 @@ fn plan_lists(
 {
     let tree = tree::eliminate(n, one, two, capacity);
     let order = tree.sites;
-    let chains = links::chain(one, two);
+    let chains = tree_links::chain(one, two);
     let last = chains.last;
     let before = chains.before;
-    let ends = links::ends(n, &last, &before, one, two);
+    let ends = tree_links::ends(n, &last, &before, one, two);
     plan_charted(
         sheet,
         start,

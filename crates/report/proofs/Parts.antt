@@ -2,11 +2,11 @@
 use mathlib.Core.List.{List, _++_}
 use Prim.Native.Nat.{ℕ}
 use lib.ListN.{length}
-use Rattle.network.specs.Numbers.{upfrom}
-use Rattle.network.specs.Network.{sites, total}
-use Rattle.network.specs.declared.Pairs.{Pairs}
-use Rattle.writers.specs.Wrote.{Wrote, Room}
-use Rattle.writers.specs.Writing.{room-front, room-after}
+use Rattle.lists.specs.Numbers.{upfrom}
+use Rattle.model.specs.Flows.{sites, total}
+use Rattle.model.specs.declared.Pairs.{Pairs}
+use Rattle.text_writers.specs.Wrote.{Wrote, Room}
+use Rattle.text_writers.specs.Writing.{room-front, room-after}
 use Rattle.report.specs.Report.{Plan, lines, headRecord, linkLine, siteLine, cutLine, pairLine, reportOf}
 use Rattle.report.specs.Shown.{CanWrite}
 

@@ -5,8 +5,8 @@ use Prim.Native.Nat.{ℕ, zero, suc, _+_, _≤_, _<_}
 use native.Mathlib.Numerals.{add-one}
 use native.Mathlib.Omega.{arith}
 use lib.ListN.{length, getD, take}
-use Rattle.network.specs.Network.{total}
-use Rattle.network.specs.declared.Pair.{Pair}
+use Rattle.model.specs.Flows.{total}
+use Rattle.model.specs.declared.Pair.{Pair}
 use Rattle.report.specs.Shown.{no-pair}
 
 total-suc : (pairs : List Pair) (i : ℕ) → i < length pairs → total (take (suc i) pairs) ≡ total (take i pairs) + getD pairs i no-pair .amount

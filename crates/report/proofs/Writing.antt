@@ -6,13 +6,13 @@ use native.Mathlib.Numerals.{add-one}
 use native.Mathlib.Omega.{arith}
 use lib.ListN.{length, getD, take, drop, length-append}
 use lib.Seq.{take-suc, take-all, split-at}
-use Rattle.network.specs.Numbers.{pick, look, upfrom}
-use Rattle.network.specs.Network.{sites}
-use Rattle.theory.specs.Sites.{look-upfrom}
-use Rattle.writers.specs.Fields.{decimal, line}
-use Rattle.writers.specs.Decimal.{decimal-length}
-use Rattle.writers.specs.Wrote.{Wrote, Room}
-use Rattle.writers.specs.Writing.{nothing, then}
+use Rattle.lists.specs.Numbers.{pick, look, upfrom}
+use Rattle.model.specs.Flows.{sites}
+use Rattle.lists.specs.Places.{look-upfrom}
+use Rattle.text_writers.specs.Fields.{decimal, line}
+use Rattle.text_writers.specs.Decimal.{decimal-length}
+use Rattle.text_writers.specs.Wrote.{Wrote, Room}
+use Rattle.text_writers.specs.Writing.{nothing, then}
 use Rattle.report.specs.Report.{lines, linkRecord, linkLine, siteRecord, siteLine, cutRecord, cutLine}
 
 -- ---- one line more

@@ -5,15 +5,15 @@ use mathlib.Core.List.{List, [], _∷_}
 use Prim.Native.Nat.{ℕ, zero, suc, _+_, _-_, _*_, _≤_, _<_}
 use native.Mathlib.Omega.{arith}
 use lib.ListN.{length, length-append}
-use Rattle.network.specs.Limits.{LINKS, REPORT, SITES, SIZE}
-use Rattle.network.specs.Numbers.{look, upfrom, Each}
-use Rattle.network.specs.Network.{Site, sites, total}
-use Rattle.network.specs.Text.{bytes}
-use Rattle.network.specs.declared.Pair.{Pair}
-use Rattle.theory.specs.Sums.{pick-cases}
-use Rattle.writers.specs.Decimal.{decimal-within}
-use Rattle.report.specs.Report.{decimal, line, lines, Plan, reportOf}
-use Rattle.report.specs.Report.{headRecord, linkRecord, linkLine, ownerName, siteRecord, siteLine, cutRecord, cutLine, pairLine}
+use Rattle.model.specs.Limits.{LINKS, REPORT, SITES, SIZE}
+use Rattle.lists.specs.Numbers.{look, upfrom, Each}
+use Rattle.model.specs.Flows.{Site, sites, total}
+use Rattle.model.specs.Text.{bytes}
+use Rattle.model.specs.declared.Pair.{Pair}
+use Rattle.lists.specs.Sums.{pick-cases}
+use Rattle.text_writers.specs.Decimal.{decimal-within}
+use Rattle.report.specs.Report.{decimal, line, lines, Plan, reportOf, headRecord, linkRecord, linkLine, ownerName, siteRecord, siteLine, cutRecord}
+use Rattle.report.specs.Report.{cutLine, pairLine}
 
 -- ---- lines
 

@@ -2,15 +2,15 @@
 use mathlib.Core.List.{List, [], _∷_, _++_, map}
 use Prim.Native.Nat.{ℕ, _-_}
 use lib.ListN.{length, getD}
-use Rattle.network.specs.Numbers.{pick, look, upfrom}
-use Rattle.network.specs.Network.{sites, ends, total}
-use Rattle.network.specs.Trimming.{balanced}
-use Rattle.network.specs.Cuts.{cutSize, cutCount, owner}
-use Rattle.network.specs.Pairing.{pairList}
-use Rattle.network.specs.Text.{bytes}
-use Rattle.network.specs.declared.Pair.{Pair}
+use Rattle.lists.specs.Numbers.{pick, look, upfrom}
+use Rattle.model.specs.Flows.{sites, ends, total}
+use Rattle.model.specs.Trimming.{balanced}
+use Rattle.model.specs.Cuts.{cutSize, cutCount, owner}
+use Rattle.model.specs.Pairing.{pairList}
+use Rattle.model.specs.Text.{bytes}
+use Rattle.model.specs.declared.Pair.{Pair}
 use Rattle.sheet.specs.Sheet.{Network, part}
-unfoldable pub use Rattle.writers.specs.Fields.{digits, decimal, line}
+unfoldable pub use Rattle.text_writers.specs.Fields.{digits, decimal, line}
 
 -- the lines that f gives for each element of a list
 unfoldable pub lines : {A : Type 0} → (A → List ℕ) → List A → List ℕ

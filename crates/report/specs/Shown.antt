@@ -4,13 +4,13 @@ use mathlib.Core.Logic.{_≢_}
 use mathlib.Core.List.{List}
 use Prim.Native.Nat.{ℕ, _-_, _*_, _≤_, _<_}
 use lib.ListN.{length, getD, take}
-use Rattle.network.specs.Limits.{LINKS, SITES, SIZE}
-use Rattle.network.specs.Numbers.{look}
-use Rattle.network.specs.Network.{total}
-use Rattle.network.specs.declared.Pair.{Pair}
-use Rattle.network.specs.declared.Pairs.{Pairs}
+use Rattle.model.specs.Limits.{LINKS, SITES, SIZE}
+use Rattle.lists.specs.Numbers.{look}
+use Rattle.model.specs.Flows.{total}
+use Rattle.model.specs.declared.Pair.{Pair}
+use Rattle.model.specs.declared.Pairs.{Pairs}
 use Rattle.sheet.specs.Sheet.{part}
-use Rattle.writers.specs.Wrote.{Room}
+use Rattle.text_writers.specs.Wrote.{Room}
 use Rattle.report.specs.Report.{Plan, reportOf}
 
 -- the name of site v, whose range in the sheet s stands at place v - 1 of two lists

@@ -8,16 +8,16 @@ use native.Mathlib.Nat.{sub-zero}
 use native.Mathlib.Numerals.{add-one}
 use native.Mathlib.Omega.{arith}
 use lib.ListN.{length, replicate, set, length-append, length-map}
-use Rattle.network.specs.Limits.{PLACES, SITES}
-use Rattle.network.specs.Numbers.{look, upfrom}
-use Rattle.network.specs.Network.{Site, relabel}
-use Rattle.network.specs.declared.Edition.{Edition}
-use Rattle.labels.specs.Labels.{linked, whole}
-use Rattle.labels.specs.LabelPlaces.{linked-sites, whole-sites}
-use Rattle.lines.specs.Lines.{lineAt, afterLine}
-use Rattle.lines.specs.LineLaws.{length-of-line}
-use Rattle.names.specs.Names.{part, ranges, hash, entered, Indexes}
-use Rattle.names.specs.TableLaws.{no-sites, site-entered}
+use Rattle.model.specs.Limits.{PLACES, SITES}
+use Rattle.lists.specs.Numbers.{look, upfrom}
+use Rattle.model.specs.Flows.{Site, relabel}
+use Rattle.model.specs.declared.Edition.{Edition}
+use Rattle.tree_labels.specs.Labels.{linked, whole}
+use Rattle.tree_labels.specs.LabelPlaces.{linked-sites, whole-sites}
+use Rattle.text_lines.specs.Lines.{lineAt, afterLine}
+use Rattle.text_lines.specs.LineLaws.{length-of-line}
+use Rattle.sheet_names.specs.Names.{part, ranges, hash, entered, Indexes}
+use Rattle.sheet_names.specs.TableLaws.{no-sites, site-entered}
 use Rattle.sheet.specs.Sheet.{Network, empty, refused, accepted, stepOf, added, readLine, readLines, andThen, finish}
 use Rattle.sheet.specs.Reading.{padded, lists, reading}
 use Rattle.sheet.specs.Sound.{Sound, Accepts, none-is-sound, a-line-keeps-sound, links-are-few}
@@ -31,7 +31,8 @@ use Rattle.sheet.specs.declared.stepping.Step.the-variants as step
 use Rattle.sheet.specs.declared.Answer.the-variants.{Accepted}
 
 -- an element more of a list, in the first free place of the list of one of its parts
-placed : (f : ℕ × ℕ → ℕ) (rs : List (ℕ × ℕ)) (r : ℕ × ℕ) → length rs < SITES → set (padded SITES (map f rs)) (length rs) (f r) ≡ padded SITES (map f (rs ++ (r ∷ [])))
+placed : (f : ℕ × ℕ → ℕ) (rs : List (ℕ × ℕ)) (r : ℕ × ℕ) → length rs < SITES
+    → set (padded SITES (map f rs)) (length rs) (f r) ≡ padded SITES (map f (rs ++ (r ∷ [])))
 placed f rs r h =
     ap (λ n. set (padded SITES (map f rs)) n (f r)) (sym (length-map rs f))
     ∙ padded-more SITES (map f rs) (f r) (omega (arith, length-map rs f))
@@ -121,7 +122,8 @@ module _ {ed : Edition} {s table marks : List ℕ} {net : Lists} {at number : �
     sound-next next q = subst (Accepts (Sound ed s)) (line-is ∙ q) (a-line-keeps-sound ed s (P .read) number (P .sound) at (P .on-sheet))
 
     -- and the lines left go on from it
-    on : (next : Network) → added (P .read) number w ≡ accepted next → (after : Lists) → after ≡ lists next → (entries : List ℕ) → Indexes s (next .names) entries
+    on : (next : Network) → added (P .read) number w ≡ accepted next → (after : Lists) → after ≡ lists next → (entries : List ℕ)
+        → Indexes s (next .names) entries
         → (joined : List ℕ) → joined ≡ labels PLACES (reverse (next .links)) → Progress ed s after entries joined (at + length (lineAt s at) + 1) (number + 1)
     unfolding afterLine andThen
     on next q after l entries t joined m =
@@ -185,7 +187,8 @@ module _ {ed : Edition} {s table marks : List ℕ} {net : Lists} {at number : �
         (rw (P .lists-are, placed (λ l. l .0) ls (a, b) room, placed (λ l. l .1) ls (a, b) room, sized, length-append ls ((a, b) ∷ [])))
         table (P .indexed)
         joined
-        (e ∙ linked-sites marks a b (omega (arith, lengths)) (omega (arith, lengths)) ∙ ap (λ m. map (relabel (look m a) (look m b)) m) (P .labels-are) ∙ labels-join PLACES a b (reverse ls) (fits .1) (fits .2) ∙ ap (labels PLACES) (sym (link-behind a b)))
+        (e ∙ linked-sites marks a b (omega (arith, lengths)) (omega (arith, lengths)) ∙ ap (λ m. map (relabel (look m a) (look m b)) m) (P .labels-are)
+        ∙ labels-join PLACES a b (reverse ls) (fits .1) (fits .2) ∙ ap (labels PLACES) (sym (link-behind a b)))
 
     -- a refused line decides
     pub by-refusal : (n : ℕ) → w ≡ step.Refused n → andThen (readLines ed s (length s) 1 0 empty) finish ≡ refused n number
@@ -202,7 +205,12 @@ module _ {ed : Edition} {s table marks : List ℕ} {net : Lists} {at number : �
     all-joined : finish (P .read) ≡ cond (whole marks (net .sites)) (accepted (P .read)) (refused 8 0)
     unfolding finish
     all-joined =
-        rw (whole-sites marks (net .sites) (omega (arith, lengths)), alike-tells (P .read .links) PLACES 1 (length (P .read .names)) (omega arith) (omega (arith, P .sound .few)), ← (P .labels-are), ← sites-are)
+        rw (
+          whole-sites marks (net .sites) (omega (arith, lengths)),
+          alike-tells (P .read .links) PLACES 1 (length (P .read .names)) (omega arith) (omega (arith, P .sound .few)),
+          ← (P .labels-are),
+          ← sites-are,
+        )
 
     -- under two sites, or not all joined
     pub by-parts : whole marks (net .sites) ≡ false → andThen (readLines ed s (length s) 1 0 empty) finish ≡ refused 8 0

@@ -9,25 +9,26 @@ use native.Mathlib.Omega.{arith}
 use lib.Dec.{eqb, leb, ltb}
 use lib.ListN.{length, drop}
 use borrow.Author.Tests.{eqb-true, eqb-false, eq-eqb, leb-true, leb-false, le-leb, lt-leb, ltb-true, ltb-false}
-use Rattle.network.specs.Network.{joined}
-use Rattle.network.specs.declared.Edition.{Edition}
-use Rattle.theory.specs.Sums.{same?, cases}
-use Rattle.theory.specs.Labels.{joined-iff}
-use Rattle.lines.specs.Lines.{lineLength, lineAt}
-use Rattle.lines.specs.LineLaws.{length-of-line}
-use Rattle.line_kinds.specs.LineKinds.{kind}
-use Rattle.line_kinds.specs.FaultyLines.{fault-numbers}
-use Rattle.line_kinds.specs.declared.Line.{Line}
-use Rattle.line_kinds.specs.declared.Line.the-variants as line
+use Rattle.model.specs.Flows.{joined}
+use Rattle.model.specs.declared.Edition.{Edition}
+use Rattle.lists.specs.Sums.{same?, cases, contradiction}
+use Rattle.theory_trees.specs.Labels.{joined-iff}
+use Rattle.text_lines.specs.Lines.{lineLength, lineAt}
+use Rattle.text_lines.specs.LineLaws.{length-of-line}
+use Rattle.sheet_kinds.specs.LineKinds.{kind}
+use Rattle.sheet_kinds.specs.FaultyLines.{fault-numbers}
+use Rattle.sheet_kinds.specs.declared.Line.{Line}
+use Rattle.sheet_kinds.specs.declared.Line.the-variants as line
 use Rattle.sheet.specs.Sheet.{Network, refused, part, lookup, siteBy, siteStep, linkStep, headingStep, recordStep, stepOf, added, readLine}
 use Rattle.sheet.specs.StepCases.{unended-step, first-step, later-step}
 use Rattle.sheet.specs.declared.stepping.Step.{Step}
 use Rattle.sheet.specs.declared.stepping.Step.the-variants.{Nothing, Site, Link, Refused}
-use Rattle.names.specs.LookupLaws.{Says, lookup-says}
+use Rattle.sheet_names.specs.LookupLaws.{Says, lookup-says}
 use Rattle.sheet.specs.Sound.{Sound}
-use Rattle.sheet.specs.Causes.{Named, NotGiven, Ended, Cause, unended, no-heading, second-heading, wrong-form, too-large, too-many, given, not-given, already-joined}
-use Rattle.names.specs.declared.Found.{Found}
-use Rattle.names.specs.declared.Found.the-variants.{At, Absent}
+use Rattle.sheet.specs.Causes.{Named, NotGiven, Ended, Cause, unended, no-heading, second-heading, wrong-form, too-large, too-many, given, not-given}
+use Rattle.sheet.specs.Causes.{already-joined}
+use Rattle.sheet_names.specs.declared.Found.{Found}
+use Rattle.sheet_names.specs.declared.Found.the-variants.{At, Absent}
 
 -- ---- look-ups
 
@@ -76,7 +77,8 @@ module _ (ed : Edition) (s : List ℕ) (net : Network) (k at : ℕ) where
     site-right : (a e : ℕ) → kind (ed .size) (lineAt s at) ≡ line.Site a e
         → Right (siteStep ed (length (net .names)) (at + a, at + e) (lookup s (net .names) (part s (at + a, at + e))))
     unfolding siteStep
-    site-right a e is = by (leb (ed .sites) (length (net .names))) refl (lookup s (net .names) (part s (at + a, at + e))) (finds s (part s (at + a, at + e)) (net .names))
+    site-right a e is =
+        by (leb (ed .sites) (length (net .names))) refl (lookup s (net .names) (part s (at + a, at + e))) (finds s (part s (at + a, at + e)) (net .names))
       where
         by : (t : Bool) → leb (ed .sites) (length (net .names)) ≡ t → (w : Found) → Finds s (net .names) (part s (at + a, at + e)) w
             → Right (cond t (Refused 4) (siteBy (at + a, at + e) w))
@@ -96,7 +98,8 @@ module _ (ed : Edition) (s : List ℕ) (net : Network) (k at : ℕ) where
         either v w p q true z = already-joined h d a e b f size is v w p q (joined-iff (net .links) v w .0 (eqb-true _ _ z))
         either v w p q false z = tt
 
-        by : (u : Found) → Finds s (net .names) (part s (at + a, at + e)) u → (w : Found) → Finds s (net .names) (part s (at + b, at + f)) w → Right (linkStep (net .links) size u w)
+        by : (u : Found) → Finds s (net .names) (part s (at + a, at + e)) u → (w : Found) → Finds s (net .names) (part s (at + b, at + f)) w
+            → Right (linkStep (net .links) size u w)
         by Absent p w q = not-given h d a e b f size is (inl p)
         by (At v) p Absent q = not-given h d a e b f size is (inr q)
         by (At v) p (At w) q = either v w p q (eqb (joined (net .links) v w) 1) refl
@@ -114,9 +117,9 @@ module _ (ed : Edition) (s : List ℕ) (net : Network) (k at : ℕ) where
   heading-right : Ended s at → k ≡ 1 → (w : Line) → kind (ed .size) (lineAt s at) ≡ w → Right (headingStep w)
   unfolding headingStep
   heading-right h e line.Heading is = tt
-  heading-right h e (line.Site a b) is = no-heading h e (λ z. let bad : _≡_ {A = ℕ} 0 1 = cc in omega arith)
-  heading-right h e (line.Link a b c d size) is = no-heading h e (λ z. let bad : _≡_ {A = ℕ} 0 1 = cc in omega arith)
-  heading-right h e (line.Fault n) is = no-heading h e (λ z. let bad : _≡_ {A = ℕ} 0 1 = cc in omega arith)
+  heading-right h e (line.Site a b) is = no-heading h e (λ z. contradiction cc)
+  heading-right h e (line.Link a b c d size) is = no-heading h e (λ z. contradiction cc)
+  heading-right h e (line.Fault n) is = no-heading h e (λ z. contradiction cc)
 
   step-right : Right (stepOf ed s net k at)
   unfolding stepOf
@@ -133,9 +136,9 @@ module _ (ed : Edition) (s : List ℕ) (net : Network) (k at : ℕ) where
   a-refused-line-has-its-cause n m = by (stepOf ed s net k at) step-right
     where
       by : (w : Step) → Right w → added net k w ≡ refused n m → (m ≡ k) × Cause ed s net k at n
-      by Nothing h e = absurd (let bad : _≡_ {A = ℕ} 0 1 = cc in omega arith)
-      by (Site a b) h e = absurd (let bad : _≡_ {A = ℕ} 0 1 = cc in omega arith)
-      by (Link a b size) h e = absurd (let bad : _≡_ {A = ℕ} 0 1 = cc in omega arith)
+      by Nothing h e = contradiction cc
+      by (Site a b) h e = contradiction cc
+      by (Link a b size) h e = contradiction cc
       by (Refused i) h e = let same : i ≡ n = cc in (cc, rw (← same) h)
 
 -- ---- a cause refuses its line
@@ -152,7 +155,7 @@ module _ (ed : Edition) (s : List ℕ) (net : Network) (k at : ℕ) where
   unfolding linkStep
   link-to-none size Absent w o = refl
   link-to-none size (At a) Absent o = refl
-  link-to-none size (At a) (At b) o = let bad : _≡_ {A = ℕ} 0 1 = ⊎-elim (λ e. cc) (λ e. cc) o in absurd (omega arith)
+  link-to-none size (At a) (At b) o = contradiction (⊎-elim (λ e. cc) (λ e. cc) o)
 
   -- a later line, by its kind
   later : Ended s at → k ≢ 1 → (w : Line) → kind (ed .size) (lineAt s at) ≡ w → stepOf ed s net k at ≡ recordStep ed s net at w
@@ -173,7 +176,11 @@ module _ (ed : Edition) (s : List ℕ) (net : Network) (k at : ℕ) where
       (⊎-elim (λ z. inl (absent-is-not-given s _ (net .names) z)) (λ z. inr (absent-is-not-given s _ (net .names) z)) o)
   step-of-a-cause sound n (already-joined h d a e b f size is v w p q j) =
       later h d _ is
-      ∙ rw (found-is-named ed s net sound (part s (at + a, at + e)) v p, found-is-named ed s net sound (part s (at + b, at + f)) w q, eq-eqb _ _ (joined-iff (net .links) v w .1 j))
+      ∙ rw (
+        found-is-named ed s net sound (part s (at + a, at + e)) v p,
+        found-is-named ed s net sound (part s (at + b, at + f)) w q,
+        eq-eqb _ _ (joined-iff (net .links) v w .1 j),
+      )
 
   pub a-cause-refuses-its-line : Sound ed s net → (n : ℕ) → Cause ed s net k at n → readLine ed s net k at ≡ refused n k
   unfolding readLine

@@ -1,17 +1,18 @@
 -- Why a sheet is refused: the causes of document 01's table, each with its number, in the order in which they decide.
--- Document 01, "The network sheet" (what a fault 2 or 3 of a line is, `FaultyLines` tells): check 1 comes first, then the lowest line with a fault, in a site line 2, 4, 5, in a link line 2, 3, 6, 7; then 8.
+-- Document 01, "The network sheet" (what a fault 2 or 3 of a line is, `FaultyLines` tells):
+-- check 1 comes first, then the lowest line with a fault, in a site line 2, 4, 5, in a link line 2, 3, 6, 7; then 8.
 use mathlib.Core.List.{List}
 use mathlib.Core.Logic.{_⊎_, _≢_}
 use mathlib.Core.Path.{_≡_}
 use Prim.Native.Nat.{ℕ, suc, _+_, _-_, _≤_, _<_}
 use lib.ListN.{length}
-use Rattle.network.specs.Network.{Site, Joined}
-use Rattle.network.specs.declared.Edition.{Edition}
-use Rattle.lines.specs.Lines.{lineAt, afterLine}
-use Rattle.line_kinds.specs.LineKinds.{kind}
-use Rattle.line_kinds.specs.declared.Line.the-variants as line
+use Rattle.model.specs.Flows.{Site, Joined}
+use Rattle.model.specs.declared.Edition.{Edition}
+use Rattle.text_lines.specs.Lines.{lineAt, afterLine}
+use Rattle.sheet_kinds.specs.LineKinds.{kind}
+use Rattle.sheet_kinds.specs.declared.Line.the-variants as line
 use Rattle.sheet.specs.Sheet.{Network, empty, accepted, part, readLine}
-use Rattle.names.specs.Names.{nameAt}
+use Rattle.sheet_names.specs.Names.{nameAt}
 
 -- site v has the name f
 pub record Named (s : List ℕ) (names : List (ℕ × ℕ)) (f : List ℕ) (v : ℕ) : Type 0 where
@@ -59,7 +60,8 @@ pub data Refusal (ed : Edition) (s : List ℕ) : ℕ → ℕ → Type 0 where
   -- 1: no bytes, or more than the edition allows
   by-length : (length s ≡ 0) ⊎ (ed .bytes < length s) → Refusal ed s 1 0
   -- 2 to 7: the lines above are read without fault, and the line has a cause
-  by-line : {n k at : ℕ} {net : Network} → 1 ≤ length s → length s ≤ ed .bytes → Reached ed s k at net → at < length s → Cause ed s net k at n → Refusal ed s n k
+  by-line : {n k at : ℕ} {net : Network} → 1 ≤ length s → length s ≤ ed .bytes → Reached ed s k at net → at < length s → Cause ed s net k at n
+      → Refusal ed s n k
   -- 8: all lines are read without fault, and there are under two sites, or one is not joined to site 1
   by-whole : {k at : ℕ} {net : Network} → 1 ≤ length s → length s ≤ ed .bytes → Reached ed s k at net → length s ≤ at
       → (length (net .names) < 2) ⊎ ((x : ℕ) × Site (length (net .names)) x × (¬ (Joined (net .links) 1 x))) → Refusal ed s 8 0

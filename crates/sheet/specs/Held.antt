@@ -2,10 +2,10 @@
 use mathlib.Core.List.{List, map, reverse}
 use mathlib.Core.Path.{_≡_}
 use Prim.Native.Nat.{ℕ}
-use Rattle.network.specs.Limits.{PLACES}
-use Rattle.network.specs.Numbers.{upfrom}
-use Rattle.network.specs.Network.{Links, label}
-use Rattle.names.specs.Names.{ranges}
+use Rattle.model.specs.Limits.{PLACES}
+use Rattle.lists.specs.Numbers.{upfrom}
+use Rattle.model.specs.Flows.{Links, label}
+use Rattle.sheet_names.specs.Names.{ranges}
 use Rattle.sheet.specs.Sheet.{Network}
 
 -- the labels of 0 .. n - 1

@@ -8,13 +8,13 @@ use native.Mathlib.Omega.{arith}
 use lib.Dec.{eqb}
 use lib.ListN.{length, length-map}
 use borrow.Author.Tests.{eqb-true, eqb-false, eq-eqb, ne-eqb}
-use Rattle.network.specs.Numbers.{is, look, upfrom}
-use Rattle.network.specs.Network.{Links, relabel, label, joined}
-use Rattle.theory.specs.Sums.{is-one, is-same}
-use Rattle.theory.specs.Sites.{length-upfrom, look-values}
-use Rattle.theory.specs.Fresh.{joined-reversed}
+use Rattle.lists.specs.Numbers.{is, look, upfrom}
+use Rattle.model.specs.Flows.{Links, relabel, label, joined}
+use Rattle.lists.specs.Sums.{is-one, is-same}
+use Rattle.lists.specs.Places.{length-upfrom, look-values}
+use Rattle.theory_trees.specs.Fresh.{joined-reversed}
 use Rattle.sheet.specs.Sheet.{allJoined}
-use Rattle.labels.specs.Labels.{alike}
+use Rattle.tree_labels.specs.Labels.{alike}
 use Rattle.sheet.specs.Held.{labels}
 
 -- two equations that hold together are tested alike
@@ -52,4 +52,5 @@ own-labels n = map-id (upfrom 0 n)
 pub labels-join : (n a b : ℕ) (ls : Links) → a < n → b < n
     → map (relabel (look (labels n ls) a) (look (labels n ls) b)) (labels n ls) ≡ labels n ((a, b) ∷ ls)
 unfolding labels label
-labels-join n a b ls p q = rw (look-values (label ls) n a p, look-values (label ls) n b q) (map-map (relabel (label ls a) (label ls b)) (label ls) (upfrom 0 n))
+labels-join n a b ls p q =
+    rw (look-values (label ls) n a p, look-values (label ls) n b q) (map-map (relabel (label ls a) (label ls b)) (label ls) (upfrom 0 n))

@@ -6,9 +6,9 @@ use native.Mathlib.Nat.{add-zero, zero-add}
 use native.Mathlib.Omega.{arith}
 use lib.ListN.{length, getD, set, length-append, replicate, List·getD-map}
 use lib.Seq.{set-at}
-use Rattle.network.specs.Numbers.{look}
-use Rattle.theory.specs.Sites.{look-zeros}
-use Rattle.names.specs.Names.{ranges}
+use Rattle.lists.specs.Numbers.{look}
+use Rattle.lists.specs.Places.{look-zeros}
+use Rattle.sheet_names.specs.Names.{ranges}
 use Rattle.sheet.specs.Reading.{padded}
 
 module _ (n : ℕ) (l : List ℕ) where
@@ -17,7 +17,8 @@ module _ (n : ℕ) (l : List ℕ) where
   unfolding padded
   padded-more a h =
       let free : n - length l ≡ suc (n - length (l ++ (a ∷ []))) = omega (arith, length-append l (a ∷ [])) in
-      rw free (set-at l 0 (replicate (n - length (l ++ (a ∷ []))) 0) a (length l) refl ∙ sym (append-assoc l (a ∷ []) (replicate (n - length (l ++ (a ∷ []))) 0)))
+      rw free
+      (set-at l 0 (replicate (n - length (l ++ (a ∷ []))) 0) a (length l) refl ∙ sym (append-assoc l (a ∷ []) (replicate (n - length (l ++ (a ∷ []))) 0)))
 
 -- zeros behind a list change nothing that is looked up
 pub look-padded : (n : ℕ) (l : List ℕ) (i : ℕ) → look (padded n l) i ≡ look l i
@@ -44,7 +45,8 @@ ranges-are starts ends i (r ∷ rs) h =
 
 -- the names of a network, from its lists
 pub names-are : (n : ℕ) (rs : List (ℕ × ℕ)) → ranges (padded n (map (λ r. r .0) rs)) (padded n (map (λ r. r .1) rs)) 0 (length rs) ≡ rs
-names-are n rs = ranges-are (padded n (map (λ r. r .0) rs)) (padded n (map (λ r. r .1) rs)) 0 rs (λ j l. (at-place (λ r. r .0) refl j l, at-place (λ r. r .1) refl j l))
+names-are n rs =
+    ranges-are (padded n (map (λ r. r .0) rs)) (padded n (map (λ r. r .1) rs)) 0 rs (λ j l. (at-place (λ r. r .0) refl j l, at-place (λ r. r .1) refl j l))
   where
     at-place : (f : ℕ × ℕ → ℕ) → f (0, 0) ≡ 0 → (j : ℕ) → j < length rs → look (padded n (map f rs)) (0 + j) ≡ f (getD rs j (0, 0))
     at-place f e j l = rw zero-add (look-padded n (map f rs) j ∙ (rw e at (List·getD-map f rs j (0, 0))))

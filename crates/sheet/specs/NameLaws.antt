@@ -4,9 +4,9 @@ use mathlib.Core.Path.{_≡_, refl, ap}
 use Prim.Native.Nat.{ℕ, zero, suc, _<_}
 use native.Mathlib.Omega.{arith}
 use lib.ListN.{List·getD-eq-default, List·getD-map}
-use Rattle.network.specs.Limits.{SITES}
-use Rattle.network.specs.Numbers.{look}
-use Rattle.network.specs.declared.Edition.{Edition}
+use Rattle.model.specs.Limits.{SITES}
+use Rattle.lists.specs.Numbers.{look}
+use Rattle.model.specs.declared.Edition.{Edition}
 use Rattle.sheet.specs.Sheet.{Read, refused, accepted, part, readSheet, nameIn, nameOf}
 use Rattle.sheet.specs.Reading.{lists, reading}
 use Rattle.sheet.specs.ListLaws.{look-padded}

@@ -8,17 +8,18 @@ use native.Mathlib.Omega.{arith}
 use lib.Dec.{eqb, ltb}
 use lib.ListN.{length, drop}
 use borrow.Author.Tests.{lt-ltb, ltb-true}
-use Rattle.network.specs.declared.Edition.{Edition}
-use Rattle.lines.specs.Lines.{lineLength, lineAt, afterLine, hasLine}
-use Rattle.lines.specs.LineLaws.{no-line-past-the-sheet, after-line-is-later}
-use Rattle.line_kinds.specs.LineKinds.{kind}
+use Rattle.model.specs.declared.Edition.{Edition}
+use Rattle.text_lines.specs.Lines.{lineLength, lineAt, afterLine, hasLine}
+use Rattle.text_lines.specs.LineLaws.{no-line-past-the-sheet, after-line-is-later}
+use Rattle.sheet_kinds.specs.LineKinds.{kind}
 use Rattle.sheet.specs.Sheet.{Network, Read, refused, accepted, headingStep, recordStep, stepOf, added, readLine, andThen, readLines}
 use Rattle.sheet.specs.declared.stepping.Step.{Step}
 use Rattle.sheet.specs.declared.stepping.Step.the-variants.{Refused}
+use Rattle.lists.specs.Sums.{contradiction}
 
 -- a sheet is not refused and accepted
 not-both : {n k : ℕ} {net : Network} → refused n k ≡ accepted net → ⊥
-not-both e = let z : _≡_ {A = ℕ} 0 1 = cc in omega arith
+not-both e = contradiction cc
 
 has-line : (s : List ℕ) (at : ℕ) → at < length s → hasLine s at ≡ true
 unfolding hasLine
@@ -59,7 +60,8 @@ module _ (ed : Edition) (s : List ℕ) where
       let more : length s - at ≡ suc (length s - suc at) = omega arith in
       let later = after-line-is-later s at (has-line s at h) in
       rw (more, has-line s at h)
-      (then-alike (readLine ed s net k at) (readLines ed s (length s - suc at) (suc k) (afterLine s at)) (readLines ed s (length s - afterLine s at) (suc k) (afterLine s at))
+      (then-alike (readLine ed s net k at) (readLines ed s (length s - suc at) (suc k) (afterLine s at))
+      (readLines ed s (length s - afterLine s at) (suc k) (afterLine s at))
       (λ next. enough-fuel (length s - suc at) (length s - afterLine s at) (suc k) (afterLine s at) next (omega arith) (omega arith)))
 
   -- a line that is read is ended
@@ -69,6 +71,7 @@ module _ (ed : Edition) (s : List ℕ) where
       by (ltb (at + lineLength (drop at s)) (length s)) refl
       (cond (eqb k 1) (headingStep (kind (ed .size) (lineAt s at))) (recordStep ed s net at (kind (ed .size) (lineAt s at))))
     where
-      by : (t : Bool) → ltb (at + lineLength (drop at s)) (length s) ≡ t → (w : Step) → added net k (cond t w (Refused 2)) ≡ accepted next → at + lineLength (drop at s) < length s
+      by : (t : Bool) → ltb (at + lineLength (drop at s)) (length s) ≡ t → (w : Step) → added net k (cond t w (Refused 2)) ≡ accepted next
+          → at + lineLength (drop at s) < length s
       by true e w p = ltb-true _ _ e
       by false e w p = absurd (not-both p)

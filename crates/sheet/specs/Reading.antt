@@ -3,7 +3,7 @@
 use mathlib.Core.List.{List, _++_, map}
 use Prim.Native.Nat.{ℕ, _-_}
 use lib.ListN.{length, replicate}
-use Rattle.network.specs.Limits.{SITES}
+use Rattle.model.specs.Limits.{SITES}
 use Rattle.sheet.specs.Sheet.{Network, empty, Read, refused, accepted}
 use Rattle.sheet.specs.declared.Answer.the-variants.{Accepted, Refused}
 use Rattle.sheet.specs.declared.Lists.{Lists}

@@ -10,14 +10,14 @@ use native.Mathlib.Omega.{arith}
 use lib.Dec.{eqb, leb, ltb}
 use lib.ListN.{length}
 use borrow.Author.Tests.{eqb-true, eqb-false, leb-true, leb-false, le-leb, lt-leb, ltb-true, ltb-false, lt-ltb}
-use Rattle.network.specs.Numbers.{upfrom}
-use Rattle.network.specs.Network.{Links, Site, sites, joined, Joined}
-use Rattle.network.specs.declared.Edition.{Edition}
-use Rattle.theory.specs.Sums.{same?}
-use Rattle.theory.specs.Labels.{joined-iff}
-use Rattle.lines.specs.Lines.{afterLine, hasLine}
-use Rattle.lines.specs.LineLaws.{after-line-is-later}
-use Rattle.line_kinds.specs.LineKindLaws.{both}
+use Rattle.lists.specs.Numbers.{upfrom}
+use Rattle.model.specs.Flows.{Links, Site, sites, joined, Joined}
+use Rattle.model.specs.declared.Edition.{Edition}
+use Rattle.lists.specs.Sums.{same?}
+use Rattle.theory_trees.specs.Labels.{joined-iff}
+use Rattle.text_lines.specs.Lines.{afterLine, hasLine}
+use Rattle.text_lines.specs.LineLaws.{after-line-is-later}
+use Rattle.sheet_kinds.specs.LineKindLaws.{both}
 use Rattle.sheet.specs.Sheet.{Network, empty, Read, refused, accepted, readLine, andThen, readLines, allJoined, finish, readSheet}
 use Rattle.sheet.specs.Sound.{Sound, Accepts, none-is-sound, a-line-keeps-sound, after-within}
 use Rattle.sheet.specs.ReadLaws.{lines-end, lines-step}
@@ -118,7 +118,8 @@ module _ (ed : Edition) (s : List ℕ) where
     where
       by : (t : Bool) → leb 1 (length s) ≡ t → (u : Bool) → leb (length s) (ed .bytes) ≡ u
           → Right (cond (t && u) (andThen (readLines ed s (length s) 1 0 empty) finish) (refused 1 0))
-      by true e true f = lines-right (leb-true _ _ e) (leb-true _ _ f) (readLines ed s (length s) 1 0 empty) (lines-stop (length s) 1 0 empty start (omega arith))
+      by true e true f =
+          lines-right (leb-true _ _ e) (leb-true _ _ f) (readLines ed s (length s) 1 0 empty) (lines-stop (length s) 1 0 empty start (omega arith))
       by true e false f = by-length (inr (leb-false _ _ f))
       by false e u f = by-length (inl (omega (arith, leb-false 1 (length s) e)))
 
@@ -134,7 +135,8 @@ module _ (ed : Edition) (s : List ℕ) where
   not-whole net (inl l) = rw (lt-leb 2 (length (net .names)) l)
   not-whole net (inr w) = by (allJoined (net .links) (sites (length (net .names)))) refl
     where
-      by : (t : Bool) → allJoined (net .links) (sites (length (net .names))) ≡ t → cond (leb 2 (length (net .names)) && t) (accepted net) (refused 8 0) ≡ refused 8 0
+      by : (t : Bool) → allJoined (net .links) (sites (length (net .names))) ≡ t
+          → cond (leb 2 (length (net .names)) && t) (accepted net) (refused 8 0) ≡ refused 8 0
       by true e = absurd (w .2 (all-joined (net .links) (length (net .names)) e (w .0) (w .1)))
       by false e = rw and-false
 

@@ -5,19 +5,19 @@ use mathlib.Core.List.{List, [], _∷_, _++_}
 use Prim.Native.Nat.{ℕ, zero, suc, _+_}
 use lib.Dec.{eqb, leb, ltb}
 use lib.ListN.{length, getD, drop}
-use Rattle.network.specs.Network.{Links, sites, joined}
-use Rattle.network.specs.declared.Edition.{Edition}
-use Rattle.lines.specs.Lines.{lineLength, lineAt, afterLine, hasLine}
-use Rattle.line_kinds.specs.LineKinds.{kind}
-use Rattle.line_kinds.specs.declared.Line.{Line}
-use Rattle.line_kinds.specs.declared.Line.the-variants as line
-use Rattle.names.specs.declared.Found.{Found}
-use Rattle.names.specs.declared.Found.the-variants.{At, Absent}
+use Rattle.model.specs.Flows.{Links, sites, joined}
+use Rattle.model.specs.declared.Edition.{Edition}
+use Rattle.text_lines.specs.Lines.{lineLength, lineAt, afterLine, hasLine}
+use Rattle.sheet_kinds.specs.LineKinds.{kind}
+use Rattle.sheet_kinds.specs.declared.Line.{Line}
+use Rattle.sheet_kinds.specs.declared.Line.the-variants as line
+use Rattle.sheet_names.specs.declared.Found.{Found}
+use Rattle.sheet_names.specs.declared.Found.the-variants.{At, Absent}
 use Rattle.sheet.specs.declared.stepping.Step.{Step}
 use Rattle.sheet.specs.declared.stepping.Step.the-variants.{Nothing, Site, Link, Refused}
 -- a part of the sheet, and the look-up of a name
-pub use Rattle.names.specs.Names.{part, lookup}
-unfoldable pub use Rattle.names.specs.Names.{lookupFrom}
+pub use Rattle.sheet_names.specs.Names.{part, lookup}
+unfoldable pub use Rattle.sheet_names.specs.Names.{lookupFrom}
 
 -- ---- the network read so far
 

@@ -9,14 +9,14 @@ use native.Mathlib.Omega.{arith}
 use lib.Dec.{leb}
 use lib.ListN.{length, getD}
 use borrow.Author.Tests.{leb-true}
-use Rattle.network.specs.Numbers.{look}
-use Rattle.network.specs.Network.{Site, sites, label, Tree}
-use Rattle.network.specs.declared.Edition.{Edition}
-use Rattle.theory.specs.Labels.{joined-label}
-use Rattle.theory.specs.Fresh.{joined-reversed, fresh-links-make-a-tree, tree-reversed}
-use Rattle.line_kinds.specs.LineKindLaws.{both}
+use Rattle.lists.specs.Numbers.{look}
+use Rattle.model.specs.Flows.{Site, sites, label, Tree}
+use Rattle.model.specs.declared.Edition.{Edition}
+use Rattle.theory_trees.specs.Labels.{joined-label}
+use Rattle.theory_trees.specs.Fresh.{joined-reversed, fresh-links-make-a-tree, tree-reversed}
+use Rattle.sheet_kinds.specs.LineKindLaws.{both}
 use Rattle.sheet.specs.Sheet.{Network, empty, Read, refused, accepted, readLines, allJoined, finish, andThen, readSheet}
-use Rattle.names.specs.Names.{nameAt}
+use Rattle.sheet_names.specs.Names.{nameAt}
 use Rattle.sheet.specs.ReadLaws.{enough-fuel}
 use Rattle.sheet.specs.Causes.{Refusal}
 use Rattle.sheet.specs.RefusalLaws.{all-joined, a-refused-sheet-has-its-cause, a-cause-refuses-its-sheet}
@@ -36,7 +36,8 @@ pub record IsNetwork (ed : Edition) (s : List ℕ) (net : Network) : Type 0 wher
 sound-and-joined-is-a-tree : (ed : Edition) (s : List ℕ) (net : Network) → Sound ed s net → 2 ≤ length (net .names)
     → allJoined (net .links) (sites (length (net .names))) ≡ true → Tree (net .links) (length (net .names))
 sound-and-joined-is-a-tree ed s net sound big e =
-    rw (reverse-reverse (net .links)) at (tree-reversed (fresh-links-make-a-tree (reverse (net .links)) (length (net .names)) big (sound .ends) (sound .fresh) whole))
+    rw (reverse-reverse (net .links)) at
+    (tree-reversed (fresh-links-make-a-tree (reverse (net .links)) (length (net .names)) big (sound .ends) (sound .fresh) whole))
   where
     whole : (x : ℕ) → Site (length (net .names)) x → label (reverse (net .links)) x ≡ label (reverse (net .links)) 1
     whole x b = sym (joined-reversed (net .links) 1 x .1 (joined-label (net .links) (all-joined (net .links) (length (net .names)) e x b)))
@@ -45,7 +46,8 @@ finish-gives-a-network : (ed : Edition) (s : List ℕ) (net : Network) → Sound
 unfolding finish
 finish-gives-a-network ed s net sound = by (leb 2 (length (net .names)) && allJoined (net .links) (sites (length (net .names)))) refl
   where
-    by : (t : Bool) → (leb 2 (length (net .names)) && allJoined (net .links) (sites (length (net .names)))) ≡ t → Accepts (IsNetwork ed s) (cond t (accepted net) (refused 8 0))
+    by : (t : Bool) → (leb 2 (length (net .names)) && allJoined (net .links) (sites (length (net .names)))) ≡ t
+        → Accepts (IsNetwork ed s) (cond t (accepted net) (refused 8 0))
     by false e = tt
     by true e =
         let h = both (leb 2 (length (net .names))) (allJoined (net .links) (sites (length (net .names)))) e in

@@ -10,24 +10,25 @@ use lib.Dec.{eqb, leb, ltb}
 use lib.ListN.{length, getD, take, drop, length-append, length-drop, length-reverse, List·getD-append}
 use lib.Seq.{drop-drop, drop-append-le, take-append-le}
 use borrow.Author.Tests.{eqb-false, leb-false}
-use Rattle.network.specs.Numbers.{is, look}
-use Rattle.network.specs.Network.{Links, Site, Ends, label, joined}
-use Rattle.network.specs.declared.Edition.{Edition}
-use Rattle.theory.specs.Sums.{is-same, sum-ge}
-use Rattle.theory.specs.Labels.{Fresh, reps, reps-eq, label-label, label-site}
-use Rattle.theory.specs.Fresh.{joined-reversed}
-use Rattle.lines.specs.Lines.{lineLength, lineAt, afterLine, hasLine}
-use Rattle.lines.specs.LineLaws.{line-and-what-follows, line-stays-on-sheet}
-use Rattle.line_kinds.specs.LineKinds.{isName, kind}
-use Rattle.line_kinds.specs.FormedLines.{Formed, kinds-are-formed}
-use Rattle.line_kinds.specs.declared.Line.{Line}
-use Rattle.line_kinds.specs.declared.Line.the-variants as line
-use Rattle.names.specs.Names.{nameAt}
-use Rattle.names.specs.Lists.{one-more}
-use Rattle.names.specs.LookupLaws.{Says, lookup-says}
-use Rattle.names.specs.declared.Found.{Found}
-use Rattle.names.specs.declared.Found.the-variants.{At, Absent}
-use Rattle.sheet.specs.Sheet.{Network, empty, Read, refused, accepted, part, lookup, siteBy, siteStep, linkStep, headingStep, recordStep, stepOf, added, readLine, andThen, readLines}
+use Rattle.lists.specs.Numbers.{is, look}
+use Rattle.model.specs.Flows.{Links, Site, Ends, label, joined}
+use Rattle.model.specs.declared.Edition.{Edition}
+use Rattle.lists.specs.Sums.{is-same, sum-ge}
+use Rattle.theory_trees.specs.Labels.{Fresh, reps, reps-eq, label-label, label-site}
+use Rattle.theory_trees.specs.Fresh.{joined-reversed}
+use Rattle.text_lines.specs.Lines.{lineLength, lineAt, afterLine, hasLine}
+use Rattle.text_lines.specs.LineLaws.{line-and-what-follows, line-stays-on-sheet}
+use Rattle.sheet_kinds.specs.LineKinds.{isName, kind}
+use Rattle.sheet_kinds.specs.FormedLines.{Formed, kinds-are-formed}
+use Rattle.sheet_kinds.specs.declared.Line.{Line}
+use Rattle.sheet_kinds.specs.declared.Line.the-variants as line
+use Rattle.sheet_names.specs.Names.{nameAt}
+use Rattle.sheet_names.specs.Lists.{one-more}
+use Rattle.sheet_names.specs.LookupLaws.{Says, lookup-says}
+use Rattle.sheet_names.specs.declared.Found.{Found}
+use Rattle.sheet_names.specs.declared.Found.the-variants.{At, Absent}
+use Rattle.sheet.specs.Sheet.{Network, empty, Read, refused, accepted, part, lookup, siteBy, siteStep, linkStep, headingStep, recordStep, stepOf, added}
+use Rattle.sheet.specs.Sheet.{readLine, andThen, readLines}
 use Rattle.sheet.specs.declared.stepping.Step.the-variants.{Link, Refused}
 
 -- a range of the sheet that holds a name
@@ -89,12 +90,14 @@ module _ (ed : Edition) (s : List ℕ) (net : Network) (k : ℕ) (sound : Sound 
     sizes = sound .sizes;
   }
 
-  ends-more : {a b : ℕ} → Site (length (net .names)) a → Site (length (net .names)) b → (ls : Links) → Ends ls (length (net .names)) → Ends ((a, b) ∷ ls) (length (net .names))
+  ends-more : {a b : ℕ} → Site (length (net .names)) a → Site (length (net .names)) b → (ls : Links) → Ends ls (length (net .names))
+      → Ends ((a, b) ∷ ls) (length (net .names))
   ends-more p q ls h zero l = (p, q)
   ends-more p q ls h (suc j) l = h j (omega arith)
 
   -- the line is a link between sites that were not joined
-  new-link : (a b size : ℕ) → Site (length (net .names)) a → Site (length (net .names)) b → label (reverse (net .links)) a ≢ label (reverse (net .links)) b → size ≤ ed .size
+  new-link : (a b size : ℕ) → Site (length (net .names)) a → Site (length (net .names)) b → label (reverse (net .links)) a ≢ label (reverse (net .links)) b
+      → size ≤ ed .size
       → Sound ed s (record { names = net .names; links = net .links ++ ((a, b) ∷ []); capacities = net .capacities ++ (size ∷ []) })
   new-link a b size p q d h = record {
     few = sound .few;
@@ -110,7 +113,8 @@ module _ (ed : Edition) (s : List ℕ) (net : Network) (k : ℕ) (sound : Sound 
   unfolding siteStep
   site-line r named = by (leb (ed .sites) (length (net .names))) refl (lookup s (net .names) (part s r)) (lookup-says s (part s r) (net .names) 1)
     where
-      by : (t : Bool) → leb (ed .sites) (length (net .names)) ≡ t → (w : Found) → Says s (net .names) 1 (part s r) w → Accepts (Sound ed s) (added net k (cond t (Refused 4) (siteBy r w)))
+      by : (t : Bool) → leb (ed .sites) (length (net .names)) ≡ t → (w : Found) → Says s (net .names) 1 (part s r) w
+          → Accepts (Sound ed s) (added net k (cond t (Refused 4) (siteBy r w)))
       by true e w h = tt
       by false e (At v) h = tt
       by false e Absent h = new-site r named (leb-false _ _ e) h
@@ -119,14 +123,16 @@ module _ (ed : Edition) (s : List ℕ) (net : Network) (k : ℕ) (sound : Sound 
       → Accepts (Sound ed s) (added net k (linkStep (net .links) size (lookup s (net .names) (part s r)) (lookup s (net .names) (part s q))))
   unfolding linkStep joined
   link-line r q size h =
-      by (lookup s (net .names) (part s r)) (lookup s (net .names) (part s q)) (lookup-says s (part s r) (net .names) 1) (lookup-says s (part s q) (net .names) 1)
+      by (lookup s (net .names) (part s r)) (lookup s (net .names) (part s q)) (lookup-says s (part s r) (net .names) 1)
+      (lookup-says s (part s q) (net .names) 1)
     where
       either : (a b : ℕ) → Site (length (net .names)) a → Site (length (net .names)) b → (t : Bool) → eqb (joined (net .links) a b) 1 ≡ t
           → Accepts (Sound ed s) (added net k (cond t (Refused 7) (Link a b size)))
       either a b p q true e = tt
       either a b p q false e = new-link a b size p q (λ z. eqb-false _ _ e (is-same (joined-reversed (net .links) a b .0 z))) h
 
-      by : (u w : Found) → Says s (net .names) 1 (part s r) u → Says s (net .names) 1 (part s q) w → Accepts (Sound ed s) (added net k (linkStep (net .links) size u w))
+      by : (u w : Found) → Says s (net .names) 1 (part s r) u → Says s (net .names) 1 (part s q) w
+          → Accepts (Sound ed s) (added net k (linkStep (net .links) size u w))
       by Absent w p j = tt
       by (At a) Absent p j = tt
       by (At a) (At b) p j = either a b (omega arith) (omega arith) (eqb (joined (net .links) a b) 1) refl

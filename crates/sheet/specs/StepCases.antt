@@ -6,14 +6,14 @@ use Prim.Native.Nat.{ℕ, _+_, _≤_, _<_}
 use native.Mathlib.Omega.{arith}
 use lib.ListN.{length, drop}
 use borrow.Author.Tests.{eq-eqb, ne-eqb, lt-ltb, le-ltb}
-use Rattle.network.specs.declared.Edition.{Edition}
-use Rattle.lines.specs.Lines.{lineLength, lineAt}
-use Rattle.lines.specs.LineLaws.{length-of-line}
-use Rattle.line_kinds.specs.LineKinds.{kind}
-use Rattle.names.specs.Names.{lookup}
-use Rattle.names.specs.LookupLaws.{Says, lookup-says}
-use Rattle.names.specs.declared.Found.{Found}
-use Rattle.names.specs.declared.Found.the-variants.{At, Absent}
+use Rattle.model.specs.declared.Edition.{Edition}
+use Rattle.text_lines.specs.Lines.{lineLength, lineAt}
+use Rattle.text_lines.specs.LineLaws.{length-of-line}
+use Rattle.sheet_kinds.specs.LineKinds.{kind}
+use Rattle.sheet_names.specs.Names.{lookup}
+use Rattle.sheet_names.specs.LookupLaws.{Says, lookup-says}
+use Rattle.sheet_names.specs.declared.Found.{Found}
+use Rattle.sheet_names.specs.declared.Found.the-variants.{At, Absent}
 use Rattle.sheet.specs.Sheet.{Network, headingStep, recordStep, stepOf}
 use Rattle.sheet.specs.declared.stepping.Step.the-variants.{Refused}
 

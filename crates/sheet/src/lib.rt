@@ -2,16 +2,16 @@
 ghost use mathlib.Core.Path.{_≡_};
 ghost use Prim.Native.Nat.{_≤_};
 ghost use lib.ListN.{length};
-ghost use Rattle.network.specs.Limits.{SITES};
-ghost use Rattle.network.specs.Edition.{edition1};
+ghost use Rattle.model.specs.Limits.{SITES};
+ghost use Rattle.model.specs.Edition.{edition1};
 ghost use Rattle.sheet.specs.Sheet.{empty, refused, readLines, andThen, finish, readSheet, nameOf};
 ghost use Rattle.sheet.specs.Reading.{lists, reading};
 
 mod stepping;
 
-use names::HASHES;
-use network::Edition;
-use network::SITES;
+use model::Edition;
+use model::SITES;
+use sheet_names::HASHES;
 use stepping::Step;
 
 // What a sheet is answered: accepted, or refused with the refusal's number and its line.
@@ -70,11 +70,11 @@ fn read_lines(sheet: &[u8], edition: Edition) -> Reading
 {
     let mut net = nothing();
     let mut table = [0u16; HASHES];
-    let mut labels = labels::own_labels();
+    let mut labels = tree_labels::own_labels();
     let mut at = 0;
     let mut number = 1;
     while at < sheet.len() {
-        let line = lines::line(sheet, at);
+        let line = text_lines::line(sheet, at);
         let step = stepping::step_at(
             edition,
             sheet,
@@ -100,7 +100,7 @@ fn read_lines(sheet: &[u8], edition: Edition) -> Reading
                 net.start[i] = start;
                 net.end[i] = end;
                 net.sites = i + 1;
-                names::enter(&mut table, sheet, start, end, i + 1);
+                sheet_names::enter(&mut table, sheet, start, end, i + 1);
             }
             Step::Link { one, two, size } => {
                 let i = net.links;
@@ -108,11 +108,11 @@ fn read_lines(sheet: &[u8], edition: Edition) -> Reading
                 net.two[i] = two;
                 net.capacity[i] = size;
                 net.links = i + 1;
-                labels::join(&mut labels, one, two);
+                tree_labels::join(&mut labels, one, two);
             }
         }
     }
-    if !labels::is_whole(&labels, net.sites) {
+    if !tree_labels::is_whole(&labels, net.sites) {
         return refusal(8, 0);
     }
     Reading {
@@ -155,5 +155,5 @@ pub fn name(sheet: &[u8], site: usize) -> &[u8]
     let reading = read(sheet);
     let network = reading.network;
     let i = site - 1;
-    names::part(sheet, network.start[i], network.end[i])
+    sheet_names::part(sheet, network.start[i], network.end[i])
 }

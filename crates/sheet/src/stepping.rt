@@ -2,20 +2,20 @@
 ghost use mathlib.Core.Path.{_≡_};
 ghost use Prim.Native.Nat.{_+_, _≤_, _<_};
 ghost use lib.ListN.{length};
-ghost use Rattle.network.specs.Limits.{PLACES, SITES};
-ghost use Rattle.network.specs.Network.{Links};
-ghost use Rattle.lines.specs.Lines.{lineAt};
-ghost use Rattle.line_kinds.specs.FormedLines.{Formed};
-ghost use Rattle.names.specs.Names.{ranges, Indexes};
+ghost use Rattle.model.specs.Limits.{PLACES, SITES};
+ghost use Rattle.model.specs.Flows.{Links};
+ghost use Rattle.text_lines.specs.Lines.{lineAt};
+ghost use Rattle.sheet_kinds.specs.FormedLines.{Formed};
+ghost use Rattle.sheet_names.specs.Names.{ranges, Indexes};
 ghost use Rattle.sheet.specs.Sheet.{Network, siteStep, linkStep, headingStep, recordStep, stepOf};
 ghost use Rattle.sheet.specs.Held.{LabelsOf, Held};
 ghost use Rattle.sheet.specs.StepCases.{Labelled};
-use line_kinds::Line;
-use names::Found;
-use names::HASHES;
-use network::Edition;
-use network::PLACES;
-use network::SITES;
+use model::Edition;
+use model::PLACES;
+use model::SITES;
+use sheet_kinds::Line;
+use sheet_names::Found;
+use sheet_names::HASHES;
 
 // What a line adds to the network, or the number of its refusal.
 pub enum Step {
@@ -85,15 +85,17 @@ fn record_step(
     at: usize,
     line: Line,
 ) -> Step
-    requires { ⌜ (sites ≤ SITES) × Indexes (now sheet) (ranges (now starts) (now ends) 0 sites) (now table) × (at + length (lineAt (now sheet) at) < length (now sheet)) × Formed (edition .size) (lineAt (now sheet) at) line ⌝ }
-    ensures { λ r. ⌜ ((net : Network) → Held (now (starts .entry)) (now (ends .entry)) sites (now (labels .entry)) net → r ≡ recordStep edition (now (sheet .entry)) net at line) ⌝ }
+    requires { ⌜ (sites ≤ SITES) × Indexes (now sheet) (ranges (now starts) (now ends) 0 sites) (now table)
+        × (at + length (lineAt (now sheet) at) < length (now sheet)) × Formed (edition .size) (lineAt (now sheet) at) line ⌝ }
+    ensures { λ r. ⌜ ((net : Network) → Held (now (starts .entry)) (now (ends .entry)) sites (now (labels .entry)) net
+        → r ≡ recordStep edition (now (sheet .entry)) net at line) ⌝ }
 {
     match line {
         Line::Heading => Step::Refused(2),
         Line::Site { start, end } => {
             let from = at + start;
             let to = at + end;
-            let found = names::find(sheet, starts, ends, sites, table, from, to);
+            let found = sheet_names::find(sheet, starts, ends, sites, table, from, to);
             site_step(edition, sites, found, from, to)
         }
         Line::Link {
@@ -103,8 +105,16 @@ fn record_step(
             end2,
             size,
         } => {
-            let first = names::find(sheet, starts, ends, sites, table, at + start, at + end);
-            let second = names::find(sheet, starts, ends, sites, table, at + start2, at + end2);
+            let first = sheet_names::find(sheet, starts, ends, sites, table, at + start, at + end);
+            let second = sheet_names::find(
+                sheet,
+                starts,
+                ends,
+                sites,
+                table,
+                at + start2,
+                at + end2,
+            );
             link_step(labels, first, second, size)
         }
         Line::Fault(n) => Step::Refused(n),
@@ -124,13 +134,15 @@ pub fn step_at<'a>(
     number: usize,
     at: usize,
 ) -> Step
-    requires { ⌜ (sites ≤ SITES) × Indexes (now sheet) (ranges (now starts) (now ends) 0 sites) (now table) × (at ≤ length (now sheet)) × (now line ≡ lineAt (now sheet) at) ⌝ }
-    ensures { λ r. ⌜ ((net : Network) → Held (now (starts .entry)) (now (ends .entry)) sites (now (labels .entry)) net → r ≡ stepOf edition (now (sheet .entry)) net number at) ⌝ }
+    requires { ⌜ (sites ≤ SITES) × Indexes (now sheet) (ranges (now starts) (now ends) 0 sites) (now table) × (at ≤ length (now sheet))
+        × (now line ≡ lineAt (now sheet) at) ⌝ }
+    ensures { λ r. ⌜ ((net : Network) → Held (now (starts .entry)) (now (ends .entry)) sites (now (labels .entry)) net
+        → r ≡ stepOf edition (now (sheet .entry)) net number at) ⌝ }
 {
     if at + line.len() >= sheet.len() {
         return Step::Refused(2);
     }
-    let kind = line_kinds::classify(line, edition.size);
+    let kind = sheet_kinds::classify(line, edition.size);
     if number == 1 {
         return heading_step(kind);
     }

@@ -50,7 +50,7 @@ fn answer(text: &[u8]) {
 
 // Writes the title of a part and the answer to its sheet.
 fn trial(text: &[u8]) {
-    let title = lines::line(text, 0);
+    let title = text_lines::line(text, 0);
     io::write_all(STDOUT_FILENO, title);
     if title.len() < text.len() {
         let sheet = title.len() + 1;

@@ -4,19 +4,20 @@ use mathlib.Core.Bool.{Bool, true, false}
 use mathlib.Core.List.{List}
 use Prim.Native.Nat.{ℕ}
 use native.Mathlib.Omega.{arith}
-use Rattle.network.specs.Limits.{SITES}
-use Rattle.theory.specs.Trees.{loopless}
+use Rattle.model.specs.Limits.{SITES}
+use Rattle.theory_trees.specs.Trees.{loopless}
 use Rattle.tree.specs.Ordering.Links.{length-links, links-one, links-two}
 use Rattle.tree.specs.Ordering.Steps.{Proper}
 use Rattle.tree.specs.Accepted.{TreeOf}
 use Rattle.tree.specs.Steps.{Tells}
+use Rattle.lists.specs.Sums.{contradiction}
 
 pub told : (b : Bool) {P : Type 0} → Tells b P → b ≡ true → P
 told true t e = t
-told false t e = absurd (let z : _≡_ {A = ℕ} 0 1 = cc in omega arith)
+told false t e = contradiction cc
 
 pub denied : (b : Bool) {P : Type 0} → Tells b P → b ≡ false → P → ⊥
-denied true t e = absurd (let z : _≡_ {A = ℕ} 0 1 = cc in omega arith)
+denied true t e = contradiction cc
 denied false t e = t
 
 pub tells-of : (b : Bool) {P Q : Type 0} → (P → Q) → (Q → P) → Tells b P → Tells b Q

@@ -8,15 +8,15 @@ use borrow.Author.Tests.{leb-true, eqb-true, le-leb, eq-eqb}
 use lib.Dec.{eqb, leb}
 use lib.Seq.{take-at}
 use lib.ListN.{length, take, replicate}
-use Rattle.network.specs.Limits.{SITES}
-use Rattle.network.specs.Numbers.{count, look}
-use Rattle.network.specs.Network.{Links, Site, Tree, label, sites}
-use Rattle.network.specs.Trimming.{elimination, InwardOrder}
-use Rattle.network.specs.Edition.{largest}
-use Rattle.network.specs.declared.Edition.{Edition}
-use Rattle.theory.specs.Sums.{is-same, is-other, same?}
-use Rattle.theory.specs.Sites.{sites-once, sites-site}
-use Rattle.theory.specs.TreeTest.{length-elimination}
+use Rattle.model.specs.Limits.{SITES}
+use Rattle.lists.specs.Numbers.{count, look}
+use Rattle.model.specs.Flows.{Links, Site, Tree, label, sites}
+use Rattle.model.specs.Trimming.{elimination, InwardOrder}
+use Rattle.model.specs.Edition.{largest}
+use Rattle.model.specs.declared.Edition.{Edition}
+use Rattle.lists.specs.Sums.{is-same, is-other, same?, contradiction}
+use Rattle.theory_trees.specs.Sites.{sites-once, sites-site}
+use Rattle.theory_trees.specs.TreeTest.{length-elimination}
 use Rattle.tree.specs.Ordering.Links.{length-links, links-one, links-two}
 use Rattle.tree.specs.Ordering.Toward.{eliminationToward, orderIn}
 use Rattle.tree.specs.Ordering.Rooted.{elimination-toward-a-root-is-inward, ends-at-the-root, without-a-root, length-elimination-toward}
@@ -43,7 +43,7 @@ pub record TreeWithin (ed : Edition) (n : ℕ) (one two c : List ℕ) : Type 0 w
 
 both-true : (a b : Bool) → (a && b) ≡ true → (a ≡ true) × (b ≡ true)
 both-true true b e = (refl, e)
-both-true false b e = absurd (let z : _≡_ {A = ℕ} 0 1 = cc in omega arith)
+both-true false b e = contradiction cc
 
 -- ---- the tests of lists, place by place
 
@@ -126,8 +126,8 @@ module _ (most n : ℕ) (a b : List ℕ) where
 
 accepted-tests : (a b : Bool) → cond a (cond b Accepted TooLarge) NoTree ≡ Accepted → (a ≡ true) × (b ≡ true)
 accepted-tests true true e = (refl, refl)
-accepted-tests true false e = absurd (let z : _≡_ {A = ℕ} 0 1 = cc in omega arith)
-accepted-tests false b e = absurd (let z : _≡_ {A = ℕ} 0 1 = cc in omega arith)
+accepted-tests true false e = contradiction cc
+accepted-tests false b e = contradiction cc
 
 pub is-false : (a : Bool) → (a ≡ true → ⊥) → a ≡ false
 is-false true h = absurd (h refl)

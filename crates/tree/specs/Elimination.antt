@@ -3,9 +3,9 @@
 use mathlib.Core.List.{List}
 use Prim.Native.Nat.{ℕ}
 use lib.ListN.{replicate}
-use Rattle.network.specs.Limits.{SITES}
-use Rattle.network.specs.Edition.{largest}
-use Rattle.network.specs.Trimming.{elimination}
+use Rattle.model.specs.Limits.{SITES}
+use Rattle.model.specs.Edition.{largest}
+use Rattle.model.specs.Trimming.{elimination}
 use Rattle.tree.specs.Ordering.Toward.{eliminationToward, orderIn}
 use Rattle.tree.specs.Offer.{links, offer}
 use Rattle.tree.specs.declared.Elimination.{Elimination}

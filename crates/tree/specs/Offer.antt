@@ -5,8 +5,8 @@ use mathlib.Core.List.{List, [], _∷_}
 use Prim.Native.Nat.{ℕ, suc}
 use lib.Dec.{eqb, leb}
 use lib.ListN.{length}
-use Rattle.network.specs.Network.{Links, sites, label}
-use Rattle.network.specs.declared.Edition.{Edition}
+use Rattle.model.specs.Flows.{Links, sites, label}
+use Rattle.model.specs.declared.Edition.{Edition}
 unfoldable pub use Rattle.tree.specs.Ordering.Links.{links}
 use Rattle.tree.specs.declared.Offer.{Offer}
 use Rattle.tree.specs.declared.Offer.the-variants.{NoTree, TooLarge, Accepted}

@@ -11,8 +11,8 @@ use borrow.Author.Tests.{le-leb, lt-leb}
 use lib.Dec.{leb}
 use lib.Seq.{drop-cons, getD-take, length-take-le, ext-getD}
 use lib.ListN.{length, drop, set, length-map, length-append, length-drop, take, take-append-drop, drop-of-length-le}
-use Rattle.network.specs.Numbers.{look, upfrom}
-use Rattle.theory.specs.Sites.{length-upfrom, look-values}
+use Rattle.lists.specs.Numbers.{look, upfrom}
+use Rattle.lists.specs.Places.{length-upfrom, look-values}
 pub use Rattle.tree.specs.Ordering.Links.{sum-next}
 use Rattle.tree.specs.Offer.{within}
 

@@ -3,7 +3,7 @@ use mathlib.Core.Path.{_≡_}
 use mathlib.Core.Bool.{Bool, true, false}
 use mathlib.Core.List.{List}
 use Prim.Native.Nat.{ℕ}
-use Rattle.network.specs.Limits.{SITES}
+use Rattle.model.specs.Limits.{SITES}
 use Rattle.tree.specs.Ordering.Toward.{eliminationToward, orderIn}
 use Rattle.tree.specs.declared.ordering.Order.{Order}
 use Rattle.tree.specs.Offer.{links, isTree}

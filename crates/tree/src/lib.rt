@@ -1,14 +1,14 @@
 // A tree that is offered as lists: whether it is one within the limits of the edition, and the elimination order of its sites.
 mod ordering;
 
-use network::SITES;
-use network::SIZE;
+use model::SITES;
+use model::SIZE;
 use ordering::Order;
 ghost use mathlib.Core.Path.{_≡_};
 ghost use Prim.Native.Nat.{ℕ, _<_};
 ghost use lib.ListN.{length};
-ghost use Rattle.network.specs.Numbers.{look};
-ghost use Rattle.network.specs.Edition.{largest};
+ghost use Rattle.lists.specs.Numbers.{look};
+ghost use Rattle.model.specs.Edition.{largest};
 ghost use Rattle.tree.specs.Ordering.Steps.{Link, Proper};
 ghost use Rattle.tree.specs.Offer.{within, offerOf, offer};
 ghost use Rattle.tree.specs.Elimination.{decide, eliminated, eliminatedToward};

@@ -5,12 +5,12 @@ ghost use mathlib.Core.Path.{_≡_};
 ghost use mathlib.Core.Logic.{_≢_};
 ghost use Prim.Native.Nat.{ℕ, suc, _+_, _-_, _*_, _≤_, _<_, max};
 ghost use lib.ListN.{length, set, replicate};
-ghost use Rattle.network.specs.Limits.{PLACES, SITES};
-ghost use Rattle.network.specs.Numbers.{pick, is, count, look};
-ghost use Rattle.network.specs.Network.{sites};
+ghost use Rattle.model.specs.Limits.{PLACES, SITES};
+ghost use Rattle.lists.specs.Numbers.{pick, is, count, look};
+ghost use Rattle.model.specs.Flows.{sites};
 ghost use Rattle.tree.specs.Ordering.Steps.{Proper, Counted, Lowest, Behind, Back, Onward, Ready, Took, Eliminated};
-use network::PLACES;
-use network::SITES;
+use model::PLACES;
+use model::SITES;
 
 // Adds d at two places of a list.
 fn add_at(list: &mut [usize; PLACES], a: usize, b: usize, d: usize)

@@ -5,10 +5,10 @@ use mathlib.Core.List.{List, _++_}
 use Prim.Native.Nat.{ℕ}
 use lib.Dec.{leb}
 use lib.ListN.{length, drop}
-use Rattle.network.specs.Edition.{largest}
-use Rattle.network.specs.Numbers.{look}
-use Rattle.network.specs.Network.{ends}
-use Rattle.network.specs.Trimming.{balanced}
+use Rattle.model.specs.Edition.{largest}
+use Rattle.lists.specs.Numbers.{look}
+use Rattle.model.specs.Flows.{ends}
+use Rattle.model.specs.Trimming.{balanced}
 use Rattle.tree.specs.Offer.{links, offer}
 use Rattle.tree.specs.declared.Offer.{Offer}
 use Rattle.tree.specs.declared.Offer.the-variants as offered

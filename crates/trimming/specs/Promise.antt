@@ -9,11 +9,11 @@ use borrow.Author.Tests.{leb-false}
 use lib.Dec.{leb}
 use lib.Seq.{take-at, drop-at}
 use lib.ListN.{length, take, drop}
-use Rattle.network.specs.Numbers.{look}
-use Rattle.network.specs.Edition.{largest}
-use Rattle.network.specs.Network.{Tree, ends}
-use Rattle.network.specs.Trimming.{Greatest}
-use Rattle.theory.specs.Greatest.{balanced-is-greatest, balanced-has-each-link, balanced-again}
+use Rattle.lists.specs.Numbers.{look}
+use Rattle.model.specs.Edition.{largest}
+use Rattle.model.specs.Flows.{Tree, ends}
+use Rattle.model.specs.Trimming.{Greatest}
+use Rattle.theory_trees.specs.Greatest.{balanced-is-greatest, balanced-has-each-link, balanced-again}
 use Rattle.tree.specs.Offer.{links, offer}
 use Rattle.tree.specs.Links.{length-links}
 use Rattle.tree.specs.Accepted.{TreeWithin, accepted-is-a-tree-within-the-limits, a-tree-within-the-limits-is-accepted}
@@ -22,6 +22,7 @@ use Rattle.tree.specs.declared.Offer.the-variants as offered
 use Rattle.trimming.specs.declared.Trimming.{Trimming}
 use Rattle.trimming.specs.declared.Trimming.the-variants.{NoTree, TooLarge, Short, Balanced}
 use Rattle.trimming.specs.Outcome.{decide, answer, capacities, after, trimmed, told}
+use Rattle.lists.specs.Sums.{contradiction}
 
 -- t are the balanced capacities of a tree with the capacities c
 pub record Promise (n : ℕ) (one two c t : List ℕ) : Type 0 where
@@ -31,8 +32,8 @@ pub record Promise (n : ℕ) (one two c t : List ℕ) : Type 0 where
 
 balanced-is-accepted : (o : Offer) (enough : Bool) → decide o enough ≡ Balanced → o ≡ offered.Accepted
 unfolding decide
-balanced-is-accepted offered.NoTree enough e = absurd (let z : _≡_ {A = ℕ} 0 1 = cc in omega arith)
-balanced-is-accepted offered.TooLarge enough e = absurd (let z : _≡_ {A = ℕ} 0 1 = cc in omega arith)
+balanced-is-accepted offered.NoTree enough e = contradiction cc
+balanced-is-accepted offered.TooLarge enough e = contradiction cc
 balanced-is-accepted offered.Accepted enough e = refl
 
 module _ {n : ℕ} {one two c : List ℕ} (w : TreeWithin largest n one two c) where
@@ -103,9 +104,9 @@ nine-is-short Balanced m e = absurd (omega arith)
 
 short-is-short : (o : Offer) (enough : Bool) → decide o enough ≡ Short → (o ≡ offered.Accepted) × (enough ≡ false)
 unfolding decide
-short-is-short offered.NoTree enough e = absurd (let z : _≡_ {A = ℕ} 0 1 = cc in omega arith)
-short-is-short offered.TooLarge enough e = absurd (let z : _≡_ {A = ℕ} 0 1 = cc in omega arith)
-short-is-short offered.Accepted true e = absurd (let z : _≡_ {A = ℕ} 0 1 = cc in omega arith)
+short-is-short offered.NoTree enough e = contradiction cc
+short-is-short offered.TooLarge enough e = contradiction cc
+short-is-short offered.Accepted true e = contradiction cc
 short-is-short offered.Accepted false e = (refl, refl)
 
 module _ (n : ℕ) (one two c lent : List ℕ) where

@@ -1,12 +1,12 @@
 // Balanced capacities of an offered tree (01: trimming), with its ends as terminals.
-use network::SITES;
+use model::SITES;
 use tree::Offer;
 ghost use mathlib.Core.Path.{_≡_};
 ghost use mathlib.Core.List.{_++_};
 ghost use Prim.Native.Nat.{_≤_};
 ghost use lib.ListN.{length, take, drop};
-ghost use Rattle.network.specs.Edition.{largest};
-ghost use Rattle.network.specs.Trimming.{elimination};
+ghost use Rattle.model.specs.Edition.{largest};
+ghost use Rattle.model.specs.Trimming.{elimination};
 ghost use Rattle.tree.specs.Accepted.{TreeWithin};
 ghost use Rattle.tree.specs.Offer.{links};
 ghost use Rattle.trimming.specs.Outcome.{answer, capacities, trimmed};
@@ -32,19 +32,22 @@ fn balance_by_ends(
     capacity: &[u64],
     lent: &mut [u64],
 )
-    requires { ⌜ TreeWithin largest n (now one) (now two) (now capacity) × (take n order ≡ elimination (links (now one) (now two)) n) × (length (now one) ≤ length (now lent)) ⌝ }
-    ensures { λ _. ⌜ now (lent .exit) ≡ capacities n (now (one .entry)) (now (two .entry)) (now (capacity .entry)) ++ drop (length (now (capacity .entry))) (now (lent .entry)) ⌝ }
+    requires { ⌜ TreeWithin largest n (now one) (now two) (now capacity) × (take n order ≡ elimination (links (now one) (now two)) n)
+        × (length (now one) ≤ length (now lent)) ⌝ }
+    ensures { λ _. ⌜ now (lent .exit) ≡ capacities n (now (one .entry)) (now (two .entry)) (now (capacity .entry)) ++ drop (length (now (capacity .entry)))
+        (now (lent .entry)) ⌝ }
 {
-    let chains = links::chain(one, two);
+    let chains = tree_links::chain(one, two);
     let last = chains.last;
     let before = chains.before;
-    let ends = links::ends(n, &last, &before, one, two);
-    balancing::balance(n, &order, &ends, &last, &before, one, two, capacity, lent);
+    let ends = tree_links::ends(n, &last, &before, one, two);
+    trimming_passes::balance(n, &order, &ends, &last, &before, one, two, capacity, lent);
 }
 
 // Balances the capacities of an offered tree into a lent list.
 pub fn trim(n: usize, one: &[usize], two: &[usize], capacity: &[u64], lent: &mut [u64]) -> Trimming
-    ensures { λ r. ⌜ (r ≡ answer n (now (one .entry)) (now (two .entry)) (now (capacity .entry)) (now (lent .entry))) × (now (lent .exit) ≡ trimmed n (now (one .entry)) (now (two .entry)) (now (capacity .entry)) (now (lent .entry))) ⌝ }
+    ensures { λ r. ⌜ (r ≡ answer n (now (one .entry)) (now (two .entry)) (now (capacity .entry)) (now (lent .entry)))
+        × (now (lent .exit) ≡ trimmed n (now (one .entry)) (now (two .entry)) (now (capacity .entry)) (now (lent .entry))) ⌝ }
 {
     let tree = tree::eliminate(n, one, two, capacity);
     let offer = tree.offer;

@@ -1,7 +1,7 @@
 // The planner as a library for other languages.
 use planner::Outcome;
 ghost use mathlib.Core.Path.{_≡_};
-ghost use Rattle.network.specs.Edition.{edition1};
+ghost use Rattle.model.specs.Edition.{edition1};
 ghost use Rattle.planner.specs.Outcome.{planned};
 ghost use Rattle.waderarmoire.specs.Packed.{packed};
 

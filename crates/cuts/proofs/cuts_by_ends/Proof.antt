@@ -1,11 +1,11 @@
 -- `cuts_by_ends` meets its contract: the cuts of the terminals that the list of the ends tells.
 use mathlib.Core.Path.{ap, _∙_}
 use Prim.Native.Nat.{ℕ}
-use Rattle.network.specs.Numbers.{look}
+use Rattle.lists.specs.Numbers.{look}
 use Rattle.tree.specs.Offer.{links}
-use Rattle.links.specs.Chains.{offer-placed, offer-limited}
-use Rattle.groups.specs.declared.Owned.{Owned}
-use Rattle.groups.specs.Steps.{owned}
+use Rattle.tree_links.specs.Chains.{offer-placed, offer-limited}
+use Rattle.cuts_groups.specs.declared.Owned.{Owned}
+use Rattle.cuts_groups.specs.Steps.{owned}
 use Rattle.cuts.specs.declared.Answer.the-variants.{Done}
 use Rattle.cuts.specs.Outcome.{cuts}
 use Rattle.cuts.proofs.cuts_by_ends.Statement.{statement}

@@ -3,7 +3,7 @@ use mathlib.Core.Path.{_≡_, refl, sym, _∙_}
 use borrow.Author.Needs.{needs}
 use borrow.Author.Tests.{eq-eqb, ne-eqb}
 use lib.ListN.{length}
-use Rattle.network.specs.Edition.{largest}
+use Rattle.model.specs.Edition.{largest}
 use Rattle.tree.specs.Offer.{offer}
 use Rattle.tree.specs.declared.Offer.the-variants.{Accepted}
 use Rattle.tree.specs.Accepted.{accepted-is-a-tree-within-the-limits}

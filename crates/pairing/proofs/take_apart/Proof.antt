@@ -4,18 +4,18 @@ use native.Mathlib.Omega.{arith}
 use borrow.Author.Needs.{needs}
 use borrow.Author.Tests.{le-leb}
 use lib.ListN.{length}
-use Rattle.network.specs.Numbers.{look}
-use Rattle.network.specs.Edition.{largest}
-use Rattle.network.specs.Trimming.{Balanced}
-use Rattle.network.specs.Pairing.{pairs}
+use Rattle.lists.specs.Numbers.{look}
+use Rattle.model.specs.Edition.{largest}
+use Rattle.model.specs.Trimming.{Balanced}
+use Rattle.model.specs.Pairing.{pairs}
 use Rattle.tree.specs.Offer.{links}
 use Rattle.tree.specs.Links.{length-links}
 use Rattle.tree.specs.Accepted.{a-tree-within-the-limits-is-accepted}
-use Rattle.links.specs.Chains.{offer-placed, offer-limited}
+use Rattle.tree_links.specs.Chains.{offer-placed, offer-limited}
 use Rattle.pairing.specs.Weighing.Heavy.{heavySomewhere, no-heavy-link-is-balanced}
-use Rattle.theory.specs.Leaves.{Outer}
-use Rattle.theory.specs.Ends.{ends-are-outer}
-use Rattle.walk.specs.PairingTheorem.{pairs-are-sound}
+use Rattle.theory_trees.specs.Leaves.{Outer}
+use Rattle.theory_trees.specs.Ends.{ends-are-outer}
+use Rattle.theory_walk.specs.PairingTheorem.{pairs-are-sound}
 use Rattle.pairing.specs.declared.Pairing.the-variants as pairing
 use Rattle.pairing.specs.Outcome.{terminals, decide, answer, pairCount}
 use Rattle.pairing.specs.Storing.{toStore}

@@ -9,12 +9,12 @@ use native.Mathlib.Omega.{arith}
 use borrow.Author.Tests.{eq-eqb, ne-eqb, le-ltb, ltb-false}
 use lib.Dec.{eqb, ltb}
 use lib.ListN.{length}
-use Rattle.network.specs.Numbers.{upfrom}
-use Rattle.network.specs.Network.{Links, sites, at, sumAt, others, Tree}
-use Rattle.network.specs.Trimming.{Light, Balanced}
-use Rattle.theory.specs.Sums.{same?}
-use Rattle.theory.specs.Sites.{at-site}
-use Rattle.theory.specs.Trees.{others-add}
+use Rattle.lists.specs.Numbers.{upfrom}
+use Rattle.model.specs.Flows.{Links, sites, at, sumAt, others, Tree}
+use Rattle.model.specs.Trimming.{Light, Balanced}
+use Rattle.lists.specs.Sums.{same?, contradiction}
+use Rattle.theory_trees.specs.Sites.{at-site}
+use Rattle.theory_trees.specs.Trees.{others-add}
 
 -- some number of a list passes a test
 unfoldable pub any : (ℕ → Bool) → List ℕ → Bool
@@ -36,7 +36,7 @@ heavySomewhere ls n terminal t = any (heavyAt ls terminal t) (sites n)
 -- ---- tests of the numbers of an interval
 
 neither : (a b : Bool) → (a || b) ≡ false → (a ≡ false) × (b ≡ false)
-neither true b e = absurd (let z : _≡_ {A = ℕ} 0 1 = cc in omega arith)
+neither true b e = contradiction cc
 neither false b e = (refl, e)
 
 either : (a b : Bool) → b ≡ true → (a || b) ≡ true

@@ -35,10 +35,13 @@ same-length-2 c = search needs
 
 returns-2 : tie.Need-returns-2
 returns-2 c =
-    let s = c .before .before .before .before .before .before .before .before .before .before .before .before .before .args in
-    let p = c .before .before .before .before .before .before .before .before .before .plan .ensures in
+    let at-outcome2 = c .before .before .before .before .before in
+    let at-plan = at-outcome2 .before .before .before .before in
+    let start = at-plan .before .before .before .before in
+    let s = start .args in
+    let p = at-plan .plan .ensures in
     let w = c .before .before .write-refusal .ensures in
-    let e = sym (p .0) ∙ c .before .before .before .before .before .outcome2 .given .1 in
+    let e = sym (p .0) ∙ at-outcome2 .outcome2 .given .1 in
     let v = rw (p .1) at (w .0) in
     let a = a-refusal-is-printed (s .sheet .now) (s .buf .now) _ _ e _ _ v in
     (sym (ap (λ x. x .length) a), (sym (ap (λ x. x .buffer) a), a-refusal-is-within-the-buffer (s .sheet .now) (s .buf .now) _ _ e _ _ v (w .1)))

@@ -2,7 +2,7 @@
 use mathlib.Core.Path.{sym, ap, _∙_}
 use native.Mathlib.Omega.{arith}
 use borrow.Author.Needs.{needs}
-use Rattle.writers.specs.Writing.{same-size}
+use Rattle.text_writers.specs.Writing.{same-size}
 use Rattle.planner.specs.Fits.{too-long, long-enough, no-room, room-enough}
 use Rattle.planner.proofs.deliver.Statement.{statement}
 use Rattle.planner.proofs.deliver.Tie as tie
@@ -22,7 +22,8 @@ written c =
     let fitted = c .before .before .before .before .before .before .before in
     let s = fitted .before .before .before .before .before .before .before .before .before .before .before .before in
     let w = c .before .before .write in
-    let long = room-enough _ _ (sym (fitted .fits2 .ensures) ∙ c .before .before .before .before .before .before .if1 .taken) (omega (arith, s .pre .writable .room)) in
+    let long = room-enough _ _ (sym (fitted .fits2 .ensures)
+    ∙ c .before .before .before .before .before .before .if1 .taken) (omega (arith, s .pre .writable .room)) in
     let e = long-enough (s .pre) (s .args .report .now) _ (w .result) long (w .ensures) in
     (sym (ap (λ p. p .outcome) e), sym (ap (λ p. p .buffer) e))
 

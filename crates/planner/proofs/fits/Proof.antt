@@ -4,7 +4,7 @@ use native.Mathlib.Nat.{zero-add}
 use borrow.Author.Needs.{needs}
 use borrow.Author.Tests.{le-leb, lt-leb}
 use lib.Dec.{leb}
-use Rattle.network.specs.Limits.{REPORT}
+use Rattle.model.specs.Limits.{REPORT}
 use Rattle.planner.specs.Fits.{fits}
 use Rattle.planner.proofs.fits.Statement.{statement}
 use Rattle.planner.proofs.fits.Tie as tie

@@ -17,7 +17,9 @@ enum-told c = search needs
 plan-network-requires : tie.Need-plan-network-requires
 plan-network-requires c κs =
     let r = c .before .before .before .read .ensures in
-    rw (← r) at (accepted-is-listed (c .before .before .before .before .before .before .args .sheet .now) (sym (ap (λ x. x .answer) r) ∙ c .before .enum-told .given .1))
+    rw (← r) at
+    (accepted-is-listed (c .before .before .before .before .before .before .args .sheet .now)
+    (sym (ap (λ x. x .answer) r) ∙ c .before .enum-told .given .1))
 
 returns : tie.Need-returns
 returns c =

@@ -4,15 +4,15 @@ use Prim.Native.Nat.{ℕ}
 use native.Mathlib.Omega.{arith}
 use lib.ListN.{length, take, length-replicate}
 use borrow.Author.Needs.{needs}
-use Rattle.network.specs.Limits.{SITES}
-use Rattle.network.specs.Numbers.{look}
-use Rattle.network.specs.Trimming.{balanced}
-use Rattle.network.specs.Pairing.{pairList}
+use Rattle.model.specs.Limits.{SITES}
+use Rattle.lists.specs.Numbers.{look}
+use Rattle.model.specs.Trimming.{balanced}
+use Rattle.model.specs.Pairing.{pairList}
 use Rattle.tree.specs.Offer.{links}
 use Rattle.trimming.specs.Promise.{Promise}
-use Rattle.groups.specs.Places.{length-places}
-use Rattle.groups.specs.Steps.{owned}
-use Rattle.links.specs.Chains.{offer-placed, offer-limited}
+use Rattle.cuts_groups.specs.Places.{length-places}
+use Rattle.cuts_groups.specs.Steps.{owned}
+use Rattle.tree_links.specs.Chains.{offer-placed, offer-limited}
 use Rattle.planner.specs.Taken.{the-network-is-a-tree-within}
 use Rattle.planner.specs.Works.{the-front-keeps-the-promise, the-promised-can-be-walked, pairs-in-order, what-is-worked-out-is-ready}
 use Rattle.planner.proofs.plan_charted.Statement.{statement}
@@ -63,7 +63,8 @@ deliver-requires c κs =
     let cut = paired .before .before .before .before .before in
     let balanced = cut .before .before .before in
     let s = balanced .before .before .before .before .before .before .before .before .before in
-    let listed = pairs-in-order _ (paired .before .decompose .result) (paired .ordered .result) (paired .before .decompose .ensures) (paired .ordered .ensures) in
+    let listed =
+    pairs-in-order _ (paired .before .decompose .result) (paired .ordered .result) (paired .before .decompose .ensures) (paired .ordered .ensures) in
     what-is-worked-out-is-ready (s .pre .0) _ (s .args .ends .now) (cut .cuts-of .result) (paired .ordered .result)
     (s .pre .1 .marked) (promised balanced .0) (cut .cuts-of .ensures) (listed .0) (listed .1)
 

@@ -4,7 +4,7 @@ use native.Mathlib.Omega.{arith}
 use lib.ListN.{take}
 use borrow.Author.Needs.{needs}
 use Rattle.tree.specs.Accepted.{eliminated-in-order}
-use Rattle.links.specs.Chains.{offer-placed}
+use Rattle.tree_links.specs.Chains.{offer-placed}
 use Rattle.planner.specs.Taken.{the-network-is-a-tree-within, the-network-is-accepted}
 use Rattle.planner.proofs.plan_lists.Statement.{statement}
 use Rattle.planner.proofs.plan_lists.Tie as tie

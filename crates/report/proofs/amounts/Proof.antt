@@ -3,7 +3,7 @@ use mathlib.Core.Path.{_≡_, refl}
 use Prim.Native.Nat.{_+_, _-_, _≤_}
 use native.Mathlib.Omega.{arith}
 use lib.ListN.{take}
-use Rattle.network.specs.Network.{total}
+use Rattle.model.specs.Flows.{total}
 use Rattle.report.proofs.Totals.{total-next, total-part}
 use Rattle.report.proofs.amounts.Statement.{statement}
 use Rattle.report.proofs.amounts.Tie as tie

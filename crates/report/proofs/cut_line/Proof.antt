@@ -1,10 +1,10 @@
 -- `cut_line` meets its contract: nothing for a site that is no end, else two fields and the last two.
 use mathlib.Core.Path.{_∙_}
 use mathlib.Core.List.{[], _∷_}
-use Rattle.network.specs.Text.{bytes}
-use Rattle.theory.specs.Sums.{pick-same, pick-other}
-use Rattle.writers.specs.Fields.{decimal}
-use Rattle.writers.specs.Writing.{same-size, nothing, line-ended, room-begun, room-ended}
+use Rattle.model.specs.Text.{bytes}
+use Rattle.lists.specs.Sums.{pick-same, pick-other}
+use Rattle.text_writers.specs.Fields.{decimal}
+use Rattle.text_writers.specs.Writing.{same-size, nothing, line-ended, room-begun, room-ended}
 use Rattle.report.specs.Report.{cutRecord}
 use Rattle.report.specs.Shown.{nameBy}
 use Rattle.report.proofs.cut_line.Statement.{statement}

@@ -2,10 +2,10 @@
 use Prim.Native.Nat.{_+_, _-_, _≤_, _<_}
 use native.Mathlib.Omega.{arith}
 use lib.ListN.{take}
-use Rattle.network.specs.Network.{sites}
-use Rattle.theory.specs.Sites.{length-upfrom}
-use Rattle.writers.specs.Wrote.{Wrote}
-use Rattle.writers.specs.Writing.{same-size}
+use Rattle.model.specs.Flows.{sites}
+use Rattle.lists.specs.Places.{length-upfrom}
+use Rattle.text_writers.specs.Wrote.{Wrote}
+use Rattle.text_writers.specs.Writing.{same-size}
 use Rattle.report.specs.Report.{lines, cutLine}
 use Rattle.report.specs.Shown.{nameBy}
 use Rattle.report.proofs.Writing.{lines-none, line-room, line-next, lines-all, cut-at}

@@ -3,9 +3,9 @@ use mathlib.Core.Path.{_∙_}
 use mathlib.Core.List.{[], _∷_}
 use lib.ListN.{length, take}
 use lib.Seq.{length-take-le}
-use Rattle.network.specs.Network.{total}
-use Rattle.writers.specs.Fields.{decimal, begun}
-use Rattle.writers.specs.Writing.{same-size, line-ended, first-field, room-begun, room-ended}
+use Rattle.model.specs.Flows.{total}
+use Rattle.text_writers.specs.Fields.{decimal, begun}
+use Rattle.text_writers.specs.Writing.{same-size, line-ended, first-field, room-begun, room-ended}
 use Rattle.report.specs.Report.{headRecord}
 use borrow.Author.Needs.{needs}
 use Rattle.report.proofs.heading.Statement.{statement}
@@ -36,9 +36,11 @@ same-length c = search needs
 returns : tie.Need-returns
 unfolding headRecord
 returns c =
+    let at-put-bytes = c .before .before .before .before .before .before in
+    let at-amounts = at-put-bytes .before .before in
     let s = c .before .before .before .before .before .before .before .before .before .before .before in
-    let numbers = rw (c .before .before .before .before .before .before .before .before .amounts .ensures) at (c .before .before .put-numbers .ensures) in
-    let word = first-field _ (c .before .before .before .before .before .before .put-bytes .ensures) in
+    let numbers = rw (at-amounts .amounts .ensures) at (c .before .before .put-numbers .ensures) in
+    let word = first-field _ (at-put-bytes .put-bytes .ensures) in
     rw (length-take-le (s .args .n) (s .args .pairs) (s .pre .2)) (line-ended _ _ _ word numbers)
 
 pub heading-spec : {M : Type 1} → statement M

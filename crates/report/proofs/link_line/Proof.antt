@@ -1,9 +1,9 @@
 -- `link_line` meets its contract: three fields, and the last two.
 use mathlib.Core.Path.{_∙_}
 use mathlib.Core.List.{[], _∷_}
-use Rattle.network.specs.Text.{bytes}
-use Rattle.writers.specs.Fields.{decimal}
-use Rattle.writers.specs.Writing.{same-size, line-ended, room-begun, room-ended}
+use Rattle.model.specs.Text.{bytes}
+use Rattle.text_writers.specs.Fields.{decimal}
+use Rattle.text_writers.specs.Writing.{same-size, line-ended, room-begun, room-ended}
 use Rattle.report.specs.Report.{linkRecord}
 use Rattle.report.specs.Shown.{nameBy}
 use Rattle.report.proofs.link_line.Statement.{statement}

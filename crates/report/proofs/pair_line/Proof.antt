@@ -1,9 +1,9 @@
 -- `pair_line` meets its contract: three fields, and the last.
 use mathlib.Core.Path.{_∙_}
 use mathlib.Core.List.{[], _∷_}
-use Rattle.network.specs.Text.{bytes}
-use Rattle.writers.specs.Fields.{decimal, line}
-use Rattle.writers.specs.Writing.{same-size, line-ended, last-field, room-begun, room-ended}
+use Rattle.model.specs.Text.{bytes}
+use Rattle.text_writers.specs.Fields.{decimal, line}
+use Rattle.text_writers.specs.Writing.{same-size, line-ended, last-field, room-begun, room-ended}
 use Rattle.report.specs.Report.{pairLine}
 use Rattle.report.specs.Shown.{nameBy}
 use Rattle.report.proofs.pair_line.Statement.{statement}

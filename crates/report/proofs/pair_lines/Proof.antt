@@ -4,8 +4,8 @@ use Prim.Native.Nat.{_-_, _≤_, _<_}
 use native.Mathlib.Omega.{arith}
 use lib.ListN.{take}
 use lib.Seq.{getD-take, length-take-le}
-use Rattle.writers.specs.Wrote.{Wrote}
-use Rattle.writers.specs.Writing.{same-size}
+use Rattle.text_writers.specs.Wrote.{Wrote}
+use Rattle.text_writers.specs.Writing.{same-size}
 use Rattle.report.specs.Report.{lines, pairLine}
 use Rattle.report.specs.Shown.{nameBy, no-pair}
 use Rattle.report.proofs.Writing.{lines-none, line-room, line-next, lines-all}
@@ -63,7 +63,8 @@ loop-again c =
     let h : i < n = omega arith in
     let few = length-take-le n list (s .pre .1 .held) in (
       omega arith,
-      line-next line (take n list) no-pair i (omega arith) (ap line (getD-take n list i no-pair h)) (top .loop .inv .1) (c .before .before .pair-line .ensures),
+      line-next line (take n list) no-pair i (omega arith) (ap line (getD-take n list i no-pair h)) (top .loop .inv .1)
+          (c .before .before .pair-line .ensures),
     )
 
 same-length : tie.Need-same-length Inv-loop μ-loop

@@ -1,5 +1,5 @@
 -- `put_name` meets its contract: the range of the name is a part of the sheet.
-use Rattle.writers.specs.Writing.{same-size}
+use Rattle.text_writers.specs.Writing.{same-size}
 use borrow.Author.Needs.{needs}
 use Rattle.report.proofs.put_name.Statement.{statement}
 use Rattle.report.proofs.put_name.Tie as tie
@@ -29,7 +29,9 @@ part-put-bytes-end : tie.Need-part-put-bytes-end
 part-put-bytes-end c = search needs
 
 put-bytes-requires : tie.Need-put-bytes-requires
-put-bytes-requires c κs = c .before .before .before .before .before .before .before .before .pre .0
+put-bytes-requires c κs =
+    let start = c .before .before .before .before .before .before .before .before in
+    start .pre .0
 
 same-length : tie.Need-same-length
 same-length c = same-size (c .before .before .put-bytes .ensures)

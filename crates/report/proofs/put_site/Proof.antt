@@ -1,8 +1,8 @@
 -- `put_site` meets its contract: two fields, one after the other.
 use mathlib.Core.Path.{_∙_}
 use mathlib.Core.List.{[], _∷_}
-use Rattle.writers.specs.Fields.{begun}
-use Rattle.writers.specs.Writing.{same-size, first-field, next-field, room-fields, room-next}
+use Rattle.text_writers.specs.Fields.{begun}
+use Rattle.text_writers.specs.Writing.{same-size, first-field, next-field, room-fields, room-next}
 use Rattle.report.specs.Shown.{nameBy}
 use Rattle.report.proofs.put_site.Statement.{statement}
 use Rattle.report.proofs.put_site.Tie as tie

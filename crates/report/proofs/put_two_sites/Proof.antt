@@ -1,7 +1,7 @@
 -- `put_two_sites` meets its contract: two fields, and one more.
 use mathlib.Core.Path.{_∙_}
 use mathlib.Core.List.{[], _∷_}
-use Rattle.writers.specs.Writing.{same-size, next-field, room-fields, room-next}
+use Rattle.text_writers.specs.Writing.{same-size, next-field, room-fields, room-next}
 use Rattle.report.specs.Shown.{nameBy}
 use Rattle.report.proofs.put_two_sites.Statement.{statement}
 use Rattle.report.proofs.put_two_sites.Tie as tie

@@ -1,10 +1,10 @@
 -- `site_line` meets its contract: two fields, and `-` or the owner's name.
 use mathlib.Core.Path.{_∙_}
 use mathlib.Core.List.{[], _∷_}
-use Rattle.network.specs.Text.{bytes}
-use Rattle.theory.specs.Sums.{pick-same, pick-other}
-use Rattle.writers.specs.Fields.{line}
-use Rattle.writers.specs.Writing.{same-size, line-ended, last-field, room-begun, room-ended}
+use Rattle.model.specs.Text.{bytes}
+use Rattle.lists.specs.Sums.{pick-same, pick-other}
+use Rattle.text_writers.specs.Fields.{line}
+use Rattle.text_writers.specs.Writing.{same-size, line-ended, last-field, room-begun, room-ended}
 use Rattle.report.specs.Report.{ownerName, siteRecord}
 use Rattle.report.specs.Shown.{nameBy}
 use Rattle.report.proofs.site_line.Statement.{statement}

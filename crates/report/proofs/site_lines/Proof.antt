@@ -2,10 +2,10 @@
 use Prim.Native.Nat.{_+_, _-_, _≤_, _<_}
 use native.Mathlib.Omega.{arith}
 use lib.ListN.{take}
-use Rattle.network.specs.Network.{sites}
-use Rattle.theory.specs.Sites.{length-upfrom}
-use Rattle.writers.specs.Wrote.{Wrote}
-use Rattle.writers.specs.Writing.{same-size}
+use Rattle.model.specs.Flows.{sites}
+use Rattle.lists.specs.Places.{length-upfrom}
+use Rattle.text_writers.specs.Wrote.{Wrote}
+use Rattle.text_writers.specs.Writing.{same-size}
 use Rattle.report.specs.Report.{lines, siteLine}
 use Rattle.report.specs.Shown.{nameBy}
 use Rattle.report.proofs.Writing.{lines-none, line-room, line-next, lines-all, site-at}
@@ -31,7 +31,9 @@ mul-site-line : tie.Need-mul-site-line Inv-loop μ-loop
 mul-site-line c = omega (arith, c .before .before .before .before .before .before .before .pre .2 .held)
 
 shared-slice-read-site-line : tie.Need-shared-slice-read-site-line Inv-loop μ-loop
-shared-slice-read-site-line c = omega (arith, c .before .before .before .before .before .before .before .before .pre .2 .held)
+shared-slice-read-site-line c =
+    let entry = c .before .before .before .before .before .before .before .before in
+    omega (arith, entry .pre .2 .held)
 
 site-line-requires : tie.Need-site-line-requires Inv-loop μ-loop
 site-line-requires c κs =

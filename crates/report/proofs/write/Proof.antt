@@ -1,5 +1,5 @@
 -- `write` meets its contract: six parts, one after the other, and room for the whole has room for each.
-use Rattle.writers.specs.Writing.{then, same-size}
+use Rattle.text_writers.specs.Writing.{then, same-size}
 use Rattle.report.specs.Report.{reportOf}
 use Rattle.report.proofs.Parts.{head-room, links-room, sites-room, cuts-room, before-room, pairs-room}
 use Rattle.report.proofs.write.Statement.{statement}

@@ -1,7 +1,7 @@
 -- `write_refusal` meets its contract: a field, and the last two. A machine number has at most 20 digits, so the line is short.
 use mathlib.Core.Path.{_∙_}
 use native.Mathlib.Omega.{arith}
-use Rattle.writers.specs.Writing.{same-size, line-ended, first-field}
+use Rattle.text_writers.specs.Writing.{same-size, line-ended, first-field}
 use Rattle.report.specs.Report.{refusalLine}
 use Rattle.report.proofs.Writing.{two-numbers}
 use borrow.Author.Needs.{needs}

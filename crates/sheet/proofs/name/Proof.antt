@@ -1,7 +1,7 @@
 -- `name` meets its contract: a number is outside the limits, or its place in the lists has the range of the name.
 use mathlib.Core.Path.{_≡_, sym, ap, _∙_}
 use Prim.Native.Nat.{suc, _-_}
-use Rattle.network.specs.Edition.{edition1}
+use Rattle.model.specs.Edition.{edition1}
 use Rattle.sheet.specs.Sheet.{readSheet, nameOf}
 use Rattle.sheet.specs.NameLaws.{no-site-zero, no-site-above, name-by-lists}
 use native.Mathlib.Omega.{arith}
@@ -56,7 +56,8 @@ unfolding nameOf
 returns-3 c =
     let a = c .before .before .before .before .before .before .before .before .args in
     let number : a .site ≡ suc (a .site - 1) = omega arith in
-    rw (c .before .before .before .before .read .ensures) at (c .part .ensures) ∙ name-by-lists (a .sheet .now) (readSheet edition1 (a .sheet .now)) (a .site - 1) ∙ ap (nameOf edition1 (a .sheet .now)) (sym number)
+    rw (c .before .before .before .before .read .ensures) at (c .part .ensures)
+    ∙ name-by-lists (a .sheet .now) (readSheet edition1 (a .sheet .now)) (a .site - 1) ∙ ap (nameOf edition1 (a .sheet .now)) (sym number)
 
 pub name-spec : {M : Type 1} → statement M
 name-spec =

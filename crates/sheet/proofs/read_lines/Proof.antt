@@ -3,11 +3,12 @@ use mathlib.Core.Path.{_≡_, sym, ap, _∙_}
 use Prim.Native.Nat.{_≤_, _<_, _+_, _-_}
 use lib.ListN.{length}
 use borrow.Author.Tests.{not-true, not-false}
-use Rattle.network.specs.Limits.{PLACES, SITES}
-use Rattle.lines.specs.LineLaws.{line-stays-on-sheet}
+use Rattle.model.specs.Limits.{PLACES, SITES}
+use Rattle.text_lines.specs.LineLaws.{line-stays-on-sheet}
 use Rattle.sheet.specs.Sheet.{stepOf}
 use Rattle.sheet.specs.Reading.{reading}
-use Rattle.sheet.proofs.Progress.{Progress, start, lengths, table-is, held, by-heading, site-fits, by-site, link-fits, by-link, by-refusal, by-parts, by-acceptance}
+use Rattle.sheet.proofs.Progress.{Progress, start, lengths, table-is, held, by-heading, site-fits, by-site, link-fits, by-link, by-refusal, by-parts}
+use Rattle.sheet.proofs.Progress.{by-acceptance}
 use native.Mathlib.Omega.{arith}
 use borrow.Author.Needs.{needs}
 use Rattle.sheet.proofs.read_lines.Statement.{statement}
@@ -20,8 +21,10 @@ abbrev μ-loop : tie.MeasureT-loop
 μ-loop sheet edition net₀ table₀ labels₀ at₀ number₀ net table labels at number = length sheet - at
 
 -- the line stays on the sheet
-on-sheet : (c : tie.After-line Inv-loop μ-loop) → let s = c .before .before .before .before .before .before .args .sheet .now in c .before .before .loop .at + length (c .line .result .now) ≤ length s
-on-sheet c = let l = c .before .before .loop in rw (c .line .ensures .bytes) (line-stays-on-sheet (c .before .before .before .before .before .before .args .sheet .now) (l .at) (l .inv .on-sheet))
+on-sheet : (c : tie.After-line Inv-loop μ-loop) → let s = c .before .before .before .before .before .before .args .sheet .now in
+    c .before .before .loop .at + length (c .line .result .now) ≤ length s
+on-sheet c = let l = c .before .before .loop in
+    rw (c .line .ensures .bytes) (line-stays-on-sheet (c .before .before .before .before .before .before .args .sheet .now) (l .at) (l .inv .on-sheet))
 
 -- the next line is later
 less : (c : tie.After-line Inv-loop μ-loop) → let s = c .before .before .before .before .before .before .args .sheet .now in
@@ -33,54 +36,75 @@ abbrev line-of : tie.After-step-at Inv-loop μ-loop → tie.After-line Inv-loop 
 line-of c = c .before .before .before .before .before .before
 
 -- the step is that of the line, after the network read so far
-step-is : (c : tie.After-step-at Inv-loop μ-loop) → let top = c .before .before .before .before .before .before .before .before in let a = top .before .before .before .before .args in
+step-is : (c : tie.After-step-at Inv-loop μ-loop) → let top = c .before .before .before .before .before .before .before .before in
+    let a = top .before .before .before .before .args in
     c .step-at .result ≡ stepOf (a .edition) (a .sheet .now) (top .loop .inv .read) (top .loop .number) (top .loop .at)
 step-is c = let l = (line-of c) .before .before .loop in c .step-at .ensures (l .inv .read) (held (l .inv))
 
 -- there is room for a site, and for a link and its labels
-site-room : (c : tie.After-known-told2 Inv-loop μ-loop) → let step = c .before .before .before in step .before .before .before .before .before .before .before .before .loop .net .sites < SITES
-site-room c = let step = c .before .before .before in site-fits (step .before .before .before .before .before .before .before .before .loop .inv) (step .step-at .result) (step .before .before .before .before .before .before .before .loop-test .taken) (step-is step) _ _ (c .before .step2 .given .1)
+site-room : (c : tie.After-known-told2 Inv-loop μ-loop) → let step = c .before .before .before in
+    let round = step .before .before .before .before .before .before .before .before in round .loop .net .sites < SITES
+site-room c = let step = c .before .before .before in let tested = step .before .before .before .before .before .before .before in
+    let round = tested .before in
+    site-fits (round .loop .inv) (step .step-at .result) (tested .loop-test .taken) (step-is step) _ _ (c .before .step2 .given .1)
 
-link-room : (c : tie.After-known-told3 Inv-loop μ-loop) → let step = c .before .before .before in let given = c .before .step3 .given in
-    (step .before .before .before .before .before .before .before .before .loop .net .links < SITES) × (given .0 .0 < PLACES) × (given .0 .1 .0 < PLACES)
-link-room c = let step = c .before .before .before in link-fits (step .before .before .before .before .before .before .before .before .loop .inv) (step .step-at .result) (step .before .before .before .before .before .before .before .loop-test .taken) (step-is step) _ _ _ (c .before .step3 .given .1)
+link-room : (c : tie.After-known-told3 Inv-loop μ-loop) → let step = c .before .before .before in
+    let round = step .before .before .before .before .before .before .before .before in let given = c .before .step3 .given in
+    (round .loop .net .links < SITES) × (given .0 .0 < PLACES) × (given .0 .1 .0 < PLACES)
+link-room c = let step = c .before .before .before in let tested = step .before .before .before .before .before .before .before in
+    let round = tested .before in
+    link-fits (round .loop .inv) (step .step-at .result) (tested .loop-test .taken) (step-is step) _ _ _ (c .before .step3 .given .1)
 
 loop-holds : tie.Need-loop-holds Inv-loop μ-loop
-loop-holds c = rw (c .before .nothing .ensures, c .own-labels .ensures) (start (c .before .before .before .args .edition) (c .before .before .before .pre) (c .before .before .before .args .sheet .now))
+loop-holds c =
+    rw (c .before .nothing .ensures, c .own-labels .ensures)
+    (start (c .before .before .before .args .edition) (c .before .before .before .pre) (c .before .before .before .args .sheet .now))
 
 step-at-requires : tie.Need-step-at-requires Inv-loop μ-loop
-step-at-requires c κs = let P = c .before .before .before .before .before .before .before .loop .inv in (lengths P .1, table-is P, P .on-sheet, c .before .before .before .before .before .line .ensures .bytes)
+step-at-requires c κs = let P = c .before .before .before .before .before .before .before .loop .inv in
+    (lengths P .1, table-is P, P .on-sheet, c .before .before .before .before .before .line .ensures .bytes)
 
 returns : tie.Need-returns Inv-loop μ-loop
 returns c =
-    let step = c .before .before .before .before in
+    let step = c .before .before .before .before in let tested = step .before .before .before .before .before .before .before in
+    let round = tested .before in
     c .refusal .ensures
-    ∙ ap reading (sym (by-refusal (step .before .before .before .before .before .before .before .before .loop .inv) (step .step-at .result) (step .before .before .before .before .before .before .before .loop-test .taken) (step-is step) _ (c .before .before .step .given .1)))
+    ∙ ap reading (sym (by-refusal (round .loop .inv) (step .step-at .result) (tested .loop-test .taken) (step-is step) _ (c .before .before .step .given .1)))
 
 loop-again : tie.Need-loop-again Inv-loop μ-loop
 loop-again c =
-    let step = c .before .before in
-    rw (line-of step .line .ensures .bytes) (by-heading (step .before .before .before .before .before .before .before .before .loop .inv) (step .step-at .result) (step .before .before .before .before .before .before .before .loop-test .taken) (step-is step) (c .enum-told .given .1))
+    let step = c .before .before in let tested = step .before .before .before .before .before .before .before in
+    let round = tested .before in
+    rw (line-of step .line .ensures .bytes)
+    (by-heading (round .loop .inv) (step .step-at .result) (tested .loop-test .taken) (step-is step) (c .enum-told .given .1))
 
 loop-again-2 : tie.Need-loop-again-2 Inv-loop μ-loop
 loop-again-2 c =
-    let step = c .before .before .before .before .before in
+    let step = c .before .before .before .before .before in let tested = step .before .before .before .before .before .before .before in
+    let round = tested .before in
     rw (line-of step .line .ensures .bytes)
-    (by-site (step .before .before .before .before .before .before .before .before .loop .inv) (step .step-at .result) (step .before .before .before .before .before .before .before .loop-test .taken) (step-is step) _ _ (c .before .before .before .step2 .given .1) _ (c .enter .ensures))
+    (by-site (round .loop .inv) (step .step-at .result) (tested .loop-test .taken) (step-is step) _ _ (c .before .before .before .step2 .given .1) _
+    (c .enter .ensures))
 
 loop-again-3 : tie.Need-loop-again-3 Inv-loop μ-loop
 loop-again-3 c =
-    let step = c .before .before .before .before .before .before in
+    let step = c .before .before .before .before .before .before in let tested = step .before .before .before .before .before .before .before in
+    let round = tested .before in
     rw (line-of step .line .ensures .bytes)
-    (by-link (step .before .before .before .before .before .before .before .before .loop .inv) (step .step-at .result) (step .before .before .before .before .before .before .before .loop-test .taken) (step-is step) _ _ _ (c .before .before .before .before .step3 .given .1) _ (c .before .join .ensures))
+    (by-link (round .loop .inv) (step .step-at .result) (tested .loop-test .taken) (step-is step) _ _ _ (c .before .before .before .before .step3 .given .1) _
+    (c .before .join .ensures))
 
 returns-2 : tie.Need-returns-2 Inv-loop μ-loop
 returns-2 c =
     c .refusal2 .ensures
-    ∙ ap reading (sym (by-parts (c .before .before .before .before .before .loop .inv) (c .before .before .before .before .loop-test .left) (sym (c .before .before .is-whole .ensures) ∙ not-true _ (c .before .if1 .taken))))
+    ∙ ap reading
+    (sym (by-parts (c .before .before .before .before .before .loop .inv) (c .before .before .before .before .loop-test .left)
+    (sym (c .before .before .is-whole .ensures) ∙ not-true _ (c .before .if1 .taken))))
 
 returns-3 : tie.Need-returns-3 Inv-loop μ-loop
-returns-3 c = sym (by-acceptance (c .before .before .before .before .loop .inv) (c .before .before .before .loop-test .left) (sym (c .before .is-whole .ensures) ∙ not-false _ (c .if1 .left)))
+returns-3 c =
+    sym (by-acceptance (c .before .before .before .before .loop .inv) (c .before .before .before .loop-test .left)
+    (sym (c .before .is-whole .ensures) ∙ not-false _ (c .if1 .left)))
 
 pub read-lines-spec : {M : Type 1} → statement M
 read-lines-spec =

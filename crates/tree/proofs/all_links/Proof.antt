@@ -4,7 +4,7 @@ use native.Mathlib.Omega.{arith}
 use borrow.Author.Count.{below-none, below-more}
 use borrow.Author.Tests.{not-true, not-false}
 use lib.ListN.{length}
-use Rattle.network.specs.Numbers.{look}
+use Rattle.lists.specs.Numbers.{look}
 use Rattle.tree.specs.Ordering.Steps.{Link}
 use Rattle.tree.proofs.Answers.{told, denied}
 use Rattle.tree.proofs.all_links.Statement.{statement}

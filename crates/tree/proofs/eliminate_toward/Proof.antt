@@ -3,7 +3,7 @@ use mathlib.Core.Path.{_≡_, refl, sym, ap, _∙_}
 use mathlib.Core.List.{List}
 use Prim.Native.Nat.{ℕ}
 use lib.ListN.{length}
-use Rattle.network.specs.Edition.{largest}
+use Rattle.model.specs.Edition.{largest}
 use Rattle.tree.specs.Ordering.Toward.{eliminationToward, orderIn}
 use Rattle.tree.specs.declared.ordering.Order.{Order}
 use Rattle.tree.specs.declared.Elimination.{Elimination}

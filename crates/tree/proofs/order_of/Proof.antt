@@ -5,7 +5,7 @@ use mathlib.Core.List.{List}
 use Prim.Native.Nat.{ℕ}
 use native.Mathlib.Omega.{arith}
 use borrow.Author.Tests.{not-true, not-false}
-use Rattle.network.specs.Limits.{SITES}
+use Rattle.model.specs.Limits.{SITES}
 use Rattle.tree.specs.Ordering.Links.{links}
 use Rattle.tree.specs.Ordering.Toward.{eliminationToward, orderIn}
 use Rattle.tree.specs.Ordering.Steps.{Proper, Eliminated}
@@ -15,6 +15,7 @@ use Rattle.tree.specs.Accepted.{is-tree-is-a-tree, a-tree-is-tree, is-fa
 use Rattle.tree.proofs.Answers.{told, denied, a-tree-is-proper}
 use Rattle.tree.proofs.order_of.Statement.{statement}
 use Rattle.tree.proofs.order_of.Tie as tie
+use Rattle.lists.specs.Sums.{contradiction}
 
 -- where the numbers are right, all sites are taken just if the links make a tree
 decided : {n root : ℕ} {a b order : List ℕ} (all : Bool) → Proper n a b → Eliminated n a b root order all → all ≡ isTree SITES n a b
@@ -31,7 +32,7 @@ improper c =
       tree = sym (is-false (isTree SITES (a .n) (a .one .now) (a .two .now))
           (λ t. denied (c .before .is-proper .result) (c .before .is-proper .ensures) (not-true _ (c .if1 .taken))
           (a-tree-is-proper (is-tree-is-a-tree SITES (a .n) (a .one .now) (a .two .now) t))));
-      order = λ z. absurd (let e : _≡_ {A = ℕ} 0 1 = cc in omega arith);
+      order = λ z. contradiction cc;
     }
 
 no-root : tie.Need-returns-2

@@ -10,21 +10,22 @@ use native.Mathlib.Numerals.{add-one}
 use native.Mathlib.Nat.{sub-zero}
 use lib.Seq.{set-at, drop-cons}
 use lib.ListN.{length, set, drop, replicate, length-append, length-set, length-replicate}
-use Rattle.network.specs.Limits.{SITES}
-use Rattle.network.specs.Numbers.{is, count, look}
-use Rattle.network.specs.Network.{Links, Site, Ends, sites, one, two, sumAt}
-use Rattle.network.specs.Trimming.{unvisited, first, remove, InwardOrder}
-use Rattle.theory.specs.Sums.{pick-same, is-other, same?}
-use Rattle.theory.specs.Sites.{length-upfrom, sites-once, sites-site, sites-single, sumAt-same}
-use Rattle.theory.specs.Orders.{remove-length, upfrom-ascending}
-use Rattle.theory.specs.TreeTest.{an-inward-order-makes-a-tree}
+use Rattle.model.specs.Limits.{SITES}
+use Rattle.lists.specs.Numbers.{is, count, look}
+use Rattle.model.specs.Flows.{Links, Site, Ends, sites, one, two, sumAt}
+use Rattle.model.specs.Trimming.{unvisited, first, remove, InwardOrder}
+use Rattle.lists.specs.Sums.{pick-same, is-other, same?, contradiction}
+use Rattle.lists.specs.Places.{length-upfrom}
+use Rattle.theory_trees.specs.Sites.{sites-once, sites-site, sites-single, sumAt-same}
+use Rattle.theory_trees.specs.Orders.{remove-length, upfrom-ascending}
+use Rattle.theory_trees.specs.TreeTest.{an-inward-order-makes-a-tree}
 use Rattle.tree.specs.Ordering.Links.{links, length-links, links-one, links-two}
 use Rattle.tree.specs.Ordering.Toward.{takenToward, eliminationToward, orderIn}
 use Rattle.tree.specs.Ordering.Steps.{Proper, Counted, share, farEnd, Over, Ready, Took, Eliminated}
 use Rattle.tree.specs.Ordering.Weights.{weigh}
 use Rattle.tree.specs.Ordering.Rooted.{removed, Takes, takes-next, takes-last, length-elimination-toward}
-use Rattle.tree.proofs.ordering.Untaken.{Untaken, low-is-untaken, lowest-is-first, stuck-is-no-tree, key-is-share}
-use Rattle.tree.proofs.ordering.Untaken.{link, end, end-has-link, taken-alone, taken-over}
+use Rattle.tree.proofs.ordering.Untaken.{Untaken, low-is-untaken, lowest-is-first, stuck-is-no-tree, key-is-share, link, end, end-has-link, taken-alone}
+use Rattle.tree.proofs.ordering.Untaken.{taken-over}
 
 -- ---- the places of the order
 
@@ -205,12 +206,12 @@ module _ {n : ℕ} {a b : List ℕ} (p : Proper n a b) where
           tree = λ _. an-inward-order-makes-a-tree (links a b) apart (p .big) ends (omega (arith, proper-length)) (eliminationToward (links a b) n root)
               (length-elimination-toward (links a b) n root (omega (arith, p .big))) (r .1);
           order = λ _. r .0;
-          none = λ z. absurd (let e : _≡_ {A = ℕ} 0 1 = cc in omega arith);
+          none = λ z. contradiction cc;
         }
 
     pub none-found : i < n - count (sites n) root → ((x : ℕ) → Site n x → 131072 ≤ look keys x) → Eliminated n a b root order false
     none-found h high = record {
-      tree = λ z. absurd (let e : _≡_ {A = ℕ} 0 1 = cc in omega arith);
-      order = λ z. absurd (let e : _≡_ {A = ℕ} 0 1 = cc in omega arith);
+      tree = λ z. contradiction cc;
+      order = λ z. contradiction cc;
       none = λ _. stuck-is-no-tree (g .untaken) (omega (arith, g .long, g .kept)) high;
     }

@@ -8,9 +8,9 @@ use native.Mathlib.Omega.{arith}
 use native.Mathlib.Decide.{decLt}
 use lib.Seq.{getD-set-same, getD-set-other}
 use lib.ListN.{length, set}
-use Rattle.network.specs.Numbers.{look}
-use Rattle.network.specs.Network.{Site}
-use Rattle.theory.specs.Sums.{cases, same?}
+use Rattle.lists.specs.Numbers.{look}
+use Rattle.model.specs.Flows.{Site}
+use Rattle.lists.specs.Sums.{cases, same?}
 use Rattle.tree.specs.Ordering.Steps.{Behind, Onward}
 use Rattle.tree.specs.declared.ordering.Search.{Search}
 

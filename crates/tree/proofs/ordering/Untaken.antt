@@ -9,14 +9,14 @@ use native.Mathlib.Decide.{decLe}
 use native.Mathlib.Nat.{mul-le-mul-right}
 use lib.Seq.{getD-set-same, getD-set-other}
 use lib.ListN.{length, set, length-set}
-use Rattle.network.specs.Limits.{LINKS, PLACES, SITES}
-use Rattle.network.specs.Numbers.{pick, is, sum, count, look}
-use Rattle.network.specs.Network.{Links, Site, Tree, one, two, at, sumAt}
-use Rattle.network.specs.Trimming.{unvisited, first, remove}
-use Rattle.theory.specs.Sums.{pick-same, pick-other, is-same, is-other, same?, sum-mul, sum-le}
-use Rattle.theory.specs.Trees.{sumAt-linear}
-use Rattle.theory.specs.Sites.{sumAt-same}
-use Rattle.theory.specs.Orders.{Ascending, remove-ascending, remove-count}
+use Rattle.model.specs.Limits.{LINKS, PLACES, SITES}
+use Rattle.lists.specs.Numbers.{pick, is, sum, count, look}
+use Rattle.model.specs.Flows.{Links, Site, Tree, one, two, at, sumAt}
+use Rattle.model.specs.Trimming.{unvisited, first, remove}
+use Rattle.lists.specs.Sums.{pick-same, pick-other, is-same, is-other, same?, sum-mul, sum-le}
+use Rattle.theory_trees.specs.Trees.{sumAt-linear}
+use Rattle.theory_trees.specs.Sites.{sumAt-same}
+use Rattle.theory_trees.specs.Orders.{Ascending, remove-ascending, remove-count}
 use Rattle.tree.specs.Ordering.Steps.{share}
 use Rattle.tree.specs.Ordering.Weights.{weigh, weigh-alone, weigh-less, OneLink, one-link, OtherEnd, other-end}
 use Rattle.tree.specs.Ordering.Rooted.{removed, another, not-root, never-stuck-but}

@@ -2,9 +2,9 @@
 use mathlib.Core.Path.{_≡_, refl}
 use mathlib.Core.List.{[], _∷_}
 use native.Mathlib.Decide.{ℕ-discrete, decLe}
-use Rattle.network.specs.Numbers.{pick, is, sum, count, upfrom}
-use Rattle.network.specs.Network.{Links, at, sumAt}
-use Rattle.network.specs.Trimming.{unvisited, first, remove}
+use Rattle.lists.specs.Numbers.{pick, is, sum, count, upfrom}
+use Rattle.model.specs.Flows.{Links, at, sumAt}
+use Rattle.model.specs.Trimming.{unvisited, first, remove}
 use Rattle.tree.specs.Ordering.Toward.{takenToward, eliminationToward}
 
 abbrev path : Links

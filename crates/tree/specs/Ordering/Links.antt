@@ -5,8 +5,8 @@ use Prim.Native.Nat.{ℕ, zero, suc, _+_, _<_}
 use native.Mathlib.Omega.{arith}
 use native.Mathlib.Numerals.{add-one}
 use lib.ListN.{length, getD}
-use Rattle.network.specs.Numbers.{pick, is, look, sum}
-use Rattle.network.specs.Network.{Links, one, two, at}
+use Rattle.lists.specs.Numbers.{pick, is, look, sum}
+use Rattle.model.specs.Flows.{Links, one, two, at}
 
 -- the links whose first and second sites stand in two lists, position by position
 unfoldable pub links : List ℕ → List ℕ → Links

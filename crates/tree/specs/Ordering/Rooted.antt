@@ -9,13 +9,14 @@ use native.Mathlib.Omega.{arith}
 use native.Mathlib.Nat.{sub-zero}
 use lib.Seq.{getD-append-add}
 use lib.ListN.{length, replicate, length-append, length-replicate}
-use Rattle.network.specs.Numbers.{is, count, look}
-use Rattle.network.specs.Network.{Links, Site, Tree, sites, one, two, at, sumAt}
-use Rattle.network.specs.Trimming.{unvisited, first, remove, taken, elimination, Inward, InwardOrder}
-use Rattle.theory.specs.Sums.{pick-same, pick-other, is-same, is-other, same?, sum-none, sum-eq}
-use Rattle.theory.specs.Trees.{loopless}
-use Rattle.theory.specs.Sites.{length-upfrom, sites-once, sites-site, sites-single}
-use Rattle.theory.specs.Orders.{remove-count, remove-length, first-or-none, never-stuck}
+use Rattle.lists.specs.Numbers.{is, count, look}
+use Rattle.model.specs.Flows.{Links, Site, Tree, sites, one, two, at, sumAt}
+use Rattle.model.specs.Trimming.{unvisited, first, remove, taken, elimination, Inward, InwardOrder}
+use Rattle.lists.specs.Sums.{pick-same, pick-other, is-same, is-other, same?, sum-none, sum-eq}
+use Rattle.theory_trees.specs.Trees.{loopless}
+use Rattle.lists.specs.Places.{length-upfrom}
+use Rattle.theory_trees.specs.Sites.{sites-once, sites-site, sites-single}
+use Rattle.theory_trees.specs.Orders.{remove-count, remove-length, first-or-none, never-stuck}
 use Rattle.tree.specs.Ordering.Toward.{takenToward, eliminationToward}
 use Rattle.tree.specs.Ordering.Weights.{weigh, weigh-one, weigh-alone, weigh-less, one-link, other-end}
 

@@ -5,9 +5,9 @@ use mathlib.Core.Bool.{Bool, true, false}
 use mathlib.Core.List.{List}
 use Prim.Native.Nat.{ℕ, suc, _+_, _-_, _*_, _≤_, _<_, max}
 use lib.ListN.{length, set}
-use Rattle.network.specs.Limits.{PLACES, SITES}
-use Rattle.network.specs.Numbers.{is, look}
-use Rattle.network.specs.Network.{Site, Tree, sumAt}
+use Rattle.model.specs.Limits.{PLACES, SITES}
+use Rattle.lists.specs.Numbers.{is, look}
+use Rattle.model.specs.Flows.{Site, Tree, sumAt}
 use Rattle.tree.specs.Ordering.Links.{links}
 use Rattle.tree.specs.Ordering.Toward.{eliminationToward, orderIn}
 use Rattle.tree.specs.declared.ordering.Search.{Search}

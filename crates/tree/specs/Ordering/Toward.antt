@@ -3,10 +3,10 @@
 use mathlib.Core.List.{List, [], _∷_, _++_}
 use Prim.Native.Nat.{ℕ, zero, suc, _-_}
 use lib.ListN.{replicate}
-use Rattle.network.specs.Limits.{SITES}
-use Rattle.network.specs.Numbers.{count}
-use Rattle.network.specs.Network.{Links, sites}
-use Rattle.network.specs.Trimming.{first, remove}
+use Rattle.model.specs.Limits.{SITES}
+use Rattle.lists.specs.Numbers.{count}
+use Rattle.model.specs.Flows.{Links, sites}
+use Rattle.model.specs.Trimming.{first, remove}
 
 -- the next k sites in the order taken, while us are still to be taken and the root among them waits
 unfoldable pub takenToward : Links → ℕ → ℕ → List ℕ → List ℕ

@@ -5,12 +5,12 @@ use mathlib.Core.List.{List}
 use Prim.Native.Nat.{ℕ, _+_, _-_, _*_, _≤_, _<_}
 use native.Mathlib.Omega.{arith}
 use lib.ListN.{length}
-use Rattle.network.specs.Numbers.{is, sum, count}
-use Rattle.network.specs.Network.{Links, one, two, at, sumAt}
-use Rattle.network.specs.Trimming.{unvisited}
-use Rattle.theory.specs.Sums.{is-same, is-other, same?, sum-none, sum-eq, sum-eq-but, sum-ge, sum-only}
-use Rattle.theory.specs.Trees.{at-first, at-second, at-none, at-le, at-end, sumAt-linear}
-use Rattle.theory.specs.Sites.{sumAt-same}
+use Rattle.lists.specs.Numbers.{is, sum, count}
+use Rattle.model.specs.Flows.{Links, one, two, at, sumAt}
+use Rattle.model.specs.Trimming.{unvisited}
+use Rattle.lists.specs.Sums.{is-same, is-other, same?, sum-none, sum-eq, sum-eq-but, sum-ge, sum-only}
+use Rattle.theory_trees.specs.Trees.{at-first, at-second, at-none, at-le, at-end, sumAt-linear}
+use Rattle.theory_trees.specs.Sites.{sumAt-same}
 
 -- a sum with one term
 sum-single : (n j : ℕ) (f : ℕ → ℕ) → j < n → ((i : ℕ) → i < n → i ≢ j → f i ≡ 0) → sum n f ≡ f j

@@ -24,7 +24,8 @@ array-share-prefix-printed c = c .before .answer .ensures .1 .1 (omega (arith, c
 
 -- src/main.rt:29:34
 slice-aggregate-write-all : tie.Need-slice-aggregate-write-all
-slice-aggregate-write-all c = sym (length-take-le _ _ (c .before .before .answer .ensures .1 .1 (omega (arith, c .before .before .before .before .large-buffer .ensures))))
+slice-aggregate-write-all c =
+    sym (length-take-le _ _ (c .before .before .answer .ensures .1 .1 (omega (arith, c .before .before .before .before .large-buffer .ensures))))
 
 -- src/main.rt:29:5
 write-all-requires : tie.Need-write-all-requires

@@ -55,7 +55,10 @@ array-share-prefix-text-3 c = search needs
 
 -- src/main.rt:79:25
 slice-aggregate-answer : tie.Need-slice-aggregate-answer
-slice-aggregate-answer c = sym (length-take-le _ _ (within (c .before .sheet-end .result) (c .before .before .before .before .before .before .read-full .result) (c .before .before .before .before .before .before .read-full .last .1 .0) (c .before .sheet-end .ensures .1)))
+slice-aggregate-answer c =
+    sym (length-take-le _ _
+    (within (c .before .sheet-end .result) (c .before .before .before .before .before .before .read-full .result)
+    (c .before .before .before .before .before .before .read-full .last .1 .0) (c .before .sheet-end .ensures .1)))
 
 -- src/main.rt:79:9
 answer-requires : tie.Need-answer-requires
@@ -67,7 +70,11 @@ array-share-prefix-text-4 c = search needs
 
 -- src/main.rt:80:15
 slice-aggregate-plan-into : tie.Need-slice-aggregate-plan-into
-slice-aggregate-plan-into c = sym (length-take-le _ _ (within (c .before .before .before .sheet-end .result) (c .before .before .before .before .before .before .before .before .read-full .result) (c .before .before .before .before .before .before .before .before .read-full .last .1 .0) (c .before .before .before .sheet-end .ensures .1)))
+slice-aggregate-plan-into c =
+    let at-read-full = c .before .before .before .before .before .before .before .before in
+    sym (length-take-le _ _
+    (within (c .before .before .before .sheet-end .result) (at-read-full .read-full .result) (at-read-full .read-full .last .1 .0)
+    (c .before .before .before .sheet-end .ensures .1)))
 
 -- src/main.rt:80:5
 plan-into-requires : tie.Need-plan-into-requires
@@ -79,7 +86,12 @@ array-share-prefix-text-5 c = search needs
 
 -- src/main.rt:82:19
 slice-aggregate-plan-into-2 : tie.Need-slice-aggregate-plan-into-2
-slice-aggregate-plan-into-2 c = sym (length-take-le _ _ (within (c .before .before .before .before .before .before .sheet-end .result) (c .before .before .before .before .before .before .before .before .before .before .before .read-full .result) (c .before .before .before .before .before .before .before .before .before .before .before .read-full .last .1 .0) (c .before .before .before .before .before .before .sheet-end .ensures .1)))
+slice-aggregate-plan-into-2 c =
+    let at-sheet-end = c .before .before .before .before .before .before in
+    let at-read-full = at-sheet-end .before .before .before .before .before in
+    sym (length-take-le _ _
+    (within (at-sheet-end .sheet-end .result) (at-read-full .read-full .result) (at-read-full .read-full .last .1 .0)
+    (at-sheet-end .sheet-end .ensures .1)))
 
 -- src/main.rt:82:33
 sub-plan-into : tie.Need-sub-plan-into

@@ -5,9 +5,9 @@ use Prim.Native.Nat.{ℕ}
 use native.Mathlib.Omega.{arith}
 use lib.ListN.{length, drop}
 use borrow.Author.Needs.{needs}
-use Rattle.network.specs.Trimming.{balanced}
+use Rattle.model.specs.Trimming.{balanced}
 use Rattle.tree.specs.Offer.{links}
-use Rattle.links.specs.Chains.{offer-placed}
+use Rattle.tree_links.specs.Chains.{offer-placed}
 use Rattle.trimming.specs.Outcome.{capacities}
 use Rattle.trimming.proofs.balance_by_ends.Statement.{statement}
 use Rattle.trimming.proofs.balance_by_ends.Tie as tie
@@ -38,7 +38,8 @@ returns c =
     let s = marked .before .before .before .before .before .before .before .before .before .before in
     let a = s .args in
     done .balance .ensures
-    ∙ ap (λ (terminal : ℕ → ℕ). balanced (links (a .one .now) (a .two .now)) (a .n) terminal (a .capacity .now) ++ drop (length (a .capacity .now)) (a .lent .now))
+    ∙ ap (λ (terminal : ℕ → ℕ). balanced (links (a .one .now) (a .two .now)) (a .n) terminal (a .capacity .now) ++ drop (length (a .capacity .now))
+    (a .lent .now))
     (marked .ends .ensures)
 
 pub balance-by-ends-spec : {M : Type 1} → statement M

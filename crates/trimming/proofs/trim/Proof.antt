@@ -5,11 +5,11 @@ use borrow.Author.Needs.{needs}
 use borrow.Author.Tests.{le-leb, lt-leb}
 use mathlib.Core.List.{_++_}
 use lib.ListN.{length, take, drop}
-use Rattle.network.specs.Numbers.{look}
-use Rattle.network.specs.Network.{ends}
-use Rattle.network.specs.Edition.{largest}
-use Rattle.network.specs.Trimming.{elimination}
-use Rattle.theory.specs.Greatest.{balanced-has-each-link}
+use Rattle.lists.specs.Numbers.{look}
+use Rattle.model.specs.Flows.{ends}
+use Rattle.model.specs.Edition.{largest}
+use Rattle.model.specs.Trimming.{elimination}
+use Rattle.theory_trees.specs.Greatest.{balanced-has-each-link}
 use Rattle.tree.specs.Offer.{links, offer}
 use Rattle.tree.specs.Links.{length-links}
 use Rattle.tree.specs.declared.Offer.the-variants.{Accepted}

@@ -3,9 +3,9 @@ use mathlib.Core.Path.{_≡_, sym, _∙_}
 use mathlib.Core.Bool.{false}
 use Prim.Native.Nat.{ℕ, _+_, _-_, _≤_, _<_}
 use native.Mathlib.Omega.{arith}
-use Rattle.network.specs.Numbers.{look}
-use Rattle.network.specs.Network.{Links}
-use Rattle.theory.specs.Sums.{same?}
+use Rattle.lists.specs.Numbers.{look}
+use Rattle.model.specs.Flows.{Links}
+use Rattle.lists.specs.Sums.{same?}
 use Rattle.tree.specs.Offer.{links}
 use Rattle.pairing.specs.Weighing.Heavy.{heavyAt, heavy-there, heavy-nowhere}
 use Rattle.pairing.proofs.weighing.heavy.Statement.{statement}

@@ -7,13 +7,13 @@ use native.Mathlib.Omega.{arith}
 use native.Mathlib.Decide.{decLt}
 use lib.Dec.{ltb}
 use lib.ListN.{length}
-use Rattle.network.specs.Numbers.{look}
-use Rattle.network.specs.Network.{Links, sumAt}
-use Rattle.theory.specs.Sums.{cases, same?}
-use Rattle.theory.specs.Trees.{others-add}
+use Rattle.lists.specs.Numbers.{look}
+use Rattle.model.specs.Flows.{Links, sumAt}
+use Rattle.lists.specs.Sums.{cases, same?}
+use Rattle.theory_trees.specs.Trees.{others-add}
 use Rattle.tree.specs.Offer.{links}
 use Rattle.tree.specs.Links.{length-links}
-use Rattle.links.specs.Chains.{lastAt, On, on-last, last-le, last-none, walk-goes-on}
+use Rattle.tree_links.specs.Chains.{lastAt, On, on-last, last-le, last-none, walk-goes-on}
 use Rattle.pairing.specs.Weighing.Heavy.{isHeavy, away-is-not-heavy, heavy-by-sum, terminal-has-no-heavy-link, one-is-heavy, none-is-heavy}
 use Rattle.pairing.proofs.weighing.heavy_at.Statement.{statement}
 use Rattle.pairing.proofs.weighing.heavy_at.Tie as tie
@@ -27,7 +27,9 @@ abbrev μ-loop : tie.MeasureT-loop
 
 -- where the loop began
 abbrev begun : tie.At-loop Inv-loop μ-loop → tie.Start Inv-loop μ-loop
-begun t = t .before .before .before .before .before .before .before .before
+begun t =
+    let earlier = t .before .before .before .before .before .before .before .before in
+    earlier
 
 -- the tree's links
 abbrev ls : tie.Start Inv-loop μ-loop → Links

@@ -4,8 +4,8 @@ use Prim.Native.Nat.{_<_}
 use native.Mathlib.Omega.{arith}
 use borrow.Author.Needs.{needs}
 use borrow.Author.Tests.{eq-eqb, ne-eqb}
-use Rattle.network.specs.Limits.{PLACES}
-use Rattle.network.specs.Numbers.{look}
+use Rattle.model.specs.Limits.{PLACES}
+use Rattle.lists.specs.Numbers.{look}
 use Rattle.sheet.specs.Sheet.{linkStep}
 use Rattle.sheet.specs.StepCases.{Labelled}
 use Rattle.sheet.specs.LabelLaws.{labels-tell}
@@ -32,14 +32,28 @@ unfolding linkStep
 returns-3 c = λ ls h.
     let one = c .before .before .before .before .before .before .before .first .given in
     let two = c .before .before .before .before .second .given in
-    rw (one .1, two .1, labels-tell ls PLACES (one .0 .0) (two .0 .0) (first-site (c .before .before .before .before .before .before)) (second-site (c .before .before .before)), ← h, eq-eqb _ _ (c .if1 .taken))
+    rw (
+      one .1,
+      two .1,
+      labels-tell ls PLACES (one .0 .0) (two .0 .0) (first-site (c .before .before .before .before .before .before))
+          (second-site (c .before .before .before)),
+      ← h,
+      eq-eqb _ _ (c .if1 .taken),
+    )
 
 returns-4 : tie.Need-returns-4
 unfolding linkStep
 returns-4 c = λ ls h.
     let one = c .before .before .before .before .before .before .before .first .given in
     let two = c .before .before .before .before .second .given in
-    rw (one .1, two .1, labels-tell ls PLACES (one .0 .0) (two .0 .0) (first-site (c .before .before .before .before .before .before)) (second-site (c .before .before .before)), ← h, ne-eqb _ _ (c .if1 .left))
+    rw (
+      one .1,
+      two .1,
+      labels-tell ls PLACES (one .0 .0) (two .0 .0) (first-site (c .before .before .before .before .before .before))
+          (second-site (c .before .before .before)),
+      ← h,
+      ne-eqb _ _ (c .if1 .left),
+    )
 
 pub link-step-spec : {M : Type 1} → statement M
 link-step-spec =

@@ -4,27 +4,30 @@ use Prim.Native.Nat.{_<_}
 use native.Mathlib.Omega.{arith}
 use borrow.Author.Needs.{needs}
 use lib.ListN.{length}
-use Rattle.network.specs.Limits.{PLACES}
-use Rattle.lines.specs.Lines.{lineAt}
-use Rattle.line_kinds.specs.FormedLines.{Formed}
-use Rattle.line_kinds.specs.declared.Line.{Line}
-use Rattle.names.specs.Names.{ranges}
-use Rattle.names.specs.LookupLaws.{length-ranges}
+use Rattle.model.specs.Limits.{PLACES}
+use Rattle.text_lines.specs.Lines.{lineAt}
+use Rattle.sheet_kinds.specs.FormedLines.{Formed}
+use Rattle.sheet_kinds.specs.declared.Line.{Line}
+use Rattle.sheet_names.specs.Names.{ranges}
+use Rattle.sheet_names.specs.LookupLaws.{length-ranges}
 use Rattle.sheet.specs.Sheet.{recordStep}
 use Rattle.sheet.specs.StepCases.{Labelled, labelled}
 use Rattle.sheet.proofs.stepping.record_step.Statement.{statement}
 use Rattle.sheet.proofs.stepping.record_step.Tie as tie
 
 -- the names of a line stand on it
-formed : (c : tie.After-shared-slice-known) (w : Line) → c .before .args .line ≡ w → Formed (c .before .args .edition .size) (lineAt (c .before .args .sheet .now) (c .before .args .at)) w
+formed : (c : tie.After-shared-slice-known) (w : Line) → c .before .args .line ≡ w
+    → Formed (c .before .args .edition .size) (lineAt (c .before .args .sheet .now) (c .before .args .at)) w
 formed c w e = subst (Formed (c .before .args .edition .size) (lineAt (c .before .args .sheet .now) (c .before .args .at))) e (c .before .pre .3)
 
 link-step-requires : tie.Need-link-step-requires
 link-step-requires c κs =
     let a = c .before .before .before .before .before .before .args in
     let names = ranges (a .starts .now) (a .ends .now) 0 (a .sites) in
-    let few : length names < PLACES = omega (arith, length-ranges (a .starts .now) (a .ends .now) 0 (a .sites)) in
-    (subst (Labelled PLACES) (sym (c .before .find2 .ensures)) (labelled (a .sheet .now) _ names PLACES few), subst (Labelled PLACES) (sym (c .find3 .ensures)) (labelled (a .sheet .now) _ names PLACES few))
+    let few : length names < PLACES = omega (arith, length-ranges (a .starts .now) (a .ends .now) 0 (a .sites)) in (
+      subst (Labelled PLACES) (sym (c .before .find2 .ensures)) (labelled (a .sheet .now) _ names PLACES few),
+      subst (Labelled PLACES) (sym (c .find3 .ensures)) (labelled (a .sheet .now) _ names PLACES few),
+    )
 
 returns : tie.Need-returns
 unfolding recordStep
@@ -40,7 +43,8 @@ returns-2 c = λ net h.
 returns-3 : tie.Need-returns-3
 unfolding recordStep
 returns-3 c = λ net h.
-    rw (c .before .before .before .before .line2 .given .1, ← (h .names), ← (c .before .before .find2 .ensures), ← (c .before .find3 .ensures)) (c .link-step .ensures (net .links) (h .labels-are))
+    rw (c .before .before .before .before .line2 .given .1, ← (h .names), ← (c .before .before .find2 .ensures), ← (c .before .find3 .ensures))
+    (c .link-step .ensures (net .links) (h .labels-are))
 
 returns-4 : tie.Need-returns-4
 unfolding recordStep

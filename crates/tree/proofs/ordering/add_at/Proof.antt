@@ -3,7 +3,7 @@ use native.Mathlib.Omega.{arith}
 use lib.Seq.{getD-set-other}
 use lib.ListN.{length-set}
 use Prim.Native.Nat.{_+_}
-use Rattle.network.specs.Numbers.{look}
+use Rattle.lists.specs.Numbers.{look}
 use mathlib.Core.Path.{sym}
 use Rattle.tree.proofs.ordering.Untaken.{raised}
 use Rattle.tree.proofs.ordering.add_at.Statement.{statement}

@@ -6,12 +6,12 @@ use native.Mathlib.Omega.{arith}
 use native.Mathlib.Nat.{mul-le-mul-right}
 use lib.Seq.{getD-set-same, getD-set-other}
 use lib.ListN.{length, set, replicate, length-set, length-replicate}
-use Rattle.network.specs.Limits.{LINKS, PLACES}
-use Rattle.network.specs.Numbers.{pick, is, look, sum}
-use Rattle.network.specs.Network.{at, sumAt}
-use Rattle.theory.specs.Sums.{is-same, is-other, same?}
-use Rattle.theory.specs.Sites.{look-zeros}
-use Rattle.theory.specs.Trees.{at-le}
+use Rattle.model.specs.Limits.{LINKS, PLACES}
+use Rattle.lists.specs.Numbers.{pick, is, look, sum}
+use Rattle.model.specs.Flows.{at, sumAt}
+use Rattle.lists.specs.Sums.{is-same, is-other, same?}
+use Rattle.lists.specs.Places.{look-zeros}
+use Rattle.theory_trees.specs.Trees.{at-le}
 use Rattle.tree.specs.Ordering.Links.{links, links-at-site, length-links, sum-next}
 use Rattle.tree.specs.Ordering.Steps.{share}
 use Rattle.tree.proofs.ordering.keys_of.Statement.{statement}

@@ -1,7 +1,7 @@
 -- `elimination::lowest` meets its contract: all sites below have higher keys, but for the one that is known.
 use native.Mathlib.Omega.{arith}
 use native.Mathlib.Decide.{decLt}
-use Rattle.theory.specs.Sums.{cases}
+use Rattle.lists.specs.Sums.{cases}
 use Rattle.tree.proofs.ordering.lowest.Statement.{statement}
 use Rattle.tree.proofs.ordering.lowest.Tie as tie
 

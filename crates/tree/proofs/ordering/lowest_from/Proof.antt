@@ -3,7 +3,7 @@ use mathlib.Core.Path.{refl}
 use native.Mathlib.Omega.{arith}
 use Prim.Native.Nat.{ℕ, _+_, _-_, _≤_, _<_}
 use borrow.Author.Count.{below-more}
-use Rattle.network.specs.Numbers.{look}
+use Rattle.lists.specs.Numbers.{look}
 use Rattle.tree.proofs.ordering.lowest_from.Statement.{statement}
 use Rattle.tree.proofs.ordering.lowest_from.Tie as tie
 

@@ -1,6 +1,7 @@
 -- `elimination::others` meets its contract: of the numbers up to n only 0 is no site.
 use native.Mathlib.Omega.{arith}
-use Rattle.theory.specs.Sites.{count-low, sites-once}
+use Rattle.lists.specs.Places.{count-low}
+use Rattle.theory_trees.specs.Sites.{sites-once}
 use Rattle.tree.proofs.ordering.others.Statement.{statement}
 use Rattle.tree.proofs.ordering.others.Tie as tie
 

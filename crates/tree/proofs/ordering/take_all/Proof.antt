@@ -2,10 +2,10 @@
 use Prim.Native.Nat.{_-_, _≤_, _<_}
 use native.Mathlib.Omega.{arith}
 use lib.ListN.{length}
-use Rattle.network.specs.Limits.{SITES}
-use Rattle.network.specs.Numbers.{count, look}
-use Rattle.network.specs.Network.{Site, sites}
-use Rattle.theory.specs.Sums.{same?}
+use Rattle.model.specs.Limits.{SITES}
+use Rattle.lists.specs.Numbers.{count, look}
+use Rattle.model.specs.Flows.{Site, sites}
+use Rattle.lists.specs.Sums.{same?}
 use Rattle.tree.specs.Ordering.Links.{links}
 use Rattle.tree.specs.Ordering.Steps.{Behind}
 use Rattle.tree.proofs.ordering.Going.{Going, going-start, over, ready, next, all-taken, none-found}

@@ -1,3 +1,0 @@
-pub mod Members
-pub mod Laws
-pub mod Parts

@@ -1,0 +1,77 @@
+// What every crate of the planner shares: an entry of a multiflow, and the limits of an edition of the sheet.
+ghost use mathlib.Core.Path.{_≡_};
+ghost use Rattle.model.specs.Edition.{edition1};
+
+// The limits of the planner: every length of an array is one of these. specs/Limits.antt has them by the same names.
+
+// The largest number of sites of a tree.
+pub const SITES: usize = 256;
+
+// The largest number of links: a tree has one less than sites.
+pub const LINKS: usize = SITES - 1;
+
+// Places of a list with one for each site: place x is that of site x, and place 0 is unused.
+pub const PLACES: usize = SITES + 1;
+
+// Places of the chains of links: two for each link.
+pub const CHAINS: usize = 2 * SITES;
+
+// Numbers that spell a list of halves: two for each entry.
+pub const HALVES: usize = 2 * SITES;
+
+// Numbers that spell a pair list: three for each pair.
+pub const NUMBERS: usize = 3 * SITES;
+
+// Words of 64 bits of a set of sites, SITES being a multiple of 64.
+pub const WORDS: usize = SITES / 64;
+
+// Words of a set of sites for each label.
+pub const SETS: usize = WORDS * PLACES;
+
+// The largest number of bytes of a sheet.
+pub const BYTES: usize = 16384;
+
+// The largest size of a link.
+pub const SIZE: u64 = 1000000;
+
+// Bytes that are enough for every report.
+pub const REPORT: usize = 65536;
+
+// An entry of a multiflow (01: a pair of a plan): two sites and the amount between them.
+pub struct Pair {
+    pub first: usize,
+    pub second: usize,
+    pub amount: u64,
+}
+
+// A pair list: the first `count` places hold its pairs.
+pub struct Pairs {
+    pub list: [Pair; SITES],
+    pub count: usize,
+}
+
+// The limits that go with an edition of the sheet (01: edition): bytes of a sheet, sites, and the size of a link.
+pub struct Edition {
+    pub bytes: usize,
+    pub sites: usize,
+    pub size: u64,
+}
+
+impl Edition {
+    pub const BYTES: usize = BYTES;
+
+    pub const SITES: usize = SITES;
+
+    pub const SIZE: u64 = SIZE;
+
+    // The first edition.
+    pub fn first() -> Self
+        ensures { λ r. ⌜ r ≡ edition1 ⌝ }
+    {
+        Edition {
+            bytes: Edition::BYTES,
+            sites: Edition::SITES,
+            size: Edition::SIZE,
+        }
+    }
+}

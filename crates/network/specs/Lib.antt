@@ -1,9 +1,0 @@
-pub mod Limits
-pub mod Edition
-pub mod Numbers
-pub mod Text
-pub mod Network
-pub mod Trimming
-pub mod Cuts
-pub mod Pairing
-pub mod Examples

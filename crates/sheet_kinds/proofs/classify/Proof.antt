@@ -1,0 +1,69 @@
+-- `classify` meets its contract: a heading, or by the first field.
+use mathlib.Core.Path.{_≡_, sym, _∙_}
+use native.Mathlib.Omega.{arith}
+use Rattle.model.specs.Text.{bytes}
+use Rattle.text_fields.specs.Fields.{same, fields, field}
+use Rattle.text_grammar.specs.SplitLaws.{count-of-split}
+use Rattle.sheet_kinds.specs.LineKinds.{kindOf, kind}
+use borrow.Author.Needs.{needs}
+use Rattle.sheet_kinds.proofs.classify.Statement.{statement}
+use Rattle.sheet_kinds.proofs.classify.Tie as tie
+
+split-requires : tie.Need-split-requires
+split-requires c κs = search needs
+
+is-heading-requires : tie.Need-is-heading-requires
+is-heading-requires c κs = search needs
+
+-- what the first field is found to be
+first-is : (c : tie.After-is-byte)
+    → c .is-byte .result ≡ same (field (fields (c .before .before .before .before .before .before .args .line .now)) 0) (bytes "L")
+first-is c = rw (c .before .field .ensures) at (c .is-byte .ensures)
+
+returns : tie.Need-returns
+unfolding kind kindOf
+returns c = rw (sym (c .before .is-heading .ensures) ∙ c .if1 .taken)
+
+field-requires : tie.Need-field-requires
+field-requires c κs =
+    let split = c .before .before .split in
+    (split .ensures, omega arith, omega (arith, count-of-split (c .before .before .before .before .args .line .now) (split .result) (split .ensures)))
+
+is-byte-requires : tie.Need-is-byte-requires
+is-byte-requires c κs = search needs
+
+link-requires : tie.Need-link-requires
+link-requires c κs = search needs
+
+returns-2 : tie.Need-returns-2
+unfolding kind kindOf
+returns-2 c =
+    rw (
+      sym (c .before .before .before .before .before .is-heading .ensures) ∙ c .before .before .before .before .if1 .left,
+      sym (first-is (c .before .before)) ∙ c .before .if2 .taken,
+    ) (c .link .ensures)
+
+site-requires : tie.Need-site-requires
+site-requires c κs = search needs
+
+returns-3 : tie.Need-returns-3
+unfolding kind kindOf
+returns-3 c =
+    rw (
+      sym (c .before .before .before .before .before .is-heading .ensures) ∙ c .before .before .before .before .if1 .left,
+      sym (first-is (c .before .before)) ∙ c .before .if2 .left,
+    ) (c .site .ensures)
+
+pub classify-spec : {M : Type 1} → statement M
+classify-spec =
+    tie.close
+    (tie.spec
+    split-requires
+    is-heading-requires
+    returns
+    field-requires
+    is-byte-requires
+    link-requires
+    returns-2
+    site-requires
+    returns-3)

@@ -1,0 +1,70 @@
+-- `is_heading` meets its contract: test by test, as the definition.
+use mathlib.Core.Path.{_≡_, sym, _∙_}
+use native.Mathlib.Omega.{arith}
+use lib.ListN.{length}
+use borrow.Author.Tests.{eq-eqb, ne-eqb, not-true, not-false}
+use Rattle.model.specs.Text.{bytes}
+use Rattle.text_fields.specs.Fields.{same, fields, field}
+use Rattle.text_grammar.specs.SplitLaws.{count-of-split}
+use Rattle.sheet_kinds.specs.LineKinds.{isHeading}
+use borrow.Author.Needs.{needs}
+use Rattle.sheet_kinds.proofs.is_heading.Statement.{statement}
+use Rattle.sheet_kinds.proofs.is_heading.Tie as tie
+
+-- how many fields there are, and what the first is found to be
+count-is : (c : tie.Start) → c .args .found .count ≡ length (fields (c .args .line .now))
+count-is c = count-of-split (c .args .line .now) (c .args .found) (c .pre) .0
+
+first-is : (c : tie.After-same)
+    → c .same .result ≡ same (field (fields (c .before .before .before .before .before .before .args .line .now)) 0) (bytes "network")
+first-is c = rw (c .before .before .field .ensures) at (c .same .ensures)
+
+returns : tie.Need-returns
+unfolding isHeading
+returns c = rw (ne-eqb (length (fields (c .before .before .before .args .line .now))) 2 (λ e. c .if1 .taken (count-is (c .before .before .before) ∙ e)))
+
+field-requires : tie.Need-field-requires
+field-requires c κs = search needs
+
+slice-aggregate-same : tie.Need-slice-aggregate-same
+slice-aggregate-same c = search needs
+
+same-requires : tie.Need-same-requires
+same-requires c κs = search needs
+
+returns-2 : tie.Need-returns-2
+unfolding isHeading
+returns-2 c =
+    let s = c .before .before .before .before .before .before .before in
+    rw (
+      eq-eqb (length (fields (s .args .line .now))) 2 (sym (count-is s) ∙ c .before .before .before .before .if1 .left),
+      sym (first-is (c .before)) ∙ not-true _ (c .if2 .taken),
+    )
+
+field-requires-2 : tie.Need-field-requires-2
+field-requires-2 c κs = search needs
+
+is-byte-requires : tie.Need-is-byte-requires
+is-byte-requires c κs = search needs
+
+returns-3 : tie.Need-returns-3
+unfolding isHeading
+returns-3 c =
+    let s = c .before .before .before .before .before .before .before .before .before in
+    rw (
+      eq-eqb (length (fields (s .args .line .now))) 2 (sym (count-is s) ∙ c .before .before .before .before .before .before .if1 .left),
+      sym (first-is (c .before .before .before)) ∙ not-false _ (c .before .before .if2 .left),
+    ) (rw (c .before .field2 .ensures) at (c .is-byte .ensures))
+
+pub is-heading-spec : {M : Type 1} → statement M
+is-heading-spec =
+    tie.close
+    (tie.spec
+    returns
+    field-requires
+    slice-aggregate-same
+    same-requires
+    returns-2
+    field-requires-2
+    is-byte-requires
+    returns-3)

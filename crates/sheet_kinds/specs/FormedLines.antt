@@ -1,0 +1,106 @@
+-- What is known of a line by its kind: its names are ranges of it, and the size of a link is within the limit.
+-- By the places of the fields.
+use mathlib.Core.Bool.{Bool, true, false, cond}
+use mathlib.Core.List.{List, [], _∷_}
+use mathlib.Core.Path.{_≡_, refl, ap, _∙_}
+use Prim.Native.Nat.{ℕ, _+_, _-_, _≤_, _<_}
+use native.Mathlib.Nat.{sub-zero}
+use native.Mathlib.Omega.{arith}
+use lib.Dec.{leb}
+use lib.ListN.{length, getD, take, drop}
+use borrow.Author.Tests.{leb-true}
+use Rattle.model.specs.Text.{bytes}
+use Rattle.text_grammar.specs.Grammar.{ends, split}
+use Rattle.text_grammar.specs.SplitLaws.{field-lies, length-of-field, end-of-split}
+use Rattle.text_grammar.specs.declared.Fields.{Fields}
+use Rattle.sheet_kinds.specs.LineKinds.{same, fields, field, isName, value, isHeading, checked, siteForm, linkForm, IsSite, IsLink, siteLine, sizedLink}
+use Rattle.sheet_kinds.specs.LineKinds.{linkLine, kindOf, kind}
+use Rattle.sheet_kinds.specs.LineKindLaws.{judged-cases, site-parts, link-parts}
+use Rattle.sheet_kinds.specs.declared.Line.{Line}
+use Rattle.sheet_kinds.specs.declared.Line.the-variants.{Heading, Site, Link, Fault}
+
+-- names are ranges of the line, and the size of a link is within the limit
+abbrev pub Formed : ℕ → List ℕ → Line → Type 0
+Formed most l Heading = Unit {0}
+Formed most l (Site a e) = (a ≤ e) × (e ≤ length l) × (isName (take (e - a) (drop a l)) ≡ true)
+Formed most l (Link a e b f size) = (a ≤ e) × (e ≤ length l) × (b ≤ f) × (f ≤ length l) × (size ≤ most)
+Formed most l (Fault n) = Unit {0}
+
+module _ (l : List ℕ) where
+  abbrev one : ℕ
+  one = length (field (fields l) 1)
+
+  abbrev two : ℕ
+  two = length (field (fields l) 2)
+
+  -- where the second and the third field end, the first being one byte
+  second-end : 1 < length (fields l) → length (field (fields l) 0) ≡ 1 → getD (ends 0 (fields l)) 1 0 ≡ 2 + one
+  second-end h e = omega (arith, length-of-field (field-lies 0 l 0 (omega arith)), length-of-field (field-lies 1 l 0 h))
+
+  third-end : 2 < length (fields l) → length (field (fields l) 0) ≡ 1 → getD (ends 0 (fields l)) 2 0 ≡ 3 + one + two
+  third-end h e = omega (arith, second-end (omega arith) e, length-of-field (field-lies 2 l 0 h))
+
+  module _ (most : ℕ) where
+    site-is-formed : IsSite (fields l) → Formed most l (Site 2 (2 + one))
+    site-is-formed e =
+        let k = site-parts (fields l) e in
+        let short = ap length (k .letter) in
+        let n : 1 < length (fields l) = omega (arith, k .count) in
+        let L = field-lies 1 l 0 n in
+        let first : getD (ends 0 (fields l)) 0 0 + 1 ≡ 2 = omega (arith, length-of-field (field-lies 0 l 0 (omega arith))) in
+        let name : take (2 + one - 2) (drop 2 l) ≡ field (fields l) 1 = rw (first, second-end n short, sub-zero) at (L .part) in
+        (omega arith, omega (arith, L .within, second-end n short), rw name (k .name))
+
+    link-is-formed : IsLink (fields l) → (size : ℕ) → size ≤ most → Formed most l (Link 2 (2 + one) (3 + one) (3 + one + two) size)
+    link-is-formed e size h =
+        let k = link-parts (fields l) e in
+        let n : 2 < length (fields l) = omega (arith, k .count) in
+        let room : 3 + one + two ≤ length l = omega (arith, third-end n (ap length (k .letter)), field-lies 2 l 0 n .within) in
+        (omega arith, omega arith, omega arith, room, h)
+
+    sized-is-formed : IsLink (fields l) → Formed most l (sizedLink most (fields l))
+    unfolding sizedLink
+    sized-is-formed e = by (leb (value (field (fields l) 3)) most) refl
+      where
+        by : (w : Bool) → leb (value (field (fields l) 3)) most ≡ w
+            → Formed most l (cond w (Link 2 (2 + one) (3 + one) (3 + one + two) (value (field (fields l) 3))) (Fault 3))
+        by true h = link-is-formed e (value (field (fields l) 3)) (leb-true _ _ h)
+        by false h = tt
+
+    as-site : Formed most l (siteLine (fields l))
+    unfolding siteLine
+    as-site = judged-cases (Formed most l) (checked siteForm (fields l)) _ site-is-formed (λ d. tt)
+
+    as-link : Formed most l (linkLine most (fields l))
+    unfolding linkLine
+    as-link = judged-cases (Formed most l) (checked linkForm (fields l)) _ sized-is-formed (λ d. tt)
+
+-- the ends of the names, as the code holds them, and that they lie within the line
+pub site-end : (l : List ℕ) (found : Fields) → found ≡ split l → IsSite (fields l) → getD (found .end) 1 0 ≡ 2 + length (field (fields l) 1)
+site-end l found e h =
+    let k = site-parts (fields l) h in
+    let n : 1 < length (fields l) = omega (arith, k .count) in
+    rw e (end-of-split l 1 (omega arith) n ∙ second-end l n (ap length (k .letter)))
+
+pub link-ends : (l : List ℕ) (found : Fields) → found ≡ split l → IsLink (fields l) → let one = length (field (fields l) 1) in
+    let two = length (field (fields l) 2) in
+    (getD (found .end) 1 0 ≡ 2 + one) × (getD (found .end) 2 0 ≡ 3 + one + two) × (3 + one + two ≤ length l)
+link-ends l found e h =
+    let k = link-parts (fields l) h in
+    let short = ap length (k .letter) in
+    let n : 2 < length (fields l) = omega (arith, k .count) in
+    let m : 1 < length (fields l) = omega arith in
+    rw e (
+      end-of-split l 1 (omega arith) m ∙ second-end l m short,
+      end-of-split l 2 (omega arith) n ∙ third-end l n short,
+      link-is-formed l 0 h 0 (omega arith) .3,
+    )
+
+pub kinds-are-formed : (most : ℕ) (l : List ℕ) → Formed most l (kind most l)
+unfolding kind kindOf
+kinds-are-formed most l = by (isHeading (fields l)) (same (field (fields l) 0) (bytes "L"))
+  where
+    by : (t u : Bool) → Formed most l (cond t Heading (cond u (linkLine most (fields l)) (siteLine (fields l))))
+    by true u = tt
+    by false true = as-link l most
+    by false false = as-site l most

@@ -1,0 +1,63 @@
+-- What a line of a network sheet is: a heading, a site, a link or a fault, by its fields held against the forms.
+-- Document 01, "The network sheet".
+use mathlib.Core.Bool.{Bool, cond, _&&_}
+use mathlib.Core.List.{List}
+use mathlib.Core.Path.{_≡_}
+use Prim.Native.Nat.{ℕ, _+_}
+use lib.Dec.{eqb, leb}
+use lib.ListN.{length}
+use Rattle.sheet_kinds.specs.declared.Line.{Line}
+use Rattle.sheet_kinds.specs.declared.Line.the-variants.{Heading, Site, Link, Fault}
+use Rattle.model.specs.Text.{bytes}
+use Rattle.text_grammar.specs.declared.Form.{Form}
+use Rattle.text_grammar.specs.declared.Check.{Check}
+use Rattle.text_grammar.specs.declared.Check.the-variants as check
+unfoldable pub use Rattle.text_fields.specs.Fields.{same, push, fields, all, isName, isNumber, valueFrom}
+pub use Rattle.text_fields.specs.Fields.{field, isDigit, isLetterOrDigit, value}
+unfoldable pub use Rattle.text_grammar.specs.Grammar.{checkedFields, checked, faultOf}
+
+-- `network`, tab, `1`
+unfoldable pub isHeading : List (List ℕ) → Bool
+isHeading fs = eqb (length fs) 2 && same (field fs 0) (bytes "network") && same (field fs 1) (bytes "1")
+
+-- `N`, tab, name
+abbrev pub siteForm : Form
+siteForm = record { letter = 78; names = 1; least = 0; most = 0 }
+
+-- `L`, tab, name, tab, name, tab, size
+abbrev pub linkForm : Form
+linkForm = record { letter = 76; names = 2; least = 1; most = 1 }
+
+-- the fields have the form of a site, and of a link
+abbrev pub IsSite : List (List ℕ) → Type 0
+IsSite fs = checked siteForm fs ≡ check.Formed
+
+abbrev pub IsLink : List (List ℕ) → Type 0
+IsLink fs = checked linkForm fs ≡ check.Formed
+
+-- a line that is formed, or its fault
+unfoldable pub judged : Check → Line → Line
+judged c line = cond (eqb (faultOf c) 0) line (Fault (faultOf c))
+
+-- a line as a site
+unfoldable pub siteLine : List (List ℕ) → Line
+siteLine fs = judged (checked siteForm fs) (Site 2 (2 + length (field fs 1)))
+
+-- a line of the form of a link, or fault 3 where its size is above the limit
+unfoldable pub sizedLink : ℕ → List (List ℕ) → Line
+sizedLink most fs =
+    let a = length (field fs 1) in
+    let b = length (field fs 2) in
+    cond (leb (value (field fs 3)) most) (Link 2 (2 + a) (3 + a) (3 + a + b) (value (field fs 3))) (Fault 3)
+
+-- a line as a link
+unfoldable pub linkLine : ℕ → List (List ℕ) → Line
+linkLine most fs = judged (checked linkForm fs) (sizedLink most fs)
+
+-- what a line is, by its fields: a heading, a link where the first field is `L`, else a site; sizes are at most `most`
+unfoldable pub kindOf : ℕ → List (List ℕ) → Line
+kindOf most fs = cond (isHeading fs) Heading (cond (same (field fs 0) (bytes "L")) (linkLine most fs) (siteLine fs))
+
+-- what a line is (01: each line is a heading, a site, a link or a fault)
+unfoldable pub kind : ℕ → List ℕ → Line
+kind most l = kindOf most (fields l)

@@ -1,0 +1,39 @@
+-- `enter` meets its contract: the place is free, or it is taken.
+use mathlib.Core.Path.{_≡_}
+use Prim.Native.Nat.{_<_}
+use native.Mathlib.Omega.{arith}
+use borrow.Author.Needs.{needs}
+use borrow.Author.Tests.{eq-eqb, ne-eqb}
+use Rattle.sheet_names.specs.Names.{part, hash, entered}
+use Rattle.sheet_names.specs.TableLaws.{hash-below}
+use Rattle.sheet_names.proofs.enter.Statement.{statement}
+use Rattle.sheet_names.proofs.enter.Tie as tie
+
+-- the hash is that of the name, and a place of the table
+hash-is : (c : tie.After-hash) → let a = c .before .before .before .args in c .hash .result ≡ hash (part (a .sheet .now) (a .start, a .end))
+hash-is c = rw (c .before .part .ensures) at (c .hash .ensures)
+
+place : (c : tie.After-hash) → c .hash .result < 16384
+place c = let a = c .before .before .before .args in rw (hash-is c) (hash-below 0 (part (a .sheet .now) (a .start, a .end)) (omega arith))
+
+returns : tie.Need-returns
+unfolding entered
+returns c = rw (← (hash-is (c .before .before)), eq-eqb _ _ (c .if1 .taken))
+
+returns-2 : tie.Need-returns-2
+unfolding entered
+returns-2 c = rw (← (hash-is (c .before .before)), ne-eqb _ _ (c .if1 .left))
+
+pub enter-spec : {M : Type 1} → statement M
+enter-spec =
+    tie.close
+    (tie.spec
+    (λ c κs. search needs)
+    (λ c κs. search needs)
+    (λ c. omega (arith, place c))
+    (λ c. place c)
+    (λ c. omega arith)
+    (λ c. omega (arith, place (c .before .before)))
+    (λ c. place (c .before .before))
+    returns
+    returns-2)

@@ -1,0 +1,88 @@
+// The line reader (document 01, "The network sheet"): it stands over a lent sheet at an offset and hands out the line there as that very
+// part of the sheet. The work is done by covered functions on slice and offset; the methods are thin and proved by hand.
+ghost use mathlib.Core.Path.{_≡_};
+ghost use Rattle.text_lines.specs.Lines.{lineStart, lineEnd, afterLine, hasLine, IsLine};
+
+// The offset at which the line at an offset starts: that offset, or the end of the sheet if it is past it.
+fn line_start(sheet: &[u8], at: usize) -> usize
+    ensures { λ r. ⌜ r ≡ lineStart (now (sheet .entry)) at ⌝ }
+{
+    if at < sheet.len() { at } else { sheet.len() }
+}
+
+// The offset at which the line at an offset ends: that of its byte 10, or the end of the sheet.
+fn line_end(sheet: &[u8], at: usize) -> usize
+    ensures { λ r. ⌜ r ≡ lineEnd (now (sheet .entry)) at ⌝ }
+{
+    let mut end = line_start(sheet, at);
+    while end < sheet.len() {
+        if sheet[end] == b'\n' {
+            return end;
+        }
+        end += 1;
+    }
+    end
+}
+
+// The line at an offset.
+fn line_at(sheet: &[u8], at: usize) -> &[u8]
+    ensures { λ r. ⌜ IsLine (sheet .entry) at r ⌝ }
+{
+    let start = line_start(sheet, at);
+    let end = line_end(sheet, at);
+    &sheet[start..end]
+}
+
+// The offset after the line at an offset and its byte 10.
+fn after_line(sheet: &[u8], at: usize) -> usize
+    ensures { λ r. ⌜ r ≡ afterLine (now (sheet .entry)) at ⌝ }
+{
+    let end = line_end(sheet, at);
+    if end < sheet.len() { end + 1 } else { end }
+}
+
+// A sheet and the offset of the next line on it (01: line reader).
+pub struct LineReader<'a> {
+    pub sheet: &'a [u8],
+    pub at: usize,
+}
+
+impl<'a> LineReader<'a> {
+    // A reader at the first line of a sheet.
+    pub fn new(sheet: &'a [u8]) -> LineReader<'a>
+        ensures { λ r. ⌜ (r .sheet ≡ sheet .entry) × (r .at ≡ 0) ⌝ }
+    {
+        LineReader { sheet, at: 0 }
+    }
+
+    // Whether there is a line here.
+    pub fn has_line(self) -> bool
+        ensures { λ r. ⌜ r ≡ hasLine (now (self .entry .sheet)) (self .entry .at) ⌝ }
+    {
+        self.at < self.sheet.len()
+    }
+
+    // The line here, that very part of the sheet; no bytes where there is none.
+    pub fn line(self) -> &'a [u8]
+        ensures { λ r. ⌜ IsLine (self .entry .sheet) (self .entry .at) r ⌝ }
+    {
+        line_at(self.sheet, self.at)
+    }
+
+    // The reader after this line and its byte 10.
+    pub fn rest(self) -> LineReader<'a>
+        ensures { λ r. ⌜ (r .sheet ≡ self .entry .sheet) × (r .at ≡ afterLine (now (self .entry .sheet)) (self .entry .at)) ⌝ }
+    {
+        LineReader {
+            sheet: self.sheet,
+            at: after_line(self.sheet, self.at),
+        }
+    }
+}
+
+// The line at an offset of a sheet. The next one is a byte past its end, if that is on the sheet.
+pub fn line(sheet: &[u8], at: usize) -> &[u8]
+    ensures { λ r. ⌜ IsLine (sheet .entry) at r ⌝ }
+{
+    LineReader { sheet, at }.line()
+}

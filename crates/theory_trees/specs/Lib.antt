@@ -1,0 +1,17 @@
+pub mod Labels
+pub mod Fresh
+pub mod Trees
+pub mod Chains
+pub mod Paths
+pub mod Sites
+pub mod Loads
+pub mod Cutting
+pub mod Passes
+pub mod Orders
+pub mod Greatest
+pub mod TreeTest
+pub mod TerminalCuts
+pub mod Owners
+pub mod Bounds
+pub mod Leaves
+pub mod Ends

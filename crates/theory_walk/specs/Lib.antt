@@ -1,0 +1,16 @@
+pub mod PairingTheorem
+pub mod Sound
+pub mod Steps
+pub mod Bounds
+pub mod Halves
+pub mod Match
+pub mod Subtrees
+pub mod Children
+pub mod Totals
+pub mod Handed
+pub mod Gather
+pub mod Settle
+pub mod Walk
+pub mod Pairs
+pub mod Order
+pub mod Evens

@@ -1,0 +1,27 @@
+-- What the functions are given and give: steps on the way to the balanced capacities, for any terminals.
+use mathlib.Core.Path.{_≡_}
+use mathlib.Core.List.{List, _++_, reverse}
+use Prim.Native.Nat.{ℕ, _≤_, _<_}
+use lib.ListN.{length, take, drop}
+use Rattle.model.specs.Limits.{SITES}
+use Rattle.lists.specs.Numbers.{look}
+use Rattle.model.specs.Trimming.{cutSites, balancedAlong}
+use Rattle.tree.specs.Offer.{links}
+
+-- an order of n sites, each of which has a place
+pub record InPlaces (n : ℕ) (order : List ℕ) : Type 0 where
+  pub each : length order ≡ n
+  pub low : (i : ℕ) → i < n → look order i ≤ SITES
+
+-- an order of sites, and then back against it
+unfoldable pub bothWays : List ℕ → List ℕ
+bothWays o = o ++ reverse o
+
+module _ (one two : List ℕ) (terminal : ℕ → ℕ) where
+  -- a lent list whose first places, one for each link, are cut at the sites of a list in turn; the other places stay
+  unfoldable pub cutFirst : List ℕ → List ℕ → List ℕ
+  cutFirst vs l = cutSites (links one two) terminal vs (take (length one) l) ++ drop (length one) l
+
+  -- a lent list whose first places are balanced along an order; the other places stay
+  unfoldable pub balancedFirst : List ℕ → List ℕ → List ℕ
+  balancedFirst order l = balancedAlong (links one two) terminal order (take (length one) l) ++ drop (length one) l
