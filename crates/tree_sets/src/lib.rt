@@ -43,18 +43,6 @@ impl Set {
         self
     }
 
-    // Whether m is a member.
-    pub fn has(self, m: usize) -> bool
-        ensures { λ r. ⌜ r ≡ eqb (member self m) 1 ⌝ }
-    {
-        if m >= SITES {
-            return false;
-        }
-        let i = m / 64;
-        let k = m % 64;
-        self.words[i] >> k & 1 == 1
-    }
-
     // The first member from p up.
     pub fn next(self, p: usize) -> Found
         ensures { λ r. ⌜ r ≡ firstFrom (member self) p (SITES - p) ⌝ }
