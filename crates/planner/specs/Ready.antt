@@ -1,7 +1,7 @@
 -- What stands ready on the way to a report: the network of an accepted sheet taken apart into lists; its order, chains and ends;
 -- and lists that show its plan and can be written.
 use mathlib.Core.Path.{_≡_}
-use mathlib.Core.List.{List, [], map}
+use mathlib.Core.List.{List, map}
 use Prim.Native.Nat.{ℕ}
 use lib.ListN.{length, take}
 use Rattle.model.specs.Edition.{edition1}

@@ -2,26 +2,25 @@
 -- Line by line: each line reads a list only at a place that the network fills.
 use mathlib.Core.Path.{_≡_, refl, sym, ap, ap₂, _∙_, fun-ext}
 use mathlib.Core.List.{List, [], _∷_, _++_, map}
-use Prim.Native.Nat.{ℕ, zero, suc, _+_, _-_, _≤_, _<_}
+use Prim.Native.Nat.{ℕ, zero, suc, _+_, _-_, _<_}
 use native.Mathlib.Nat.{add-zero}
 use native.Mathlib.Omega.{arith}
 use lib.ListN.{length, getD, take}
-use lib.Seq.{length-take-le}
 use Rattle.model.specs.Limits.{SITES}
 use Rattle.lists.specs.Numbers.{look, upfrom}
-use Rattle.model.specs.Flows.{sites, ends, total}
+use Rattle.model.specs.Flows.{sites, ends}
 use Rattle.model.specs.Trimming.{balanced}
 use Rattle.model.specs.Cuts.{cutSize, cutCount, owner}
 use Rattle.model.specs.Pairing.{pairList}
 use Rattle.model.specs.Text.{bytes}
 use Rattle.model.specs.declared.Pair.{Pair}
 use Rattle.model.specs.declared.Pairs.{Pairs}
-use Rattle.lists.specs.Sums.{pick-same, pick-other, same?}
+use Rattle.lists.specs.Sums.{pick-other, same?}
 use Rattle.lists.specs.Places.{look-from}
 use Rattle.sheet.specs.Sheet.{Network, part}
 use Rattle.sheet.specs.Reading.{padded}
 use Rattle.sheet.specs.ListLaws.{look-padded}
-use Rattle.report.specs.Report.{lines, linkLine, siteLine, siteRecord, cutLine, Plan, planOf, reportOf, report}
+use Rattle.report.specs.Report.{lines, siteLine, cutLine, Plan, planOf, reportOf, report}
 use Rattle.report.specs.Shown.{nameBy, shownBy}
 
 -- ---- the name ranges of the sites, as two lists

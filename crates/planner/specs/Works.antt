@@ -7,13 +7,13 @@ use native.Mathlib.Omega.{arith}
 use native.Mathlib.Numerals.{one-add}
 use lib.ListN.{length, getD, take, drop, length-append, length-map, List·getD-map}
 use lib.Seq.{take-at, getD-take, length-take-le}
-use Rattle.model.specs.Limits.{LINKS, SITES}
+use Rattle.model.specs.Limits.{SITES}
 use Rattle.model.specs.Edition.{edition1, largest}
 use Rattle.lists.specs.Numbers.{look, Each}
 use Rattle.model.specs.Flows.{Links, Site, Route, one, two, ends}
 use Rattle.model.specs.Trimming.{Balanced, balanced}
 use Rattle.model.specs.Cuts.{cutSize, cutCount, owner}
-use Rattle.model.specs.Pairing.{pairs, pairList, ordered}
+use Rattle.model.specs.Pairing.{pairList, ordered}
 use Rattle.model.specs.Text.{bytes}
 use Rattle.model.specs.declared.Pair.{Pair}
 use Rattle.model.specs.declared.Pairs.{Pairs}
@@ -32,8 +32,8 @@ use Rattle.pairing_walk.specs.Visits.{Walkable, Listing}
 use Rattle.pairing_order.specs.Laws.{ordering-keeps-length}
 use Rattle.sheet.specs.Sheet.{Network, accepted, readSheet}
 use Rattle.sheet.specs.SheetTheorem.{IsNetwork}
-use Rattle.report.specs.Shown.{Named, AllNamed, Links as Linked, Owners, Paired, no-pair, shownBy, CanWrite}
-use Rattle.planner.specs.Small.{trimmed-are-greatest, pairs-are-sound, few-links, total-within, a-report-is-small}
+use Rattle.report.specs.Shown.{Named, AllNamed, Links as Linked, Owners, Paired, no-pair, shownBy}
+use Rattle.planner.specs.Small.{pairs-are-sound, few-links, total-within, a-report-is-small}
 use Rattle.planner.specs.Shows.{starts, stops, ranges, trimmed, Works, planBy, the-lists-show-the-plan}
 use Rattle.planner.specs.Taken.{padded-length, the-network-is-given, the-links-are-the-networks}
 use Rattle.planner.specs.Ready.{TakenApart, Charted, Ready}

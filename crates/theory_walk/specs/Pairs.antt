@@ -6,18 +6,18 @@ use mathlib.Core.List.{[]}
 use Prim.Native.Nat.{ℕ, zero, suc, _+_, _*_, _≤_, _<_}
 use lib.ListN.{length}
 use native.Mathlib.Omega.{arith}
-use Rattle.lists.specs.Numbers.{look, Each}
+use Rattle.lists.specs.Numbers.{Each}
 use Rattle.model.specs.Flows.{Links, Site, sites, one, two, at, sumAt, leaf, ends, separates, Tree, Multiflow, load}
 use Rattle.model.specs.Trimming.{Balanced}
 use Rattle.model.specs.Pairing.{put, give, pairsFrom, lowestInner, pairs}
-use Rattle.lists.specs.Sums.{pick-same, pick-other, pick-cases, same?, is-one, sum-one, sum-add, sum-only}
+use Rattle.lists.specs.Sums.{pick-same, pick-other, pick-cases, same?, is-one, sum-one, sum-add}
 use Rattle.theory_trees.specs.Leaves.{Outer, leaf-has-one-link}
 use Rattle.theory_trees.specs.Trees.{separates-comm, separates-self, local-one}
 use Rattle.lists.specs.Tallies.{tally}
 use Rattle.theory_walk.specs.Sound.{arises, Sound}
 use Rattle.lists.specs.Places.{length-upfrom, over-one, over-eq}
 use Rattle.theory_trees.specs.Sites.{sites-site, by-link}
-use Rattle.theory_walk.specs.Subtrees.{LinkAt, separates-ends}
+use Rattle.theory_walk.specs.Subtrees.{separates-ends}
 use Rattle.theory_walk.specs.Children.{joins-one}
 use Rattle.theory_walk.specs.Handed.{Open}
 use Rattle.theory_walk.specs.Totals.{sound}

@@ -1,7 +1,6 @@
 // A set of numbers below SITES as words of 64 bits: members are counted by ones and walked by trailing zeros.
 ghost use mathlib.Core.Path.{_≡_};
 ghost use Prim.Native.Nat.{ℕ, _-_};
-ghost use lib.Dec.{eqb};
 ghost use Rattle.model.specs.Limits.{SITES};
 ghost use Rattle.lists.specs.Numbers.{sum};
 ghost use Rattle.tree_sets.specs.Members.{member, adding, firstFrom};
