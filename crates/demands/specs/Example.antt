@@ -5,7 +5,7 @@ use Prim.Native.Nat.{ℕ}
 use Rattle.model.specs.Text.{bytes}
 use Rattle.sheet_kinds.specs.LineKinds.{push, fields, same, valueFrom}
 use Rattle.sheet.specs.Sheet.{Network, lookupFrom}
-use Rattle.demands.specs.Printed.{linesOf, records, headed, siteFound, siteNamed, readRecords, readReport}
+use Rattle.demands.specs.Printed.{linesOf, records, headed, dash, siteFound, siteNamed, readRecords, readReport}
 
 -- the sites `hub`, `a`, `b`, `c` and their names on the sheet
 abbrev sheet : List ℕ
@@ -31,8 +31,9 @@ what-it-says : readReport sheet net worked ≡ record {
   trimmed = 2 ∷ 1 ∷ 1 ∷ [];
   sites = 1 ∷ 2 ∷ 3 ∷ 4 ∷ [];
   owners = 2 ∷ 2 ∷ 3 ∷ 4 ∷ [];
+  dashes = 0 ∷ 0 ∷ 0 ∷ 0 ∷ [];
   sets = record { end = 2; size = 2; count = 2 } ∷ record { end = 3; size = 1; count = 1 } ∷ record { end = 4; size = 1; count = 1 } ∷ [];
   plan = record { first = 2; second = 3; amount = 2 } ∷ record { first = 2; second = 4; amount = 2 } ∷ [];
 }
-unfolding readReport readRecords records linesOf headed siteNamed siteFound lookupFrom same push fields valueFrom
+unfolding readReport readRecords records linesOf headed dash siteNamed siteFound lookupFrom same push fields valueFrom
 what-it-says = refl

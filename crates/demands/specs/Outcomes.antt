@@ -14,7 +14,7 @@ use Rattle.sheet.specs.SheetTheorem.{an-accepted-sheet-is-a-tree}
 use Rattle.report.specs.Report.{report}
 use Rattle.planner.specs.Outcome.{number, deliver, planRead, planned}
 use Rattle.planner.specs.declared.Outcome.the-variants.{Report, Refused}
-use Rattle.demands.specs.Printed.{printedBy}
+use Rattle.demands.specs.Printed.{bytesTold, printedBy}
 use Rattle.demands.specs.ReadBack.{planSays, report-read-back}
 
 module _ (ed : Edition) (s b : List ℕ) where
@@ -34,7 +34,7 @@ module _ (ed : Edition) (s b : List ℕ) where
 
     -- where planning tells success, what is printed is the plan
     pub the-plan-is-printed : number (planned ed s b .outcome) ≡ 0 → printedBy s net (planned ed s b) ≡ planSays net
-    unfolding printedBy
+    unfolding bytesTold
     the-plan-is-printed success = cases (decLe (length (report s net)) (length b))
         (λ l. rw (report-delivered l, take-append-seam (report s net) (drop (length (report s net)) b))
         (report-read-back (an-accepted-sheet-is-a-tree ed s net read)))
