@@ -20,19 +20,17 @@ use Rattle.theory_trees.specs.Greatest.{balanced-again}
 use Rattle.theory_trees.specs.Leaves.{Outer}
 use Rattle.sheet.specs.Sheet.{Network, Read, refused, accepted, readSheet}
 use Rattle.sheet.specs.SheetTheorem.{an-accepted-sheet-is-a-tree}
-use Rattle.report.specs.Report.{report, refusalLine}
+use Rattle.report.specs.Report.{report}
 use Rattle.planner.specs.Small.{a-report-is-small}
 use Rattle.planner.specs.Outcome.{number, planned, answered}
 use Rattle.demands.specs.Printed.{IsPlan, bytesTold, printedBy, bytesPrinted}
 pub use Rattle.demands.specs.Asked.{Demand1, faulty-sheet, long-report, full-report, ShowsSheet, Demand2, InOrder, Demand3, IsReport}
-pub use Rattle.demands.specs.Asked.{Prints, a-full-report, a-refusal}
-use Rattle.demands.specs.Met.{accepted-without-cause, a-refused-sheet-meets-demand-1, a-long-report-meets-demand-1}
+pub use Rattle.demands.specs.Asked.{Refused, FullReport, WithoutCause, IsRefusal, Prints, a-full-report, a-refusal}
+use Rattle.demands.specs.Met.{a-refused-sheet-meets-demand-1, a-long-report-meets-demand-1}
 use Rattle.demands.specs.Met.{a-delivered-report-meets-demand-1, plan-shows-sheet, plan-meets-demand-2, plan-is-in-order, plan-meets-demand-3}
-use Rattle.demands.specs.Met.{the-report-is-full, the-line-is-a-refusal}
+use Rattle.demands.specs.Met.{the-report-is-full, the-answer-is-asked-for}
 use Rattle.demands.specs.Plans.{same-plans-fit-iff-trimmed-agree}
-use Rattle.demands.specs.Refusals.{sheets-are-refused-with-1-to-8, sheets-are-refused-at-a-line-within-the-limit}
 use Rattle.demands.specs.Outcomes.{report-too-long, report-delivered, the-report-is-told, the-plan-is-printed}
-use Rattle.demands.specs.Outcomes.{the-front-is-printed, report-answered, refusal-answered, a-refusal-is-small}
 
 -- ---- demand 1
 
@@ -113,15 +111,9 @@ module _ (ed : Edition) (s b : List ℕ) (net : Network) (read : readSheet ed s 
 
 -- with a buffer of 65,536 bytes or more: the program prints the full report of a sheet, or the line of its refusal for its cause, and never 9
 pub the-program-prints-a-full-report-or-the-cause : (s b : List ℕ) → REPORT ≤ length b → Prints s (bytesPrinted (answered edition1 s b))
-the-program-prints-a-full-report-or-the-cause s b room = by (readSheet edition1 s) refl
-  where
-    by : (r : Read) → readSheet edition1 s ≡ r → Prints s (bytesPrinted (answered edition1 s b))
-    by (refused k l) e = 
-        let few = sheets-are-refused-with-1-to-8 edition1 s k l e .1 in
-        let small = a-refusal-is-small k l few (sheets-are-refused-at-a-line-within-the-limit edition1 s k l e) in
-        rw (refusal-answered edition1 s b k l e (omega arith), the-front-is-printed edition1 s b (refusalLine k l))
-        (a-refusal (the-line-is-a-refusal edition1 s k l e))
-    by (accepted net) e =
-        let small = a-report-fits-65536-bytes s net e in
-        rw (report-answered edition1 s b net e (omega arith), the-front-is-printed edition1 s b (report s net))
-        (a-full-report (accepted-without-cause edition1 s net e) (the-report-is-full edition1 s net e))
+the-program-prints-a-full-report-or-the-cause s b room = the-answer-is-asked-for s b room .0
+
+-- and prints as many bytes as the answer tells
+pub as-many-bytes-are-printed-as-told : (s b : List ℕ) → REPORT ≤ length b
+    → length (bytesPrinted (answered edition1 s b)) ≡ answered edition1 s b .length
+as-many-bytes-are-printed-as-told s b room = the-answer-is-asked-for s b room .1

@@ -3,7 +3,10 @@
 use mathlib.Core.Path.{_≡_, refl, sym, ap, _∙_}
 use mathlib.Core.List.{List}
 use Prim.Native.Nat.{ℕ, _≤_, _<_}
+use native.Mathlib.Omega.{arith}
 use lib.ListN.{length}
+use Rattle.model.specs.Limits.{REPORT}
+use Rattle.model.specs.Edition.{edition1}
 use Rattle.model.specs.Flows.{sites}
 use Rattle.model.specs.declared.Edition.{Edition}
 use Rattle.lists.specs.Sums.{contradiction}
@@ -12,13 +15,14 @@ use Rattle.theory_trees.specs.Ends.{ends-are-outer}
 use Rattle.theory_trees.specs.Leaves.{Outer}
 use Rattle.theory_trees.specs.Bounds.{what-fits-fits-the-balanced, a-full-multiflow-has-the-greatest-total}
 use Rattle.sheet_kinds.specs.LineKinds.{field}
-use Rattle.sheet.specs.Sheet.{Network, refused, accepted, readSheet}
+use Rattle.sheet.specs.Sheet.{Network, Read, refused, accepted, readSheet}
 use Rattle.sheet.specs.SheetTheorem.{IsNetwork, an-accepted-sheet-is-a-tree, a-sheet-is-refused-for-its-cause}
 use Rattle.report.specs.Report.{report, refusalLine}
-use Rattle.planner.specs.Outcome.{planned}
-use Rattle.demands.specs.Printed.{siteCount, isEnd, endsAmong, setSize}
+use Rattle.planner.specs.Small.{a-report-is-small}
+use Rattle.planner.specs.Outcome.{planned, Answer, answered}
+use Rattle.demands.specs.Printed.{siteCount, isEnd, endsAmong, bytesPrinted, setSize}
 use Rattle.demands.specs.Asked.{Refused, FullReport, WithoutCause, Demand1, ShowsSheet, Demand2, InOrder, Demand3, IsReport, IsRefusal}
-use Rattle.demands.specs.Asked.{faulty-sheet, long-report, full-report}
+use Rattle.demands.specs.Asked.{faulty-sheet, long-report, full-report, Prints, a-full-report, a-refusal}
 use Rattle.demands.specs.Lists.{map-own}
 use Rattle.demands.specs.Plans.{multiflow-is-plan, plan-is-multiflow, fullPlan, trimmed-is-greatest, full-plan-is-sound, full-plan-fits}
 use Rattle.demands.specs.Plans.{full-plan-ascends, full-plan-is-lower-first}
@@ -26,13 +30,14 @@ use Rattle.demands.specs.Records.{refusal-line, refusal-fields, refusal-
 use Rattle.demands.specs.ReadBack.{planSays, report-read-back}
 use Rattle.demands.specs.Sets.{owners-tell-the-cuts, told-sets-are-owned, told-sizes-sum-to-the-terminals}
 use Rattle.demands.specs.Sets.{an-owner-is-told-for-each-site, owners-are-told-or-dashes, a-dash-tells-no-owner, a-dash-tells-that-no-cut-holds-the-site}
-use Rattle.demands.specs.Refusals.{sheets-are-refused-with-1-to-8}
+use Rattle.demands.specs.Refusals.{sheets-are-refused-with-1-to-8, sheets-are-refused-at-a-line-within-the-limit}
 use Rattle.demands.specs.Outcomes.{sheet-refused, report-too-long, report-delivered}
+use Rattle.demands.specs.Outcomes.{fronted, the-front-is-printed, report-answered, refusal-answered, a-refusal-is-small}
 
 -- ---- demand 1
 
 -- a sheet that is accepted has no cause of a refusal
-pub accepted-without-cause : (ed : Edition) (s : List ℕ) (net : Network) → readSheet ed s ≡ accepted net → WithoutCause ed s
+accepted-without-cause : (ed : Edition) (s : List ℕ) (net : Network) → readSheet ed s ≡ accepted net → WithoutCause ed s
 accepted-without-cause ed s net read k l c = contradiction (cc (read, a-sheet-is-refused-for-its-cause ed s k l .1 c))
 
 module _ (ed : Edition) (s b : List ℕ) where
@@ -133,7 +138,7 @@ the-report-is-full ed s net read =
 
 -- ---- the line of a refusal
 
-pub the-line-is-a-refusal : (ed : Edition) (s : List ℕ) (k l : ℕ) → readSheet ed s ≡ refused k l → IsRefusal ed s (refusalLine k l)
+the-line-is-a-refusal : (ed : Edition) (s : List ℕ) (k l : ℕ) → readSheet ed s ≡ refused k l → IsRefusal ed s (refusalLine k l)
 the-line-is-a-refusal ed s k l e =
     let told = sheets-are-refused-with-1-to-8 ed s k l e in
     let cause = a-sheet-is-refused-for-its-cause ed s k l .0 e in
@@ -146,3 +151,26 @@ the-line-is-a-refusal ed s k l e =
       at-most-8 = rw (refusal-number k l) (told .1);
       whole = rw (refusal-number k l, refusal-at k l);
     }
+
+-- ---- what the program prints
+
+-- with a buffer of 65,536 bytes or more: a report or the line of a refusal, and as many bytes as the answer tells
+module _ (s b : List ℕ) (room : REPORT ≤ length b) where
+  abbrev Said : Answer → Type 0
+  Said a = Prints s (bytesPrinted a) × (length (bytesPrinted a) ≡ a .length)
+
+  front-said : (r : List ℕ) → Prints s r → Said (fronted edition1 s b r)
+  front-said r h = rw (the-front-is-printed edition1 s b r) (h, refl)
+
+  pub the-answer-is-asked-for : Said (answered edition1 s b)
+  the-answer-is-asked-for = by (readSheet edition1 s) refl
+    where
+      by : (r : Read) → readSheet edition1 s ≡ r → Said (answered edition1 s b)
+      by (refused k l) e =
+          let number = sheets-are-refused-with-1-to-8 edition1 s k l e in
+          let small = a-refusal-is-small k l (number .1) (sheets-are-refused-at-a-line-within-the-limit edition1 s k l e) in
+          rw (refusal-answered edition1 s b k l e (omega arith)) (front-said (refusalLine k l) (a-refusal (the-line-is-a-refusal edition1 s k l e)))
+      by (accepted net) e =
+          let small = a-report-is-small (an-accepted-sheet-is-a-tree edition1 s net e) in
+          rw (report-answered edition1 s b net e (omega arith))
+          (front-said (report s net) (a-full-report (accepted-without-cause edition1 s net e) (the-report-is-full edition1 s net e)))
