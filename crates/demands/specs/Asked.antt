@@ -111,7 +111,7 @@ pub record Demand3 (net : Network) (p : Printed) : Type 0 where
   pub printed-plan : IsPlan (siteCount net) (isEnd net) (p .plan)
   pub printed-plan-fits : Fits (net .links) 2 (look (net .capacities)) (p .plan)
   pub filled : (j : ℕ) → j < length (net .links) → load (net .links) (p .plan) j ≡ 2 * look (p .trimmed) j
-  -- the printed trimmed sizes are those that trimming gives, of which the two theorems below speak
+  -- the printed trimmed sizes are those that trimming gives, of which two theorems in `Demands` speak
   pub trimmed : p .trimmed ≡ balanced (net .links) (siteCount net) (isEnd net) (net .capacities)
 
 -- ---- all of it, of the bytes told or printed
