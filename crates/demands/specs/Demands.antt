@@ -80,7 +80,7 @@ a-report-fits-65536-bytes s net read = a-report-is-small (an-accepted-sheet-is-a
 pub the-same-plans-fit-exactly-if-the-trimmed-sizes-agree : {ls : Links} {n : ℕ} → Tree ls n → (end : ℕ → ℕ) → Outer ls n end → (c d : List ℕ)
     → ((fs : List Pair) → IsPlan n end fs → (k : ℕ) → 1 ≤ k → Fits ls k (look c) fs ↔ Fits ls k (look d) fs)
     ↔ ((j : ℕ) → j < length ls → look (balanced ls n end c) j ≡ look (balanced ls n end d) j)
-the-same-plans-fit-exactly-if-the-trimmed-sizes-agree = same-plans-fit-iff-trimmed-agree
+the-same-plans-fit-exactly-if-the-trimmed-sizes-agree T end O c d = same-plans-fit-iff-trimmed-agree T end O c d
 
 -- trimming, handed its own answer as sizes, gives that answer back; for any ends
 pub trimming-gives-its-own-answer-back : {ls : Links} {n : ℕ} → Tree ls n → (end : ℕ → ℕ) (c : List ℕ)

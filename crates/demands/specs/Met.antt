@@ -19,9 +19,9 @@ use Rattle.sheet.specs.Sheet.{Network, Read, refused, accepted, readSheet}
 use Rattle.sheet.specs.SheetTheorem.{IsNetwork, an-accepted-sheet-is-a-tree, a-sheet-is-refused-for-its-cause}
 use Rattle.report.specs.Report.{report, refusalLine}
 use Rattle.planner.specs.Small.{a-report-is-small}
-use Rattle.planner.specs.Outcome.{planned, Answer, answered}
+use Rattle.planner.specs.Outcome.{Answer, answered}
 use Rattle.demands.specs.Printed.{siteCount, isEnd, endsAmong, bytesPrinted, setSize}
-use Rattle.demands.specs.Asked.{Refused, FullReport, WithoutCause, Demand1, ShowsSheet, Demand2, InOrder, Demand3, IsReport, IsRefusal}
+use Rattle.demands.specs.Asked.{WithoutCause, Demand1, ShowsSheet, Demand2, InOrder, Demand3, IsReport, IsRefusal}
 use Rattle.demands.specs.Asked.{faulty-sheet, long-report, full-report, Prints, a-full-report, a-refusal}
 use Rattle.demands.specs.Lists.{map-own}
 use Rattle.demands.specs.Plans.{multiflow-is-plan, plan-is-multiflow, fullPlan, trimmed-is-greatest, full-plan-is-sound, full-plan-fits}
@@ -49,11 +49,11 @@ module _ (ed : Edition) (s b : List ℕ) where
 
   module _ (net : Network) (read : readSheet ed s ≡ accepted net) where
     pub a-long-report-meets-demand-1 : length b < length (report s net) → Demand1 ed s b
-    a-long-report-meets-demand-1 h = long-report (accepted-without-cause ed s net read) net read h
+    a-long-report-meets-demand-1 h = long-report (accepted-without-cause ed s net read) net read (omega arith)
         (rw (report-too-long ed s b net read h) (record { number-told = refl; line-told = refl; length-told = refl; buffer-kept = refl }))
 
     pub a-delivered-report-meets-demand-1 : length (report s net) ≤ length b → Demand1 ed s b
-    a-delivered-report-meets-demand-1 h = full-report (accepted-without-cause ed s net read) net read h
+    a-delivered-report-meets-demand-1 h = full-report (accepted-without-cause ed s net read) net read (omega arith)
         (rw (report-delivered ed s b net read h) (record { number-told = refl; line-told = refl; length-told = refl; buffer-filled = refl }))
 
 -- ---- the report

@@ -146,7 +146,8 @@ module _ (ed : Edition) (s : List ℕ) where
           → Told (ed .bytes) (cond t (andThen (readLines ed s (length s) 1 0 empty) finish) (refused 1 0))
       by true e =
           let few = leb-true (length s) (ed .bytes) (both (leb 1 (length s)) (leb (length s) (ed .bytes)) e .1) in
-          then-told (ed .bytes) (readLines ed s (length s) 1 0 empty) finish (lines-told (ed .bytes) (length s) 1 0 empty (omega arith)) (finish-told (ed .bytes))
+          then-told (ed .bytes) (readLines ed s (length s) 1 0 empty) finish
+          (lines-told (ed .bytes) (length s) 1 0 empty (omega arith)) (finish-told (ed .bytes))
       by false e = (omega arith, omega arith)
 
   -- a sheet is refused with a number from 1 to 8
