@@ -69,8 +69,8 @@ module _ (ed : Edition) (s b : List ℕ) where
     λ h. ap (λ p. number (p .outcome)) (report-delivered ed s b (h .0) (h .1) (h .2)),
   )
 
--- every report on a sheet of edition 1 fits 65,536 bytes
-pub a-report-fits-65536-bytes : (s : List ℕ) (net : Network) → readSheet edition1 s ≡ accepted net → length (report s net) ≤ 65536
+-- every report on a sheet of edition 1 fits REPORT bytes, 65,536
+pub a-report-fits-65536-bytes : (s : List ℕ) (net : Network) → readSheet edition1 s ≡ accepted net → length (report s net) ≤ REPORT
 a-report-fits-65536-bytes s net read = a-report-is-small (an-accepted-sheet-is-a-tree edition1 s net read)
 
 -- ---- demand 3, of two lists of sizes
@@ -109,7 +109,7 @@ module _ (ed : Edition) (s b : List ℕ) (net : Network) (read : readSheet ed s 
   pub demand-3 : Demand3 net (printedBy s net (planned ed s b))
   demand-3 = rw (the-plan-is-printed ed s b net read success) (plan-meets-demand-3 (an-accepted-sheet-is-a-tree ed s net read))
 
--- with a buffer of 65,536 bytes or more: the program prints the full report of a sheet, or the line of its refusal for its cause, and never 9
+-- with a buffer of REPORT bytes or more: the program prints the full report of a sheet, or the line of its refusal for its cause, and never 9
 pub the-program-prints-a-full-report-or-the-cause : (s b : List ℕ) → REPORT ≤ length b → Prints s (bytesPrinted (answered edition1 s b))
 the-program-prints-a-full-report-or-the-cause s b room = the-answer-is-asked-for s b room .0
 

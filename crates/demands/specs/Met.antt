@@ -154,7 +154,7 @@ the-line-is-a-refusal ed s k l e =
 
 -- ---- what the program prints
 
--- with a buffer of 65,536 bytes or more: a report or the line of a refusal, and as many bytes as the answer tells
+-- with a buffer of REPORT bytes or more: a report or the line of a refusal, and as many bytes as the answer tells
 module _ (s b : List ℕ) (room : REPORT ≤ length b) where
   abbrev Said : Answer → Type 0
   Said a = Prints s (bytesPrinted a) × (length (bytesPrinted a) ≡ a .length)

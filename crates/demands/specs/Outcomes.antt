@@ -14,7 +14,7 @@ use Rattle.model.specs.declared.Edition.{Edition}
 use Rattle.lists.specs.Sums.{cases}
 use Rattle.sheet.specs.Sheet.{Network, refused, accepted, readSheet}
 use Rattle.sheet.specs.SheetTheorem.{an-accepted-sheet-is-a-tree}
-use Rattle.text_writers.specs.Decimal.{decimal-within}
+use Rattle.text_writers.specs.Decimal.{decimal-within, decimal-length}
 use Rattle.report.specs.Report.{decimal, line, report, refusalLine}
 use Rattle.planner.specs.Outcome.{number, deliver, planRead, planned, Answer, spelt, answered}
 use Rattle.planner.specs.declared.Outcome.the-variants.{Report, Refused}
@@ -76,5 +76,5 @@ a-refusal-is-small k l few low = omega (
   length-append (decimal k) (9 ∷ (decimal l ++ (10 ∷ []))),
   length-append (decimal l) (10 ∷ []),
   decimal-within 0 k (omega arith),
-  decimal-within 4 l (omega arith),
+  decimal-length l (omega arith),
 )
