@@ -1,11 +1,11 @@
--- Document 01's worked report, star 5, 1, 1, read off its bytes: by computation.
+-- Document 01's worked report, star 5, 1, 1, read off its bytes, and the line of a refusal: by computation.
 use mathlib.Core.Path.{_≡_, refl}
 use mathlib.Core.List.{List, [], _∷_, _++_}
 use Prim.Native.Nat.{ℕ}
 use Rattle.model.specs.Text.{bytes}
 use Rattle.sheet_kinds.specs.LineKinds.{push, fields, same, valueFrom}
 use Rattle.sheet.specs.Sheet.{Network, lookupFrom}
-use Rattle.demands.specs.Printed.{linesOf, records, headed, siteFound, siteNamed, readRecords, readReport}
+use Rattle.demands.specs.Printed.{linesOf, records, headed, firstLine, numberRead, lineRead, dash, siteFound, siteNamed, readRecords, readReport}
 
 -- the sites `hub`, `a`, `b`, `c` and their names on the sheet
 abbrev sheet : List ℕ
@@ -31,8 +31,14 @@ what-it-says : readReport sheet net worked ≡ record {
   trimmed = 2 ∷ 1 ∷ 1 ∷ [];
   sites = 1 ∷ 2 ∷ 3 ∷ 4 ∷ [];
   owners = 2 ∷ 2 ∷ 3 ∷ 4 ∷ [];
+  dashes = 0 ∷ 0 ∷ 0 ∷ 0 ∷ [];
   sets = record { end = 2; size = 2; count = 2 } ∷ record { end = 3; size = 1; count = 1 } ∷ record { end = 4; size = 1; count = 1 } ∷ [];
   plan = record { first = 2; second = 3; amount = 2 } ∷ record { first = 2; second = 4; amount = 2 } ∷ [];
 }
-unfolding readReport readRecords records linesOf headed siteNamed siteFound lookupFrom same push fields valueFrom
+unfolding readReport readRecords records linesOf headed dash siteNamed siteFound lookupFrom same push fields valueFrom
 what-it-says = refl
+
+-- refused with 7 at line 12
+what-a-refusal-says : (numberRead (bytes "refused\t7\t12\n") ≡ 7) × (lineRead (bytes "refused\t7\t12\n") ≡ 12)
+unfolding firstLine records linesOf push fields valueFrom
+what-a-refusal-says = (refl, refl)

@@ -1,4 +1,5 @@
 pub mod Demands
+pub mod Asked
 pub mod Printed
 pub mod Example
 pub mod Plans
@@ -10,3 +11,4 @@ pub mod ReadBack
 pub mod Sets
 pub mod Refusals
 pub mod Outcomes
+pub mod Met

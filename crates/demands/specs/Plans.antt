@@ -1,18 +1,23 @@
--- Plans and multiflows are one thing, since no end stands between two others; and the pair list of trimmed sizes is a plan that fits and
--- loads each link with just twice its trimmed size.
+-- Plans and multiflows are one thing, since no end stands between two others; the pair list of trimmed sizes is a plan that fits and
+-- loads each link with just twice its trimmed size; so the same plans fit two lists of sizes just if their trimmed sizes agree.
+use mathlib.Core.Path.{_≡_}
+use mathlib.Core.Logic.{_↔_}
 use mathlib.Core.List.{List}
-use Prim.Native.Nat.{ℕ}
+use Prim.Native.Nat.{ℕ, _≤_, _<_}
 use native.Mathlib.Omega.{arith}
-use Rattle.lists.specs.Numbers.{look}
+use lib.ListN.{length}
+use Rattle.lists.specs.Numbers.{look, Each}
+use Rattle.lists.specs.Sums.{same?}
 use Rattle.model.specs.Flows.{Links, Tree, Route, Multiflow, Fits}
 use Rattle.model.specs.Trimming.{Greatest, balanced}
 use Rattle.model.specs.Pairing.{pairList}
 use Rattle.model.specs.declared.Pair.{Pair}
 use Rattle.theory_trees.specs.Greatest.{balanced-is-greatest}
 use Rattle.theory_trees.specs.Leaves.{Outer, outer-route}
+use Rattle.theory_trees.specs.Bounds.{the-same-multiflows-fit-iff-the-balanced-agree}
 use Rattle.lists.specs.Tallies.{each-map}
-use Rattle.theory_walk.specs.PairingTheorem.{pair-list-is-sound}
-use Rattle.theory_walk.specs.Sound.{Sound}
+use Rattle.theory_walk.specs.PairingTheorem.{pair-list-is-sound, pair-list-ascends, pair-list-lower-first}
+use Rattle.theory_walk.specs.Sound.{Sound, Ascending}
 use Rattle.demands.specs.Printed.{JoinsEnds, IsPlan}
 
 pub multiflow-is-plan : (ls : Links) (n : ℕ) (terminal : ℕ → ℕ) (fs : List Pair) → Multiflow ls n terminal fs → IsPlan n terminal fs
@@ -46,3 +51,23 @@ module _ {ls : Links} {n : ℕ} (T : Tree ls n) (terminal : ℕ → ℕ) (O : Ou
 
     pub full-plan-fits : Fits ls 2 (look c) fullPlan
     full-plan-fits j l = omega (arith, full-plan-is-sound .loads j l, trimmed-is-greatest .below j l)
+
+    pub full-plan-ascends : Ascending fullPlan
+    full-plan-ascends = pair-list-ascends T terminal trimmedTo O (trimmed-is-greatest .balanced)
+
+    pub full-plan-is-lower-first : Each (λ e. e .first < e .second) fullPlan
+    full-plan-is-lower-first = pair-list-lower-first T terminal trimmedTo O (trimmed-is-greatest .balanced)
+
+  pub same-plans-fit-iff-trimmed-agree : (c d : List ℕ)
+      → ((fs : List Pair) → IsPlan n terminal fs → (k : ℕ) → 1 ≤ k → Fits ls k (look c) fs ↔ Fits ls k (look d) fs)
+      ↔ ((j : ℕ) → j < length ls → trimmedTo c j ≡ trimmedTo d j)
+  same-plans-fit-iff-trimmed-agree c d =
+      let of-c = full-plan-is-sound c in
+      let of-d = full-plan-is-sound d in
+      let of-multiflows = the-same-multiflows-fit-iff-the-balanced-agree T terminal (trimmed-is-greatest c) (trimmed-is-greatest d)
+      (fullPlan c) (fullPlan d) (of-c .routes) (of-d .routes) 2 (omega arith) (of-c .loads) (of-d .loads) in (
+        λ same. of-multiflows .0 (λ fs m k. same? k 0
+            (λ z. rw z (λ f j l. omega (arith, f j l), λ f j l. omega (arith, f j l)))
+            (λ z. same fs (multiflow-is-plan ls n terminal fs m) k (omega arith))),
+        λ agree fs h k _. of-multiflows .1 agree fs (plan-is-multiflow fs h) k,
+      )

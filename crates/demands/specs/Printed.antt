@@ -1,5 +1,5 @@
 -- What the demands speak of: plans; and what a report says, read off its bytes alone: lines, fields and numbers, and from them the printed
--- total, sizes, end sets and plan. Document 01, "Plans, trimmed sizes, end sets" and "The report, given whole".
+-- total, sizes, end sets and plan; and what the line of a refusal says. Document 01, "Plans, trimmed sizes, end sets" and "The report, given whole".
 use mathlib.Core.Path.{_≡_}
 use mathlib.Core.Logic.{_≢_}
 use mathlib.Core.Bool.{cond}
@@ -15,7 +15,7 @@ use Rattle.sheet_kinds.specs.LineKinds.{push, fields, field, same, value}
 use Rattle.sheet.specs.Sheet.{Network, lookup}
 use Rattle.sheet_names.specs.declared.Found.{Found}
 use Rattle.sheet_names.specs.declared.Found.the-variants.{At, Absent}
-use Rattle.planner.specs.Outcome.{Planned, lengthOf}
+use Rattle.planner.specs.Outcome.{Planned, lengthOf, Answer}
 
 -- ---- plans
 
@@ -58,6 +58,10 @@ unfoldable pub headed : List ℕ → List Record → List Record
 headed k [] = []
 headed k (l ∷ ls) = cond (same (field l 0) k) (l ∷ headed k ls) (headed k ls)
 
+-- the first line of a text
+unfoldable pub firstLine : List ℕ → Record
+firstLine r = getD (records r) 0 []
+
 -- the last field of a line
 abbrev pub lastField : Record → List ℕ
 lastField l = field l (length l - 1)
@@ -80,6 +84,10 @@ siteNamed s net f = siteFound (lookup s (net .names) f)
 
 -- ---- the report
 
+-- 1 if an owner is printed as `-`, 0 if not
+unfoldable pub dash : List ℕ → ℕ
+dash f = cond (same f (bytes "-")) 1 0
+
 -- an `X` line: an end, the size of its set, the count of sites in the set
 pub record EndSet : Type 0 where
   pub end : ℕ
@@ -87,7 +95,7 @@ pub record EndSet : Type 0 where
   pub count : ℕ
 
 -- what a report says: line 1 (heading, total in halves, number of pairs); of the `L` lines the two sites, the given size and the trimmed size;
--- of the `N` lines the site and the end whose set holds it, 0 for `-`; the `X` lines; the `P` lines (two sites, amount in halves)
+-- of the `N` lines the site, the end whose set holds it, 0 for `-`, and 1 where `-` stands; the `X` lines; the `P` lines (two sites, amount in halves)
 pub record Printed : Type 0 where
   pub heading : List ℕ
   pub total : ℕ
@@ -97,6 +105,7 @@ pub record Printed : Type 0 where
   pub trimmed : List ℕ
   pub sites : List ℕ
   pub owners : List ℕ
+  pub dashes : List ℕ
   pub sets : List EndSet
   pub plan : List Pair
 
@@ -115,6 +124,7 @@ readRecords site rs =
       trimmed = map (λ l. value (lastField l)) linkLines;
       sites = map (λ l. site (field l 1)) siteLines;
       owners = map (λ l. site (field l 2)) siteLines;
+      dashes = map (λ l. dash (field l 2)) siteLines;
       sets = map (λ l. record { end = site (field l 1); size = value (field l 2); count = value (field l 3) }) (headed (bytes "X") rs);
       plan = map (λ l. record { first = site (field l 1); second = site (field l 2); amount = value (field l 3) }) (headed (bytes "P") rs);
     }
@@ -123,15 +133,36 @@ readRecords site rs =
 unfoldable pub readReport : List ℕ → Network → List ℕ → Printed
 readReport s net r = readRecords (siteNamed s net) (records r)
 
--- what is printed: the bytes in the buffer after planning, as many as the outcome tells
-unfoldable pub printedBy : List ℕ → Network → Planned → Printed
-printedBy s net p = readReport s net (take (lengthOf (p .outcome)) (p .buffer))
+-- the bytes in the buffer after planning, as many as the outcome tells
+unfoldable pub bytesTold : Planned → List ℕ
+bytesTold p = take (lengthOf (p .outcome)) (p .buffer)
+
+-- what they say
+abbrev pub printedBy : List ℕ → Network → Planned → Printed
+printedBy s net p = readReport s net (bytesTold p)
+
+-- ---- what the program prints
+
+-- the bytes that the program prints: the first of the buffer after, as many as the answer tells
+unfoldable pub bytesPrinted : Answer → List ℕ
+bytesPrinted a = take (a .length) (a .buffer)
+
+-- of the line of a refusal the number and the line
+abbrev pub numberRead : List ℕ → ℕ
+numberRead r = value (field (firstLine r) 1)
+
+abbrev pub lineRead : List ℕ → ℕ
+lineRead r = value (field (firstLine r) 2)
 
 -- ---- the printed end sets
 
 -- the end whose printed set holds site v, 0 for `-`
 abbrev pub printedOwner : Printed → ℕ → ℕ
 printedOwner p v = look (p .owners) (v - 1)
+
+-- 1 if the owner of site v is printed as `-`, 0 if not
+abbrev pub printedDash : Printed → ℕ → ℕ
+printedDash p v = look (p .dashes) (v - 1)
 
 -- the size of the printed set of end a: the printed given sizes of the links with just one of their sites in it (01: size of a set)
 unfoldable pub setSize : Printed → ℕ → ℕ

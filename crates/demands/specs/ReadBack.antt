@@ -1,12 +1,13 @@
 -- The report of an accepted sheet, read back: its bytes say just what the plan of the network holds.
 -- Each field of each line is the field that was written; a name leads to its own site, a decimal to its number.
 use mathlib.Core.Path.{_≡_, refl, sym, ap, _∙_}
-use mathlib.Core.Logic.{inl, inr}
+use mathlib.Core.Bool.{false}
+use mathlib.Core.Logic.{_≢_, inl, inr}
 use mathlib.Core.List.{List, [], _∷_, map, flatMap}
 use Prim.Native.Nat.{ℕ, _-_, _<_}
 use native.Mathlib.Omega.{arith}
 use lib.ListN.{length, getD, length-map, List·getD-map}
-use Rattle.lists.specs.Numbers.{look, upfrom, Each}
+use Rattle.lists.specs.Numbers.{is, look, upfrom, Each}
 use Rattle.model.specs.Flows.{Links, Site, Route, sites, one, two, total}
 use Rattle.model.specs.Trimming.{balanced}
 use Rattle.model.specs.Cuts.{cutSize, cutCount, owner}
@@ -14,17 +15,18 @@ use Rattle.model.specs.Pairing.{pairList}
 use Rattle.model.specs.Text.{bytes}
 use Rattle.model.specs.declared.Edition.{Edition}
 use Rattle.model.specs.declared.Pair.{Pair}
-use Rattle.lists.specs.Sums.{same?, pick-same, pick-other, pick-cases}
+use Rattle.lists.specs.Sums.{same?, pick-same, pick-other, pick-cases, is-same, is-other}
 use Rattle.theory_trees.specs.Ends.{ends-are-outer}
 use Rattle.theory_trees.specs.Greatest.{balanced-has-each-link}
 use Rattle.theory_trees.specs.Owners.{owner-or-none}
 use Rattle.lists.specs.Tallies.{each-map}
-use Rattle.sheet_kinds.specs.LineKinds.{field, value}
+use Rattle.text_fields.specs.FieldLaws.{equal-are-same, not-same}
+use Rattle.sheet_kinds.specs.LineKinds.{same, field, value}
 use Rattle.sheet.specs.Sheet.{Network}
 use Rattle.sheet_names.specs.Names.{nameAt}
 use Rattle.sheet.specs.SheetTheorem.{IsNetwork}
 use Rattle.report.specs.Report.{decimal, ownerName, planOf, report}
-use Rattle.demands.specs.Printed.{Record, records, headed, lastField, siteNamed, isEnd, endsAmong, EndSet, Printed, readRecords, readReport}
+use Rattle.demands.specs.Printed.{Record, records, headed, lastField, siteNamed, isEnd, endsAmong, dash, EndSet, Printed, readRecords, readReport}
 use Rattle.demands.specs.Plans.{full-plan-is-sound}
 use Rattle.demands.specs.Parsing.{decimal-read-back}
 use Rattle.demands.specs.Records.{linkFields, siteFields, cutFields, cutLines, pairFields, first-line, link-lines, site-lines, cut-lines, pair-lines}
@@ -53,6 +55,7 @@ planSays net =
       trimmed = trimmed;
       sites = sites n;
       owners = map (owner ls c t end n) (sites n);
+      dashes = map (λ x. is (owner ls c t end n x) 0) (sites n);
       sets = map (cutOf ls n c t) (endsAmong end (sites n));
       plan = pairs;
     }
@@ -136,6 +139,20 @@ module _ {ed : Edition} {s : List ℕ} {net : Network} (N : IsNetwork ed s net) 
       pick-cases (λ f. site f ≡ a) a 0 (bytes "-") (name a) (λ e. dash-read-back N ∙ sym e)
       (λ d. name-read-back N a (elim (owner-or-none ls c t end x n) [ inl r ↦ absurd (d (r .0)) | inr r ↦ r .0 ])))
 
+  -- an owner is the name of a site, which is not `-`, or it is `-`
+  dash-back : (a : ℕ) → (a ≢ 0 → Site n a) → dash (ownerName name a) ≡ is a 0
+  unfolding ownerName dash
+  dash-back a site-or-none = same? a 0
+      (λ e. rw (pick-same {A = List ℕ} e, is-same e, equal-are-same (bytes "-")))
+      (λ d. let q = site-or-none d in
+      let not-dash : same (name a) (bytes "-") ≡ false =
+      not-same (name a) (bytes "-") (λ e. d (sym (name-read-back N a q) ∙ ap site e ∙ dash-read-back N)) in
+      rw (pick-other {A = List ℕ} d, is-other d, not-dash))
+
+  dashes-back : map (λ l. dash (field l 2)) (headed (bytes "N") (records (report s net))) ≡ map (λ x. is (ownerOf x) 0) (sites n)
+  dashes-back = by-site (λ l. dash (field l 2)) (λ x. is (ownerOf x) 0)
+      (λ x q. dash-back (ownerOf x) (λ d. elim (owner-or-none ls c t end x n) [ inl r ↦ absurd (d (r .0)) | inr r ↦ r .0 ]))
+
   -- ---- the `X` lines
 
   abbrev setSaid : Record → EndSet
@@ -209,6 +226,7 @@ module _ {ed : Edition} {s : List ℕ} {net : Network} (N : IsNetwork ed s net) 
     trimmed = trimmed-back i;
     sites = sites-back i;
     owners = owners-back i;
+    dashes = dashes-back i;
     sets = sets-back i;
     plan = plan-back i;
   }

@@ -1,6 +1,6 @@
 -- The lines of a report, read back: the first, and those with each letter, are the fields that the report was written from.
 -- By the line that each place of the plan gives, and by the letter in front of it.
-use mathlib.Core.Path.{_≡_, refl, ap, _∙_}
+use mathlib.Core.Path.{_≡_, refl, sym, ap, _∙_}
 use mathlib.Core.Bool.{Bool, true, false, cond}
 use mathlib.Core.List.{List, [], _∷_, _++_, map, flatMap, append-assoc, append-nil}
 use Prim.Native.Nat.{ℕ, _-_}
@@ -11,11 +11,12 @@ use Rattle.model.specs.Flows.{sites, total}
 use Rattle.model.specs.Text.{bytes}
 use Rattle.model.specs.declared.Pair.{Pair}
 use Rattle.lists.specs.Sums.{same?, pick-same, pick-other, pick-cases}
-use Rattle.sheet_kinds.specs.LineKinds.{same}
+use Rattle.sheet_kinds.specs.LineKinds.{same, field, value}
 use Rattle.report.specs.Report.{decimal, lines, Plan, headRecord, linkRecord, linkLine, ownerName, siteRecord, siteLine, cutRecord, cutLine, pairLine}
-use Rattle.report.specs.Report.{reportOf}
-use Rattle.demands.specs.Printed.{Record, linesOf, records, headed}
+use Rattle.report.specs.Report.{reportOf, line, refusalLine}
+use Rattle.demands.specs.Printed.{Record, linesOf, records, headed, firstLine, numberRead, lineRead}
 use Rattle.demands.specs.Parsing.{Plain, line-read-back, decimal-plain, lines-read-back, headed-append, headed-parts}
+use Rattle.demands.specs.Parsing.{decimal-read-back}
 
 -- ---- the fields that go into each line
 
@@ -151,3 +152,21 @@ module _ (p : Plan) (word : p .word ≡ bytes "plan") (none : p .before ≡ []) 
   pub pair-lines : headed (bytes "P") (records (reportOf p)) ≡ map (pairFields p) (p .pairs)
   unfolding same
   pair-lines = headed-report (bytes "P") ∙ singles (pairFields p) (p .pairs)
+
+-- the line of a refusal is one line of three fields
+pub refusal-line : (k l : ℕ) → records (refusalLine k l) ≡ (bytes "refused" ∷ decimal k ∷ decimal l ∷ []) ∷ []
+unfolding refusalLine records linesOf
+refusal-line k l =
+    let fs = bytes "refused" ∷ decimal k ∷ decimal l ∷ [] in
+    ap records (sym (append-nil (line fs))) ∙ line-read-back _ _ (omega arith, (decimal-plain k, (decimal-plain l, tt))) []
+
+pub refusal-fields : (k l : ℕ) → firstLine (refusalLine k l) ≡ bytes "refused" ∷ decimal k ∷ decimal l ∷ []
+unfolding firstLine
+refusal-fields k l = ap (λ rs. getD rs 0 []) (refusal-line k l)
+
+-- its number and its line are those that went in
+pub refusal-number : (k l : ℕ) → numberRead (refusalLine k l) ≡ k
+refusal-number k l = ap (λ f. value (field f 1)) (refusal-fields k l) ∙ decimal-read-back k
+
+pub refusal-at : (k l : ℕ) → lineRead (refusalLine k l) ≡ l
+refusal-at k l = ap (λ f. value (field f 2)) (refusal-fields k l) ∙ decimal-read-back l

@@ -1,9 +1,11 @@
--- The numbers of a sheet's refusals are 1 to 8: never 0, which is success, nor 9, which is the buffer's. By the cases of reading a line.
+-- The numbers of a sheet's refusals are 1 to 8: never 0, which is success, nor 9, which is the buffer's; and their lines are no more than the
+-- sheet has bytes. By the cases of reading a line.
 use mathlib.Core.Path.{_≡_, refl, subst}
 use mathlib.Core.Bool.{Bool, true, false, cond, _&&_, true≢false}
 use mathlib.Core.List.{List}
 use Prim.Native.Nat.{ℕ, zero, suc, _+_, _≤_}
 use native.Mathlib.Omega.{arith}
+use borrow.Author.Tests.{leb-true}
 use lib.Dec.{eqb, leb, ltb}
 use lib.ListN.{length, drop}
 use Rattle.model.specs.Flows.{Links, sites, joined}
@@ -14,6 +16,7 @@ use Rattle.text_grammar.specs.declared.Check.{Check}
 use Rattle.text_grammar.specs.declared.Check.the-variants as check
 use Rattle.sheet_kinds.specs.LineKinds.{same, fields, field, value, isHeading, checked, faultOf, siteForm, linkForm, judged, siteLine, sizedLink, linkLine}
 use Rattle.sheet_kinds.specs.LineKinds.{kindOf, kind}
+use Rattle.sheet_kinds.specs.LineKindLaws.{both}
 use Rattle.sheet_kinds.specs.declared.Line.{Line}
 use Rattle.sheet_kinds.specs.declared.Line.the-variants as line
 use Rattle.sheet.specs.Sheet.{Network, empty, Read, refused, accepted, part, lookup, siteBy, siteStep, linkStep, headingStep, recordStep, stepOf, added}
@@ -28,10 +31,10 @@ use Rattle.sheet_names.specs.declared.Found.the-variants.{At, Absent}
 abbrev pub Cause : ℕ → Type 0
 Cause k = (1 ≤ k) × (k ≤ 8)
 
--- what is refused is refused with such a number
-abbrev Told : Read → Type 0
-Told (refused k l) = Cause k
-Told (accepted net) = Unit {0}
+-- what is refused is refused with such a number, at a line up to m
+abbrev Told : ℕ → Read → Type 0
+Told m (refused k l) = Cause k × (l ≤ m)
+Told m (accepted net) = Unit {0}
 
 abbrev Faults : Line → Type 0
 Faults line.Heading = Unit {0}
@@ -91,11 +94,11 @@ heading-tells (line.Site a e) = omega arith
 heading-tells (line.Link a e c f size) = omega arith
 heading-tells (line.Fault k) = omega arith
 
-added-told : (net : Network) (k : ℕ) (w : Step) → Tells w → Told (added net k w)
-added-told net k step.Nothing h = tt
-added-told net k (step.Site a e) h = tt
-added-told net k (step.Link a b size) h = tt
-added-told net k (step.Refused n) h = h
+added-told : (m : ℕ) (net : Network) (k : ℕ) (w : Step) → k ≤ m → Tells w → Told m (added net k w)
+added-told m net k step.Nothing l h = tt
+added-told m net k (step.Site a e) l h = tt
+added-told m net k (step.Link a b size) l h = tt
+added-told m net k (step.Refused n) l h = (h, l)
 
 module _ (ed : Edition) (s : List ℕ) where
   record-tells : (net : Network) (at : ℕ) (w : Line) → Faults w → Tells (recordStep ed s net at w)
@@ -114,31 +117,43 @@ module _ (ed : Edition) (s : List ℕ) where
       either Tells (ltb (at + lineLength (drop at s)) (length s)) _ _
       (either Tells (eqb k 1) _ _ (heading-tells w) (record-tells net at w (kind-told (ed .size) (lineAt s at)))) (omega arith)
 
-  line-told : (net : Network) (k at : ℕ) → Told (readLine ed s net k at)
-  unfolding readLine
-  line-told net k at = added-told net k (stepOf ed s net k at) (step-tells net k at)
+  module _ (m : ℕ) where
+    line-told : (net : Network) (k at : ℕ) → k ≤ m → Told m (readLine ed s net k at)
+    unfolding readLine
+    line-told net k at l = added-told m net k (stepOf ed s net k at) l (step-tells net k at)
 
-  then-told : (r : Read) (f : Network → Read) → Told r → ((net : Network) → Told (f net)) → Told (andThen r f)
-  unfolding andThen
-  then-told (refused k l) f h g = h
-  then-told (accepted net) f h g = g net
+    then-told : (r : Read) (f : Network → Read) → Told m r → ((net : Network) → Told m (f net)) → Told m (andThen r f)
+    unfolding andThen
+    then-told (refused k l) f h g = h
+    then-told (accepted net) f h g = g net
 
-  lines-told : (fuel k at : ℕ) (net : Network) → Told (readLines ed s fuel k at net)
-  unfolding readLines
-  lines-told zero k at net = tt
-  lines-told (suc fuel) k at net = either Told (hasLine s at) _ _
-      (then-told (readLine ed s net k at) (λ next. readLines ed s fuel (suc k) (afterLine s at) next) (line-told net k at)
-      (lines-told fuel (suc k) (afterLine s at))) tt
+    lines-told : (fuel k at : ℕ) (net : Network) → k + fuel ≤ suc m → Told m (readLines ed s fuel k at net)
+    unfolding readLines
+    lines-told zero k at net l = tt
+    lines-told (suc fuel) k at net l = either (Told m) (hasLine s at) _ _
+        (then-told (readLine ed s net k at) (λ next. readLines ed s fuel (suc k) (afterLine s at) next) (line-told net k at (omega arith))
+        (λ next. lines-told fuel (suc k) (afterLine s at) next (omega arith))) tt
 
-  finish-told : (net : Network) → Told (finish net)
-  unfolding finish
-  finish-told net = either Told (leb 2 (length (net .names)) && allJoined (net .links) (sites (length (net .names)))) _ _ tt (omega arith)
+    finish-told : (net : Network) → Told m (finish net)
+    unfolding finish
+    finish-told net = either (Told m) (leb 2 (length (net .names)) && allJoined (net .links) (sites (length (net .names)))) _ _ tt (omega arith, omega arith)
 
-  sheet-told : Told (readSheet ed s)
+  sheet-told : Told (ed .bytes) (readSheet ed s)
   unfolding readSheet
-  sheet-told = either Told (leb 1 (length s) && leb (length s) (ed .bytes)) _ _
-      (then-told (readLines ed s (length s) 1 0 empty) finish (lines-told (length s) 1 0 empty) finish-told) (omega arith)
+  sheet-told = by (leb 1 (length s) && leb (length s) (ed .bytes)) refl
+    where
+      by : (t : Bool) → (leb 1 (length s) && leb (length s) (ed .bytes)) ≡ t
+          → Told (ed .bytes) (cond t (andThen (readLines ed s (length s) 1 0 empty) finish) (refused 1 0))
+      by true e =
+          let few = leb-true (length s) (ed .bytes) (both (leb 1 (length s)) (leb (length s) (ed .bytes)) e .1) in
+          then-told (ed .bytes) (readLines ed s (length s) 1 0 empty) finish
+          (lines-told (ed .bytes) (length s) 1 0 empty (omega arith)) (finish-told (ed .bytes))
+      by false e = (omega arith, omega arith)
 
   -- a sheet is refused with a number from 1 to 8
   pub sheets-are-refused-with-1-to-8 : (k l : ℕ) → readSheet ed s ≡ refused k l → Cause k
-  sheets-are-refused-with-1-to-8 k l e = subst Told e sheet-told
+  sheets-are-refused-with-1-to-8 k l e = subst (Told (ed .bytes)) e sheet-told .0
+
+  -- at a line that is no more than the bytes that a sheet may have
+  pub sheets-are-refused-at-a-line-within-the-limit : (k l : ℕ) → readSheet ed s ≡ refused k l → l ≤ ed .bytes
+  sheets-are-refused-at-a-line-within-the-limit k l e = subst (Told (ed .bytes)) e sheet-told .1

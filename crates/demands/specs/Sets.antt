@@ -1,20 +1,21 @@
 -- The printed end sets: the sites that the `N` lines give to an end are its terminal cut, so the `X` lines tell the size and count of the
 -- printed sets, and the sizes sum to the balanced capacities at the ends. Since each site of a cut is owned by the cut's end and no other.
+-- `-` stands where no cut holds the site.
 use mathlib.Core.Path.{_≡_, refl, sym, ap, _∙_}
-use mathlib.Core.Logic.{_↔_}
+use mathlib.Core.Logic.{_≢_, _↔_, _⊎_, inl, inr}
 use mathlib.Core.List.{List, [], _∷_, map}
 use Prim.Native.Nat.{ℕ, _+_, _-_, _*_}
 use native.Mathlib.Omega.{arith}
-use lib.ListN.{length}
+use lib.ListN.{length, length-map}
 use Rattle.lists.specs.Numbers.{is, differ, sum, over, count, look, Each}
 use Rattle.model.specs.Flows.{Links, Site, Tree, sites, one, two, atTerminals}
 use Rattle.model.specs.Trimming.{Greatest}
 use Rattle.model.specs.Cuts.{group, inCut, cutSize, cutCount, owner}
 use Rattle.lists.specs.Sums.{same?, pick-same, pick-other, is-same, is-other, is-one, is-iff, sum-eq}
-use Rattle.lists.specs.Places.{over-eq}
+use Rattle.lists.specs.Places.{over-eq, length-upfrom}
 use Rattle.theory_trees.specs.Sites.{look-site}
 use Rattle.theory_trees.specs.TerminalCuts.{cut-sizes-sum-to-the-terminals}
-use Rattle.theory_trees.specs.Owners.{owner-iff-in-cut}
+use Rattle.theory_trees.specs.Owners.{owner-or-none, without-owner-in-no-cut, owner-iff-in-cut}
 use Rattle.demands.specs.Printed.{EndSet, sizeSum, endsAmong}
 use Rattle.demands.specs.Lists.{each-site}
 
@@ -60,6 +61,28 @@ module _ {ls : Links} {n : ℕ} (T : Tree ls n) (terminal : ℕ → ℕ) {c t : 
   -- so the owners told say what is in a cut
   pub owners-tell-the-cuts : (a x : ℕ) → Site n a → terminal a ≡ 1 → Site n x → (look owners (x - 1) ≡ a) ↔ (inCut ls c t a x ≡ 1)
   owners-tell-the-cuts a x p e q = rw (look-site (owner ls c t terminal n) n x q) (owner-iff-in-cut T terminal g a p e x)
+
+  -- there is one for each site: 0, for `-`, or a terminal
+  pub an-owner-is-told-for-each-site : length owners ≡ n
+  an-owner-is-told-for-each-site = length-map (sites n) (owner ls c t terminal n) ∙ length-upfrom 1 n
+
+  abbrev dashes : List ℕ
+  dashes = map (λ x. is (owner ls c t terminal n x) 0) (sites n)
+
+  module _ (x : ℕ) (q : Site n x) where
+    pub a-dash-tells-no-owner : (look dashes (x - 1) ≡ 1) ↔ (look owners (x - 1) ≡ 0)
+    a-dash-tells-no-owner = rw (look-site (λ x. is (owner ls c t terminal n x) 0) n x q, look-site (owner ls c t terminal n) n x q) (is-one, is-same)
+
+    pub owners-are-told-or-dashes : (look dashes (x - 1) ≡ 1) ⊎ (Site n (look owners (x - 1)) × (terminal (look owners (x - 1)) ≡ 1))
+    owners-are-told-or-dashes = rw (look-site (λ x. is (owner ls c t terminal n x) 0) n x q, look-site (owner ls c t terminal n) n x q)
+        (elim (owner-or-none ls c t terminal x n) [ inl r ↦ inl (is-same (r .0)) | inr r ↦ inr (r .0, r .1) ])
+
+    -- `-` just where no cut holds the site
+    pub a-dash-tells-that-no-cut-holds-the-site : (look dashes (x - 1) ≡ 1) ↔ ((a : ℕ) → Site n a → terminal a ≡ 1 → inCut ls c t a x ≢ 1)
+    a-dash-tells-that-no-cut-holds-the-site = rw (look-site (λ x. is (owner ls c t terminal n x) 0) n x q) (
+      λ none a p e i. absurd (omega (arith, without-owner-in-no-cut ls c t terminal x n (is-one none) a p e)),
+      λ none. elim (owner-or-none ls c t terminal x n) [ inl r ↦ is-same (r .0) | inr r ↦ absurd (none _ (r .0) (r .1) (r .2)) ],
+    )
 
   owned-at : (a v : ℕ) → Site n a → terminal a ≡ 1 → Site n v → is (look owners (v - 1)) a ≡ inCut ls c t a v
   owned-at a v p e q = rw (look-site (owner ls c t terminal n) n v q) (owned a v p e)

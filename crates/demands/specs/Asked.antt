@@ -1,0 +1,144 @@
+-- What is asked of the planner, stated: the three demands, of what planning tells, of what a report says and of what the program prints.
+-- That it all holds is in `Demands`. What a plan is, and how a report is read off its bytes, is in `Printed`; load, fits and total are in `Flows`,
+-- trimming (`balanced`) is in `Trimming`, end sets (`inCut`) in `Cuts`, reading a sheet (`readSheet`) in `Sheet`, the causes (`Refusal`) in `Causes`,
+-- planning (`planned`) in `Outcome`.
+use mathlib.Core.Path.{_≡_}
+use mathlib.Core.Logic.{_≢_, _↔_, _⊎_}
+use mathlib.Core.List.{List, _++_, map}
+use Prim.Native.Nat.{ℕ, _*_, _≤_, _<_}
+use lib.ListN.{length, drop}
+use Rattle.model.specs.Edition.{edition1}
+use Rattle.lists.specs.Numbers.{count, look, Each}
+use Rattle.model.specs.Flows.{Site, Fits, sites, load, total}
+use Rattle.model.specs.Trimming.{balanced}
+use Rattle.model.specs.Cuts.{inCut}
+use Rattle.model.specs.Text.{bytes}
+use Rattle.model.specs.declared.Edition.{Edition}
+use Rattle.model.specs.declared.Pair.{Pair}
+use Rattle.theory_walk.specs.Sound.{arises, Ascending}
+use Rattle.sheet_kinds.specs.LineKinds.{field}
+use Rattle.sheet.specs.Sheet.{Network, refused, accepted, readSheet}
+use Rattle.sheet.specs.Causes.{Refusal}
+use Rattle.sheet.specs.SheetTheorem.{IsNetwork}
+use Rattle.report.specs.Report.{report, refusalLine}
+use Rattle.planner.specs.Outcome.{Planned, number, lineOf, lengthOf, planned}
+use Rattle.demands.specs.Printed.{IsPlan, siteCount, isEnd, records, firstLine, endsAmong, Printed, readReport, numberRead, lineRead}
+use Rattle.demands.specs.Printed.{printedOwner, printedDash, setSize, sizeSum}
+
+-- ---- demand 1: a refusal with number and line and the buffer as it was, or a full report
+-- (that the code does just this, without harm and to an end, for sheets and buffers of any length and content, is the contract of `planner`)
+
+-- refused with number k and line l: the length is 0 and the buffer keeps its bytes
+pub record Refused (k l : ℕ) (b : List ℕ) (p : Planned) : Type 0 where
+  pub number-told : number (p .outcome) ≡ k
+  pub line-told : lineOf (p .outcome) ≡ l
+  pub length-told : lengthOf (p .outcome) ≡ 0
+  pub buffer-kept : p .buffer ≡ b
+
+-- a full report r: number 0, line 0 and its length; the buffer holds r, and after r its bytes from before
+pub record FullReport (r b : List ℕ) (p : Planned) : Type 0 where
+  pub number-told : number (p .outcome) ≡ 0
+  pub line-told : lineOf (p .outcome) ≡ 0
+  pub length-told : lengthOf (p .outcome) ≡ length r
+  pub buffer-filled : p .buffer ≡ r ++ drop (length r) b
+
+-- no cause of the table's 1 to 8 holds of the sheet s
+abbrev pub WithoutCause : Edition → List ℕ → Type 0
+WithoutCause ed s = (k l : ℕ) → ¬ (Refusal ed s k l)
+
+-- what planning the sheet s into the buffer b comes to: the sheet is refused for a cause of its own, with that cause's number and line;
+-- or it has no such cause, and its report is longer than the buffer; or it has no such cause and gets its full report
+pub data Demand1 (ed : Edition) (s b : List ℕ) : Type 0 where
+  faulty-sheet : (k l : ℕ) → readSheet ed s ≡ refused k l → Refusal ed s k l → 1 ≤ k → k ≤ 8 → Refused k l b (planned ed s b) → Demand1 ed s b
+  long-report : WithoutCause ed s → (net : Network) → readSheet ed s ≡ accepted net → length b < length (report s net) → Refused 9 0 b (planned ed s b)
+      → Demand1 ed s b
+  full-report : WithoutCause ed s → (net : Network) → readSheet ed s ≡ accepted net → length (report s net) ≤ length b
+      → FullReport (report s net) b (planned ed s b) → Demand1 ed s b
+
+-- ---- demands 2 and 3, of a network and of what is printed for it
+
+-- the report is headed `plan` and shows the sheet: the `L` lines are its links, with their sizes, and the `N` lines its sites, in its order
+pub record ShowsSheet (net : Network) (p : Printed) : Type 0 where
+  pub heading : p .heading ≡ bytes "plan"
+  pub links : p .links ≡ net .links
+  pub sizes : p .sizes ≡ net .capacities
+  pub sites-shown : p .sites ≡ sites (siteCount net)
+
+-- the largest total
+pub record Demand2 (net : Network) (p : Printed) : Type 0 where
+  -- no plan that fits the link sizes, k parts to a circuit, has a larger total: in circuits, total fs / k is at most the printed total / 2
+  pub largest : (fs : List Pair) → IsPlan (siteCount net) (isEnd net) fs → (k : ℕ) → 1 ≤ k → Fits (net .links) k (look (net .capacities)) fs
+      → 2 * total fs ≤ k * p .total
+  -- the printed pairs are a plan in halves, each pair once; it fits, and it reaches that total
+  pub printed-plan : IsPlan (siteCount net) (isEnd net) (p .plan)
+  pub once : (x y : ℕ) → arises (p .plan) x y ≤ 1
+  pub printed-plan-fits : Fits (net .links) 2 (look (net .capacities)) (p .plan)
+  pub reached : total (p .plan) ≡ p .total
+  -- on no more pairs than there are links; the pair count is the number of `P` lines
+  pub few : length (p .plan) ≤ length (net .links)
+  pub counted : p .pairCount ≡ length (p .plan)
+  -- the printed set of an end a is what a reaches over links whose printed trimmed size is below the given one
+  pub set-members : (a x : ℕ) → Site (siteCount net) a → isEnd net a ≡ 1 → Site (siteCount net) x
+      → (printedOwner p x ≡ a) ↔ (inCut (net .links) (look (net .capacities)) (look (p .trimmed)) a x ≡ 1)
+  -- the `X` lines are those of the ends, with the size and the count of the printed set
+  pub set-of-each-end : map (λ x. x .end) (p .sets) ≡ endsAmong (isEnd net) (sites (siteCount net))
+  pub size-of-each-set : Each (λ x. (x .size ≡ setSize p (x .end)) × (x .count ≡ count (p .owners) (x .end))) (p .sets)
+  -- the sizes sum to twice the total in circuits, that is to the printed total in halves
+  pub sizes-sum : sizeSum (p .sets) ≡ p .total
+
+-- the printed plan in order, and the printed owners
+pub record InOrder (net : Network) (p : Printed) : Type 0 where
+  -- no amount is 0; the lower-numbered site stands first in each pair; the pairs ascend by first, then second
+  pub positive : Each (λ e. 1 ≤ e .amount) (p .plan)
+  pub lower-first : Each (λ e. e .first < e .second) (p .plan)
+  pub ascending : Ascending (p .plan)
+  -- one owner for each site: `-`, which is read as 0, or an end
+  pub owner-of-each-site : length (p .owners) ≡ siteCount net
+  pub dash-or-end : (x : ℕ) → Site (siteCount net) x
+      → (printedDash p x ≡ 1) ⊎ (Site (siteCount net) (printedOwner p x) × (isEnd net (printedOwner p x) ≡ 1))
+  pub dash-is-none : (x : ℕ) → Site (siteCount net) x → (printedDash p x ≡ 1) ↔ (printedOwner p x ≡ 0)
+  -- `-` exactly where no end set holds the site
+  pub dash-without-set : (x : ℕ) → Site (siteCount net) x
+      → (printedDash p x ≡ 1)
+      ↔ ((a : ℕ) → Site (siteCount net) a → isEnd net a ≡ 1 → inCut (net .links) (look (net .capacities)) (look (p .trimmed)) a x ≢ 1)
+
+-- the trimmed sizes
+pub record Demand3 (net : Network) (p : Printed) : Type 0 where
+  -- whatever plan fits the link sizes, k parts to a circuit: its load on each link is at most that link's printed trimmed size
+  pub bounded : (fs : List Pair) → IsPlan (siteCount net) (isEnd net) fs → (k : ℕ) → 1 ≤ k → Fits (net .links) k (look (net .capacities)) fs
+      → (j : ℕ) → j < length (net .links) → load (net .links) fs j ≤ k * look (p .trimmed) j
+  -- the printed plan fits too, and its load, in halves, is twice the printed trimmed size on every link at once
+  pub printed-plan : IsPlan (siteCount net) (isEnd net) (p .plan)
+  pub printed-plan-fits : Fits (net .links) 2 (look (net .capacities)) (p .plan)
+  pub filled : (j : ℕ) → j < length (net .links) → load (net .links) (p .plan) j ≡ 2 * look (p .trimmed) j
+  -- the printed trimmed sizes are those that trimming gives, of which two theorems in `Demands` speak
+  pub trimmed : p .trimmed ≡ balanced (net .links) (siteCount net) (isEnd net) (net .capacities)
+
+-- ---- all of it, of the bytes told or printed
+
+-- the bytes r are the full report on the sheet s: that of its network, a tree; they show the sheet and meet demands 2 and 3
+pub record IsReport (ed : Edition) (s r : List ℕ) : Type 0 where
+  pub net : Network
+  pub read : readSheet ed s ≡ accepted net
+  pub network : IsNetwork ed s net
+  pub whole : r ≡ report s net
+  pub shows-the-sheet : ShowsSheet net (readReport s net r)
+  pub meets-demand-2 : Demand2 net (readReport s net r)
+  pub is-in-order : InOrder net (readReport s net r)
+  pub meets-demand-3 : Demand3 net (readReport s net r)
+
+-- the bytes r are the line of a refusal of the sheet s: one line, `refused`, a number from 1 to 8 and a line; the number and the line read off it have
+-- their cause
+pub record IsRefusal (ed : Edition) (s r : List ℕ) : Type 0 where
+  pub one-line : length (records r) ≡ 1
+  pub three-fields : length (firstLine r) ≡ 3
+  pub heading : field (firstLine r) 0 ≡ bytes "refused"
+  pub cause : Refusal ed s (numberRead r) (lineRead r)
+  pub at-least-1 : 1 ≤ numberRead r
+  pub at-most-8 : numberRead r ≤ 8
+  pub whole : r ≡ refusalLine (numberRead r) (lineRead r)
+
+-- what the program prints for the sheet s: its full report, where it has no cause of a refusal; or the line of its refusal, which is never 9
+pub data Prints (s r : List ℕ) : Type 0 where
+  a-full-report : WithoutCause edition1 s → IsReport edition1 s r → Prints s r
+  a-refusal : IsRefusal edition1 s r → Prints s r
