@@ -1,6 +1,8 @@
 -- `refuse` is safe: both lines lie within the buffer.
 use mathlib.Core.Path.{sym}
+use native.Mathlib.Omega.{arith}
 use lib.Seq.{length-take-le}
+use Rattle.report_words.specs.Lengths.{words-are-short}
 use borrow.Author.Needs.{needs}
 use Rattle.text_streams.proofs.refuse.Statement.{statement}
 use Rattle.text_streams.proofs.refuse.Tie as tie
@@ -30,10 +32,15 @@ write-words-requires : tie.Need-write-words-requires
 write-words-requires c κs = search needs
 
 array-share-prefix-text-2 : tie.Need-array-share-prefix-text-2
-array-share-prefix-text-2 c = search needs
+array-share-prefix-text-2 c =
+    let s = c .before .before .before .before .before .before .before .before .before .before .args in
+    omega (arith, c .before .write-words .ensures .next, words-are-short (s .number) (s .line) (omega arith))
 
 slice-aggregate-write-all : tie.Need-slice-aggregate-write-all
-slice-aggregate-write-all c = sym (length-take-le _ _ (search needs))
+slice-aggregate-write-all c =
+    let at-words = c .before .before in
+    let s = at-words .before .before .before .before .before .before .before .before .before .args in
+    sym (length-take-le _ _ (omega (arith, at-words .write-words .ensures .next, words-are-short (s .number) (s .line) (omega arith))))
 
 write-all-requires : tie.Need-write-all-requires
 write-all-requires c κs = search needs
