@@ -38,21 +38,21 @@ grouped-length : (n : ℕ) → n < 2 ^ 64 → length (grouped n) ≤ 28
 grouped-length n l = elim (decLt n 1000) [
   | yes s ↦ omega (arith, ap length (grouped-small n s), decimal-length n l)
   | no s ↦ elim (decLt n (1000 * 1000)) [
-      | yes t ↦ omega (
-        arith,
-        ap length (grouped-thousands n (omega arith) t),
-        comma-length (decimal (n / 1000)) n,
-        decimal-length (n / 1000) (omega arith),
-      )
-      | no t ↦ let first = n / (1000 * 1000) in
-          omega (
-            arith,
-            ap length (grouped-millions n (omega arith)),
-            comma-length (comma (decimal first) (n / 1000)) n,
-            comma-length (decimal first) (n / 1000),
-            decimal-length first (omega arith),
-          )
-    ]
+    | yes t ↦ omega (
+      arith,
+      ap length (grouped-thousands n (omega arith) t),
+      comma-length (decimal (n / 1000)) n,
+      decimal-length (n / 1000) (omega arith),
+    )
+    | no t ↦ let first = n / (1000 * 1000) in
+        omega (
+          arith,
+          ap length (grouped-millions n (omega arith)),
+          comma-length (comma (decimal first) (n / 1000)) n,
+          comma-length (decimal first) (n / 1000),
+          decimal-length first (omega arith),
+        )
+  ]
 ]
 
 place-length : (l : ℕ) → l < 2 ^ 64 → length (place l) ≤ 27

@@ -77,7 +77,8 @@ put-bytes-requires-7 : tie.Need-put-bytes-requires-7
 put-bytes-requires-7 c κs =
     let s = c .before .before .before .before in
     let h = c .before .before .match .rest in
-    let none = no-cause (s .args .number) (h .0 .0 .0 .0 .0 .0 .0 .0 .1) (h .0 .0 .0 .0 .0 .0 .0 .1) (h .0 .0 .0 .0 .0 .0 .1) (h .0 .0 .0 .0 .0 .1)
+    let n = s .args .number in
+    let none = no-cause n (h .0 .0 .0 .0 .0 .0 .0 .0 .1) (h .0 .0 .0 .0 .0 .0 .0 .1) (h .0 .0 .0 .0 .0 .0 .1) (h .0 .0 .0 .0 .0 .1)
     (h .0 .0 .0 .0 .1) (h .0 .0 .0 .1) (h .0 .0 .1) (h .0 .1) (h .1) in
     rw none at (s .pre)
 
@@ -160,7 +161,8 @@ returns-10 : tie.Need-returns-10
 returns-10 c =
     let at-match = c .before .before .before .before .before in
     let h = at-match .match .rest in
-    let none = no-cause (at-match .before .before .args .number) (h .0 .0 .0 .0 .0 .0 .0 .0 .1) (h .0 .0 .0 .0 .0 .0 .0 .1) (h .0 .0 .0 .0 .0 .0 .1) (h .0 .0 .0 .0 .0 .1)
+    let n = at-match .before .before .args .number in
+    let none = no-cause n (h .0 .0 .0 .0 .0 .0 .0 .0 .1) (h .0 .0 .0 .0 .0 .0 .0 .1) (h .0 .0 .0 .0 .0 .0 .1) (h .0 .0 .0 .0 .0 .1)
     (h .0 .0 .0 .0 .1) (h .0 .0 .0 .1) (h .0 .0 .1) (h .0 .1) (h .1) in
     rw none (c .before .before .put-bytes7 .ensures)
 
