@@ -2,7 +2,16 @@
  * Waderarmoire, the tree circuit planner: C interface of the static library.
  *
  * One call reads a network sheet and writes the report of its plan, or tells why the sheet is
- * refused. Link with libwaderarmoire.a.
+ * refused. Link with libwaderarmoire.a, which is built for x86-64 Linux.
+ *
+ * The library allocates nothing, keeps nothing between calls, has no global state and calls
+ * nothing but memcpy and memset: any number of threads may call it at once, each with a buffer
+ * of its own. It reads the sheet and writes the buffer within their lengths and touches no
+ * other memory of the caller's. Every call ends, whatever the sheet holds.
+ *
+ * A call needs stack: 128 KiB for a tree that is nowhere deep, up to 248 KiB for a path of 256
+ * sites, which needs the most (both measured, with what a new thread itself needs). A thread of
+ * WADERARMOIRE_STACK_BYTES has enough for every sheet.
  */
 #ifndef WADERARMOIRE_H
 #define WADERARMOIRE_H
@@ -20,12 +29,18 @@ extern "C" {
 /* A report buffer of this length is enough for every accepted sheet. */
 #define WADERARMOIRE_REPORT_BYTES 65536
 
+/* A thread with a stack of this length can plan every sheet. */
+#define WADERARMOIRE_STACK_BYTES 262144
+
 /*
  * Plans the network of a sheet of sheet_len bytes and writes the report into a buffer of
  * report_len bytes.
  *
- * Neither pointer may be null, not even with length 0, and the two areas must not overlap. The
- * sheet is not changed. On success the report stands at the start of the buffer and the bytes
+ * The caller owes this: sheet points to sheet_len bytes that may be read, report to report_len
+ * bytes that may be written; neither pointer is null, not even with length 0; the two areas do
+ * not overlap; and nobody else writes to either during the call. The bytes may hold anything.
+ *
+ * The sheet is not changed. On success the report stands at the start of the buffer and the bytes
  * after it keep their values; on a refusal the whole buffer keeps its values.
  *
  * The answer holds three numbers, taken out by the functions below.
@@ -35,14 +50,14 @@ uint64_t waderarmoire_plan(const uint8_t *sheet, size_t sheet_len, uint8_t *repo
 
 /*
  * The number of the refusal, or 0 for success:
- *   1  sheet of 0 bytes or above 16,384
- *   2  line of the wrong form
+ *   1  no bytes, or more than 16,384
+ *   2  wrong form (heading, letter, number of fields, name, number or line ending)
  *   3  size above 1,000,000
- *   4  a 257th site
+ *   4  more sites than 256
  *   5  name already given to a site
- *   6  link to a name not given above
- *   7  link whose sites are already joined, or are one site
- *   8  under two sites, or not all joined
+ *   6  link to a name not given on a line above
+ *   7  link whose sites are already joined by links above, or are one site
+ *   8  fewer than two sites, or not all sites are joined
  *   9  report longer than the buffer
  */
 static inline unsigned waderarmoire_number(uint64_t answer)

@@ -279,18 +279,17 @@ fn whole_programs(options: &Options) -> Result<(), Failure> {
     }
     sheets.truncate(options.runs);
     for (index, sheet) in sheets.iter().enumerate() {
-        let expected = programs::expected(sheet);
+        let (expected, words) = programs::expected(sheet);
         // The examples link the same library as this program: some sheets are enough.
         let examples = if index % 5 == 0 {
             options.examples.as_slice()
         } else {
             &[]
         };
-        for program in [&options.program, &options.second]
-            .into_iter()
-            .chain(examples)
-        {
-            programs::compare(program, sheet, &expected).map_err(|what| Failure {
+        let silent = [&options.second].into_iter().chain(examples);
+        let programs = silent.map(|program| (program, ""));
+        for (program, words) in programs.chain([(&options.program, words.as_str())]) {
+            programs::compare(program, sheet, &expected, words).map_err(|what| Failure {
                 sheet: Some(sheet.clone()),
                 index: None,
                 what,

@@ -4,25 +4,31 @@ use second::{Outcome, REPORT_BYTES};
 use std::io::{ErrorKind, Write};
 use std::path::{Path, PathBuf};
 use std::process::{Command, Stdio};
+use waderarmoire::Refusal;
 
-/// What a program must print for a sheet, by the second planner.
-pub fn expected(sheet: &[u8]) -> Vec<u8> {
+/// What a program must print for a sheet, by the second planner, and what the proved program
+/// must then say on standard error.
+pub fn expected(sheet: &[u8]) -> (Vec<u8>, String) {
     let mut buffer = vec![0; REPORT_BYTES];
     match second::plan(sheet, &mut buffer) {
-        Outcome::Report { length } => buffer.truncate(length),
-        Outcome::Refused { number, line } => {
-            buffer = format!("refused\t{number}\t{line}\n").into_bytes();
+        Outcome::Report { length } => {
+            buffer.truncate(length);
+            (buffer, String::new())
         }
+        Outcome::Refused { number, line } => (
+            format!("refused\t{number}\t{line}\n").into_bytes(),
+            format!("{}\n", Refusal { number, line }),
+        ),
     }
-    buffer
 }
 
-/// Runs a program on a sheet and compares what it prints.
-pub fn compare(program: &Path, sheet: &[u8], expected: &[u8]) -> Result<(), String> {
+/// Runs a program on a sheet and compares what it prints, and says on standard error.
+pub fn compare(program: &Path, sheet: &[u8], expected: &[u8], words: &str) -> Result<(), String> {
     let told = |what: &str| format!("{}: {what}", program.display());
     let mut child = Command::new(program)
         .stdin(Stdio::piped())
         .stdout(Stdio::piped())
+        .stderr(Stdio::piped())
         .spawn()
         .map_err(|error| told(&error.to_string()))?;
     let mut input = child.stdin.take().expect("standard input is a pipe");
@@ -48,6 +54,10 @@ pub fn compare(program: &Path, sheet: &[u8], expected: &[u8]) -> Result<(), Stri
             expected.len(),
             start(expected)
         )));
+    }
+    if output.stderr != words.as_bytes() {
+        let said = String::from_utf8_lossy(&output.stderr);
+        return Err(told(&format!("says {said:?}, and not {words:?}")));
     }
     Ok(())
 }

@@ -14,15 +14,30 @@
 //! # Ok::<(), waderarmoire::Refusal>(())
 //! ```
 //!
-//! A sheet with a fault is refused with the number of its cause and its line:
+//! A sheet with a fault is refused with the number of its cause and its line, and says in the
+//! words of the program what is wrong:
 //!
 //! ```
-//! let refusal = waderarmoire::plan(b"network\t1\nN\ta\nL\ta\ta\t4\n", &mut []).unwrap_err();
-//! assert_eq!((refusal.number, refusal.line), (7, 3));
+//! let refusal = waderarmoire::plan(b"network\t1\nN\ta\nL\ta\tb\t4\n", &mut []).unwrap_err();
+//! assert_eq!((refusal.number, refusal.line), (6, 3));
+//! assert_eq!(refusal.to_string(), "line 3: link to a name not given on a line above");
 //! ```
+//!
+//! # What a call does
+//!
+//! [`plan`] is safe for every sheet and every buffer, and every call ends. It allocates nothing,
+//! keeps nothing between calls and has no global state: any number of threads may call it at
+//! once, each with a buffer of its own. The caller of this crate owes nothing more; what the
+//! library below asks, pointers that are not null and areas that do not overlap, slices have.
+//!
+//! A call needs stack: 128 KiB for a tree that is nowhere deep, up to 248 KiB for a path of 256
+//! sites, which needs the most (both measured, with what a new thread itself needs). A thread of
+//! [`STACK_BYTES`] has enough for every sheet; threads of the standard library have 2 MiB unless
+//! they are made with less.
 //!
 //! # Building
 //!
+//! The library is built for x86-64 Linux.
 //! The archive `libwaderarmoire.a` is looked for in the folder named by the environment variable
 //! `WADERARMOIRE_LIB_DIR`, or else in `target/staticlib` at the root of the repository, where
 //! `rt staticlib waderarmoire` puts it.
@@ -35,6 +50,9 @@ pub const SHEET_BYTES: usize = 16_384;
 
 /// A report buffer of this length is enough for every accepted sheet.
 pub const REPORT_BYTES: usize = 65_536;
+
+/// A thread with a stack of this many bytes can plan every sheet.
+pub const STACK_BYTES: usize = 262_144;
 
 unsafe extern "C" {
     fn waderarmoire_plan(
@@ -50,14 +68,14 @@ unsafe extern "C" {
 pub struct Refusal {
     /// The number of the cause:
     ///
-    /// 1. sheet of 0 bytes or above 16,384
-    /// 2. line of the wrong form
+    /// 1. no bytes, or more than 16,384
+    /// 2. wrong form (heading, letter, number of fields, name, number or line ending)
     /// 3. size above 1,000,000
-    /// 4. a 257th site
+    /// 4. more sites than 256
     /// 5. name already given to a site
-    /// 6. link to a name not given above
-    /// 7. link whose sites are already joined, or are one site
-    /// 8. under two sites, or not all joined
+    /// 6. link to a name not given on a line above
+    /// 7. link whose sites are already joined by links above, or are one site
+    /// 8. fewer than two sites, or not all sites are joined
     /// 9. report longer than the buffer
     pub number: u8,
     /// The line at fault, counted from 1, or 0 when no line is.
@@ -65,30 +83,32 @@ pub struct Refusal {
 }
 
 impl Refusal {
-    /// The cause in words.
+    /// The cause in words, those of the program.
     #[must_use]
     pub fn cause(&self) -> &'static str {
         match self.number {
-            1 => "sheet of 0 bytes or above 16,384",
-            2 => "line of the wrong form",
+            1 => "no bytes, or more than 16,384",
+            2 => "wrong form (heading, letter, number of fields, name, number or line ending)",
             3 => "size above 1,000,000",
-            4 => "a 257th site",
+            4 => "more sites than 256",
             5 => "name already given to a site",
-            6 => "link to a name not given above",
-            7 => "link whose sites are already joined, or are one site",
-            8 => "under two sites, or not all joined",
+            6 => "link to a name not given on a line above",
+            7 => "link whose sites are already joined by links above, or are one site",
+            8 => "fewer than two sites, or not all sites are joined",
             9 => "report longer than the buffer",
-            _ => "unknown cause",
+            _ => "a cause without words",
         }
     }
 }
 
+/// The line that the program writes to standard error, without its line feed.
 impl fmt::Display for Refusal {
     fn fmt(&self, out: &mut fmt::Formatter<'_>) -> fmt::Result {
-        if self.line > 0 {
-            write!(out, "line {}: ", self.line)?;
+        if self.line == 0 {
+            write!(out, "the sheet: {}", self.cause())
+        } else {
+            write!(out, "line {}: {}", self.line, self.cause())
         }
-        write!(out, "{} (refusal {})", self.cause(), self.number)
     }
 }
 
@@ -96,7 +116,8 @@ impl Error for Refusal {}
 
 /// Plans the network of `sheet`, writes the report to the start of `buffer` and returns it.
 ///
-/// The bytes after the report keep their values.
+/// The bytes after the report keep their values. Nothing is allocated, and threads may plan at
+/// once.
 ///
 /// # Errors
 ///

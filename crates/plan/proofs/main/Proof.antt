@@ -1,68 +1,80 @@
--- `main` is safe: the answer lies within the buffer, which is long enough for the line of any refusal.
-use mathlib.Core.Path.{sym}
-use native.Mathlib.Omega.{arith}
+-- `main` is safe: a report lies within the buffer.
+use mathlib.Core.Path.{sym, _∙_}
 use lib.Seq.{length-take-le}
+use Rattle.planner.specs.Answers.{a-report-is-within-the-buffer}
 use borrow.Author.Needs.{needs}
 use Rattle.plan.proofs.main.Statement.{statement}
 use Rattle.plan.proofs.main.Tie as tie
 
--- src/main.rt:7:41
-slice-aggregate-read-full : tie.Need-slice-aggregate-read-full
-slice-aggregate-read-full c = search needs
+slice-aggregate-read : tie.Need-slice-aggregate-read
+slice-aggregate-read c = search needs
 
--- src/main.rt:7:9
-read-full-requires : tie.Need-read-full-requires
-read-full-requires c κs = search needs
+read-requires : tie.Need-read-requires
+read-requires c κs = search needs
 
--- src/main.rt:8:23
+returns : tie.Need-returns
+returns c = search needs
+
 large-buffer-requires : tie.Need-large-buffer-requires
 large-buffer-requires c κs = search needs
 
--- src/main.rt:9:34
 array-share-prefix-sheet : tie.Need-array-share-prefix-sheet
 array-share-prefix-sheet c = search needs
 
--- src/main.rt:9:34
-slice-aggregate-answer : tie.Need-slice-aggregate-answer
-slice-aggregate-answer c = search needs
+slice-aggregate-plan : tie.Need-slice-aggregate-plan
+slice-aggregate-plan c = search needs
 
--- src/main.rt:9:47
-slice-aggregate-answer-2 : tie.Need-slice-aggregate-answer-2
-slice-aggregate-answer-2 c = search needs
+slice-aggregate-plan-2 : tie.Need-slice-aggregate-plan-2
+slice-aggregate-plan-2 c = search needs
 
--- src/main.rt:9:9
-answer-requires : tie.Need-answer-requires
-answer-requires c κs = search needs
+plan-requires : tie.Need-plan-requires
+plan-requires c κs = search needs
 
--- src/main.rt:10:34
+enum-known-outcome : tie.Need-enum-known-outcome
+enum-known-outcome c = search needs
+
 array-share-prefix-printed : tie.Need-array-share-prefix-printed
-array-share-prefix-printed c = c .before .answer .ensures .1 .1 (omega (arith, c .before .before .before .before .large-buffer .ensures))
+array-share-prefix-printed c =
+    let p = c .before .before .before .before .plan .ensures in
+    rw (p .1) (a-report-is-within-the-buffer _ _ _ (sym (p .0) ∙ c .before .outcome .given .1))
 
--- src/main.rt:10:34
-slice-aggregate-write-all : tie.Need-slice-aggregate-write-all
-slice-aggregate-write-all c =
-    sym (length-take-le _ _ (c .before .before .answer .ensures .1 .1 (omega (arith, c .before .before .before .before .before .large-buffer .ensures))))
+slice-aggregate-write : tie.Need-slice-aggregate-write
+slice-aggregate-write c =
+    let p = c .before .before .before .before .before .plan .ensures in
+    sym (length-take-le _ _ (rw (p .1) (a-report-is-within-the-buffer _ _ _ (sym (p .0) ∙ c .before .before .outcome .given .1))))
 
--- src/main.rt:10:5
-write-all-requires : tie.Need-write-all-requires
-write-all-requires c κs = search needs
+write-requires : tie.Need-write-requires
+write-requires c κs = search needs
 
--- src/main.rt:5:1
-returns : tie.Need-returns
-returns c = search needs
+enum-known-outcome-2 : tie.Need-enum-known-outcome-2
+enum-known-outcome-2 c = search needs
+
+refuse-requires : tie.Need-refuse-requires
+refuse-requires c κs = search needs
+
+returns-2 : tie.Need-returns-2
+returns-2 c = search needs
+
+returns-3 : tie.Need-returns-3
+returns-3 c = search needs
 
 pub main-spec : {M : Type 1} → statement M
 main-spec =
     tie.close
     (tie.spec
-    slice-aggregate-read-full
-    read-full-requires
+    slice-aggregate-read
+    read-requires
+    returns
     large-buffer-requires
     array-share-prefix-sheet
-    slice-aggregate-answer
-    slice-aggregate-answer-2
-    answer-requires
+    slice-aggregate-plan
+    slice-aggregate-plan-2
+    plan-requires
+    enum-known-outcome
     array-share-prefix-printed
-    slice-aggregate-write-all
-    write-all-requires
-    returns)
+    slice-aggregate-write
+    write-requires
+    enum-known-outcome-2
+    refuse-requires
+    returns-2
+    returns-3)

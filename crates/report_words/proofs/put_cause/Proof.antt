@@ -1,0 +1,212 @@
+-- `put_cause` meets its contract: one text for each number.
+use native.Mathlib.Decide.{ℕ-discrete}
+use Rattle.lists.specs.Numbers.{pick}
+use Rattle.report_words.specs.Words.{cause}
+use Rattle.report_words.proofs.Laws.{no-cause}
+use borrow.Author.Needs.{needs}
+use Rattle.report_words.proofs.put_cause.Statement.{statement}
+use Rattle.report_words.proofs.put_cause.Tie as tie
+
+slice-aggregate-put-limit : tie.Need-slice-aggregate-put-limit
+slice-aggregate-put-limit c = search needs
+
+put-limit-requires : tie.Need-put-limit-requires
+unfolding cause pick ℕ-discrete
+put-limit-requires c κs = rw (c .before .before .match .keys1) at (c .before .before .before .before .pre)
+
+slice-aggregate-put-bytes : tie.Need-slice-aggregate-put-bytes
+slice-aggregate-put-bytes c = search needs
+
+put-bytes-requires : tie.Need-put-bytes-requires
+unfolding cause pick ℕ-discrete
+put-bytes-requires c κs = rw (c .before .before .match .keys2) at (c .before .before .before .before .pre)
+
+slice-aggregate-put-limit-2 : tie.Need-slice-aggregate-put-limit-2
+slice-aggregate-put-limit-2 c = search needs
+
+put-limit-requires-2 : tie.Need-put-limit-requires-2
+unfolding cause pick ℕ-discrete
+put-limit-requires-2 c κs = rw (c .before .before .match .keys3) at (c .before .before .before .before .pre)
+
+slice-aggregate-put-limit-3 : tie.Need-slice-aggregate-put-limit-3
+slice-aggregate-put-limit-3 c = search needs
+
+put-limit-requires-3 : tie.Need-put-limit-requires-3
+unfolding cause pick ℕ-discrete
+put-limit-requires-3 c κs = rw (c .before .before .match .keys4) at (c .before .before .before .before .pre)
+
+slice-aggregate-put-bytes-2 : tie.Need-slice-aggregate-put-bytes-2
+slice-aggregate-put-bytes-2 c = search needs
+
+put-bytes-requires-2 : tie.Need-put-bytes-requires-2
+unfolding cause pick ℕ-discrete
+put-bytes-requires-2 c κs = rw (c .before .before .match .keys5) at (c .before .before .before .before .pre)
+
+slice-aggregate-put-bytes-3 : tie.Need-slice-aggregate-put-bytes-3
+slice-aggregate-put-bytes-3 c = search needs
+
+put-bytes-requires-3 : tie.Need-put-bytes-requires-3
+unfolding cause pick ℕ-discrete
+put-bytes-requires-3 c κs = rw (c .before .before .match .keys6) at (c .before .before .before .before .pre)
+
+slice-aggregate-put-bytes-4 : tie.Need-slice-aggregate-put-bytes-4
+slice-aggregate-put-bytes-4 c = search needs
+
+put-bytes-requires-4 : tie.Need-put-bytes-requires-4
+unfolding cause pick ℕ-discrete
+put-bytes-requires-4 c κs = rw (c .before .before .match .keys7) at (c .before .before .before .before .pre)
+
+slice-aggregate-put-bytes-5 : tie.Need-slice-aggregate-put-bytes-5
+slice-aggregate-put-bytes-5 c = search needs
+
+put-bytes-requires-5 : tie.Need-put-bytes-requires-5
+unfolding cause pick ℕ-discrete
+put-bytes-requires-5 c κs = rw (c .before .before .match .keys8) at (c .before .before .before .before .pre)
+
+slice-aggregate-put-bytes-6 : tie.Need-slice-aggregate-put-bytes-6
+slice-aggregate-put-bytes-6 c = search needs
+
+put-bytes-requires-6 : tie.Need-put-bytes-requires-6
+unfolding cause pick ℕ-discrete
+put-bytes-requires-6 c κs = rw (c .before .before .match .keys9) at (c .before .before .before .before .pre)
+
+slice-aggregate-put-bytes-7 : tie.Need-slice-aggregate-put-bytes-7
+slice-aggregate-put-bytes-7 c = search needs
+
+put-bytes-requires-7 : tie.Need-put-bytes-requires-7
+put-bytes-requires-7 c κs =
+    let s = c .before .before .before .before in
+    let h = c .before .before .match .rest in
+    let n = s .args .number in
+    let none = no-cause n (h .0 .0 .0 .0 .0 .0 .0 .0 .1) (h .0 .0 .0 .0 .0 .0 .0 .1) (h .0 .0 .0 .0 .0 .0 .1) (h .0 .0 .0 .0 .0 .1)
+    (h .0 .0 .0 .0 .1) (h .0 .0 .0 .1) (h .0 .0 .1) (h .0 .1) (h .1) in
+    rw none at (s .pre)
+
+same-length : tie.Need-same-length
+same-length c = search needs
+
+returns : tie.Need-returns
+unfolding cause pick ℕ-discrete
+returns c =
+    rw (c .before .before .before .before .before .match .keys1) (c .before .before .put-limit .ensures)
+
+same-length-2 : tie.Need-same-length-2
+same-length-2 c = search needs
+
+returns-2 : tie.Need-returns-2
+unfolding cause pick ℕ-discrete
+returns-2 c =
+    rw (c .before .before .before .before .before .match .keys2) (c .before .before .put-bytes .ensures)
+
+same-length-3 : tie.Need-same-length-3
+same-length-3 c = search needs
+
+returns-3 : tie.Need-returns-3
+unfolding cause pick ℕ-discrete
+returns-3 c =
+    rw (c .before .before .before .before .before .match .keys3) (c .before .before .put-limit2 .ensures)
+
+same-length-4 : tie.Need-same-length-4
+same-length-4 c = search needs
+
+returns-4 : tie.Need-returns-4
+unfolding cause pick ℕ-discrete
+returns-4 c =
+    rw (c .before .before .before .before .before .match .keys4) (c .before .before .put-limit3 .ensures)
+
+same-length-5 : tie.Need-same-length-5
+same-length-5 c = search needs
+
+returns-5 : tie.Need-returns-5
+unfolding cause pick ℕ-discrete
+returns-5 c =
+    rw (c .before .before .before .before .before .match .keys5) (c .before .before .put-bytes2 .ensures)
+
+same-length-6 : tie.Need-same-length-6
+same-length-6 c = search needs
+
+returns-6 : tie.Need-returns-6
+unfolding cause pick ℕ-discrete
+returns-6 c =
+    rw (c .before .before .before .before .before .match .keys6) (c .before .before .put-bytes3 .ensures)
+
+same-length-7 : tie.Need-same-length-7
+same-length-7 c = search needs
+
+returns-7 : tie.Need-returns-7
+unfolding cause pick ℕ-discrete
+returns-7 c =
+    rw (c .before .before .before .before .before .match .keys7) (c .before .before .put-bytes4 .ensures)
+
+same-length-8 : tie.Need-same-length-8
+same-length-8 c = search needs
+
+returns-8 : tie.Need-returns-8
+unfolding cause pick ℕ-discrete
+returns-8 c =
+    rw (c .before .before .before .before .before .match .keys8) (c .before .before .put-bytes5 .ensures)
+
+same-length-9 : tie.Need-same-length-9
+same-length-9 c = search needs
+
+returns-9 : tie.Need-returns-9
+unfolding cause pick ℕ-discrete
+returns-9 c =
+    rw (c .before .before .before .before .before .match .keys9) (c .before .before .put-bytes6 .ensures)
+
+same-length-10 : tie.Need-same-length-10
+same-length-10 c = search needs
+
+returns-10 : tie.Need-returns-10
+returns-10 c =
+    let at-match = c .before .before .before .before .before in
+    let h = at-match .match .rest in
+    let n = at-match .before .before .args .number in
+    let none = no-cause n (h .0 .0 .0 .0 .0 .0 .0 .0 .1) (h .0 .0 .0 .0 .0 .0 .0 .1) (h .0 .0 .0 .0 .0 .0 .1) (h .0 .0 .0 .0 .0 .1)
+    (h .0 .0 .0 .0 .1) (h .0 .0 .0 .1) (h .0 .0 .1) (h .0 .1) (h .1) in
+    rw none (c .before .before .put-bytes7 .ensures)
+
+pub put-cause-spec : {M : Type 1} → statement M
+put-cause-spec =
+    tie.close
+    (tie.spec
+    slice-aggregate-put-limit
+    put-limit-requires
+    slice-aggregate-put-bytes
+    put-bytes-requires
+    slice-aggregate-put-limit-2
+    put-limit-requires-2
+    slice-aggregate-put-limit-3
+    put-limit-requires-3
+    slice-aggregate-put-bytes-2
+    put-bytes-requires-2
+    slice-aggregate-put-bytes-3
+    put-bytes-requires-3
+    slice-aggregate-put-bytes-4
+    put-bytes-requires-4
+    slice-aggregate-put-bytes-5
+    put-bytes-requires-5
+    slice-aggregate-put-bytes-6
+    put-bytes-requires-6
+    slice-aggregate-put-bytes-7
+    put-bytes-requires-7
+    same-length
+    returns
+    same-length-2
+    returns-2
+    same-length-3
+    returns-3
+    same-length-4
+    returns-4
+    same-length-5
+    returns-5
+    same-length-6
+    returns-6
+    same-length-7
+    returns-7
+    same-length-8
+    returns-8
+    same-length-9
+    returns-9
+    same-length-10
+    returns-10)

@@ -1,0 +1,47 @@
+-- The refusals in words: the line that a program writes to standard error beside a refusal.
+-- Document 01, the table of causes, in plain words; a further refusal is a further line of `cause`.
+use mathlib.Core.Bool.{cond}
+use mathlib.Core.List.{List, [], _∷_, _++_}
+use Prim.Native.Nat.{ℕ, _+_, _*_, _/_, _%_}
+use lib.Dec.{ltb}
+use Rattle.model.specs.Limits.{SITES, BYTES, SIZE}
+use Rattle.lists.specs.Numbers.{pick}
+use Rattle.model.specs.Text.{bytes}
+use Rattle.text_writers.specs.Fields.{decimal}
+
+-- the last three digits of a number
+unfoldable pub three : ℕ → List ℕ
+three n = (48 + n / 100 % 10) ∷ (48 + n / 10 % 10) ∷ (48 + n % 10) ∷ []
+
+-- digits, a comma, and the last three digits of a number
+unfoldable pub comma : List ℕ → ℕ → List ℕ
+comma before n = before ++ (bytes "," ++ three n)
+
+-- a number with commas: before its last three digits, and before the three before them, where it has so many
+unfoldable pub grouped : ℕ → List ℕ
+grouped n =
+    cond (ltb n 1000) (decimal n)
+    (cond (ltb n (1000 * 1000)) (comma (decimal (n / 1000)) n)
+    (comma (comma (decimal (n / (1000 * 1000))) (n / 1000)) n))
+
+-- where the fault is: a line, or the sheet as a whole (01: line 0)
+unfoldable pub place : ℕ → List ℕ
+place l = pick l 0 (bytes "the sheet: ") (bytes "line " ++ (decimal l ++ bytes ": "))
+
+-- what is wrong, by the number of the refusal
+unfoldable pub cause : ℕ → List ℕ
+cause n =
+    pick n 1 (bytes "no bytes, or more than " ++ grouped BYTES)
+    (pick n 2 (bytes "wrong form (heading, letter, number of fields, name, number or line ending)")
+    (pick n 3 (bytes "size above " ++ grouped SIZE)
+    (pick n 4 (bytes "more sites than " ++ grouped SITES)
+    (pick n 5 (bytes "name already given to a site")
+    (pick n 6 (bytes "link to a name not given on a line above")
+    (pick n 7 (bytes "link whose sites are already joined by links above, or are one site")
+    (pick n 8 (bytes "fewer than two sites, or not all sites are joined")
+    (pick n 9 (bytes "report longer than the buffer")
+    (bytes "a cause without words")))))))))
+
+-- the whole line
+unfoldable pub words : ℕ → ℕ → List ℕ
+words number l = place l ++ (cause number ++ (10 ∷ []))
