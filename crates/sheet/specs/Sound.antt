@@ -55,7 +55,7 @@ Accepts P (accepted net) = P net
 
 -- ---- a part of a line is a part of the sheet
 
-part-of-line : (s : List ℕ) (at a e : ℕ) → a ≤ e → e ≤ length (lineAt s at) → part s (at + a, at + e) ≡ take (e - a) (drop a (lineAt s at))
+pub part-of-line : (s : List ℕ) (at a e : ℕ) → a ≤ e → e ≤ length (lineAt s at) → part s (at + a, at + e) ≡ take (e - a) (drop a (lineAt s at))
 part-of-line s at a e p q =
     let l = lineAt s at in
     let rest = drop (at + length l) s in
