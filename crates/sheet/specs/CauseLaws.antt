@@ -95,12 +95,12 @@ module _ (s : List ℕ) (at : ℕ) where
 -- ---- a refused line has a cause
 
 module _ (ed : Edition) (s : List ℕ) (net : Network) (k at : ℕ) where
-  -- a refusal has its cause
+  -- a refusal is at its line and has its cause
   abbrev Right : Step → Type 0
   Right Nothing = Unit {0}
   Right (Site a e) = Unit {0}
   Right (Link a b size) = Unit {0}
-  Right (Refused n) = Cause ed s net k at n
+  Right (Refused n m) = (m ≡ k) × Cause ed s net k at n
 
   -- the names of the line, as fields
   abbrev one : List ℕ
@@ -110,50 +110,50 @@ module _ (ed : Edition) (s : List ℕ) (net : Network) (k at : ℕ) where
   two = field (fieldsAt s at) 2
 
   module _ (h : Ended s at) (d : k ≢ 1) where
-    site-right : IsSite (fieldsAt s at) → (r : ℕ × ℕ) → part s r ≡ one → Right (siteStep ed (length (net .names)) r (lookup s (net .names) (part s r)))
+    site-right : IsSite (fieldsAt s at) → (r : ℕ × ℕ) → part s r ≡ one → Right (siteStep ed k (length (net .names)) r (lookup s (net .names) (part s r)))
     unfolding siteStep
     site-right is r at-one = rw at-one (by (leb (ed .sites) (length (net .names))) refl (lookup s (net .names) one) (finds s one (net .names)))
       where
-        by : (t : Bool) → leb (ed .sites) (length (net .names)) ≡ t → (w : Found) → Finds s (net .names) one w → Right (cond t (Refused 4) (siteBy r w))
-        by true q w f = too-many h d is (leb-true _ _ q)
-        by false q (At v) f = given h d is (leb-false _ _ q) v f
+        by : (t : Bool) → leb (ed .sites) (length (net .names)) ≡ t → (w : Found) → Finds s (net .names) one w → Right (cond t (Refused 4 k) (siteBy k r w))
+        by true q w f = (refl, too-many h d is (leb-true _ _ q))
+        by false q (At v) f = (refl, given h d is (leb-false _ _ q) v f)
         by false q Absent f = tt
 
-    link-right : LinkWithin (ed .size) (lineAt s at) → (size : ℕ) → Right (linkStep (net .links) size (lookup s (net .names) one) (lookup s (net .names) two))
+    link-right : LinkWithin (ed .size) (lineAt s at) → (size : ℕ) → Right (linkStep k (net .links) size (lookup s (net .names) one) (lookup s (net .names) two))
     unfolding linkStep
     link-right is size = by (lookup s (net .names) one) (finds s one (net .names)) (lookup s (net .names) two) (finds s two (net .names))
       where
         either : (v w : ℕ) → Named s (net .names) one v → Named s (net .names) two w
-            → (t : Bool) → eqb (joined (net .links) v w) 1 ≡ t → Right (cond t (Refused 7) (Link v w size))
-        either v w p q true z = already-joined h d is v w p q (joined-iff (net .links) v w .0 (eqb-true _ _ z))
+            → (t : Bool) → eqb (joined (net .links) v w) 1 ≡ t → Right (cond t (Refused 7 k) (Link v w size))
+        either v w p q true z = (refl, already-joined h d is v w p q (joined-iff (net .links) v w .0 (eqb-true _ _ z)))
         either v w p q false z = tt
 
-        by : (u : Found) → Finds s (net .names) one u → (w : Found) → Finds s (net .names) two w → Right (linkStep (net .links) size u w)
-        by Absent p w q = not-given h d is (inl p)
-        by (At v) p Absent q = not-given h d is (inr q)
+        by : (u : Found) → Finds s (net .names) one u → (w : Found) → Finds s (net .names) two w → Right (linkStep k (net .links) size u w)
+        by Absent p w q = (refl, not-given h d is (inl p))
+        by (At v) p Absent q = (refl, not-given h d is (inr q))
         by (At v) p (At w) q = either v w p q (eqb (joined (net .links) v w) 1) refl
 
-    record-right : (w : Line) → kind (ed .size) (lineAt s at) ≡ w → Tells (ed .size) (lineAt s at) w → Right (recordStep ed s net at w)
+    record-right : (w : Line) → kind (ed .size) (lineAt s at) ≡ w → Tells (ed .size) (lineAt s at) w → Right (recordStep ed s net k at w)
     unfolding recordStep
-    record-right line.Heading is form = second-heading h d form
+    record-right line.Heading is form = (refl, second-heading h d form)
     record-right (line.Site a e) is form =
-        subst (λ w. Right (recordStep ed s net at w)) (sym (form .2))
+        subst (λ w. Right (recordStep ed s net k at w)) (sym (form .2))
         (site-right (form .1) (firstName s at) (a-site-is-looked-up-by-field-1 s at (form .1)))
     record-right (line.Link a e b f size) is form =
         let g = form .1 .link in
-        subst (λ w. Right (recordStep ed s net at w)) (sym (form .2))
+        subst (λ w. Right (recordStep ed s net k at w)) (sym (form .2))
         (rw (a-link-is-looked-up-by-field-1 s at g, a-link-is-looked-up-by-field-2 s at g) (link-right (form .1) _))
     record-right (line.Fault n) is form = ⊎-elim
-        (λ z. rw z (wrong-form h d (fault-2-is-the-wrong-form (ed .size) (lineAt s at) .0 (rw z at is))))
-        (λ z. rw z (too-large h d (fault-3-is-too-large (ed .size) (lineAt s at) .0 (rw z at is))))
+        (λ z. (refl, rw z (wrong-form h d (fault-2-is-the-wrong-form (ed .size) (lineAt s at) .0 (rw z at is)))))
+        (λ z. (refl, rw z (too-large h d (fault-3-is-too-large (ed .size) (lineAt s at) .0 (rw z at is)))))
         (fault-numbers (ed .size) (lineAt s at) n is)
 
   heading-right : Ended s at → k ≡ 1 → (w : Line) → Tells (ed .size) (lineAt s at) w → Right (headingStep w)
   unfolding headingStep
   heading-right h e line.Heading form = tt
-  heading-right h e (line.Site a b) form = no-heading h e (form .0)
-  heading-right h e (line.Link a b c d size) form = no-heading h e (form .0)
-  heading-right h e (line.Fault n) form = no-heading h e form
+  heading-right h e (line.Site a b) form = (sym e, no-heading h e (form .0))
+  heading-right h e (line.Link a b c d size) form = (sym e, no-heading h e (form .0))
+  heading-right h e (line.Fault n) form = (sym e, no-heading h e form)
 
   step-right : Right (stepOf ed s net k at)
   unfolding stepOf
@@ -161,8 +161,8 @@ module _ (ed : Edition) (s : List ℕ) (net : Network) (k at : ℕ) where
       by (ltb (at + lineLength (drop at s)) (length s)) refl (eqb k 1) refl (kind (ed .size) (lineAt s at)) refl (a-kind-tells-its-form (ed .size) (lineAt s at))
     where
       by : (t : Bool) → ltb (at + lineLength (drop at s)) (length s) ≡ t → (u : Bool) → eqb k 1 ≡ u → (w : Line) → kind (ed .size) (lineAt s at) ≡ w
-          → Tells (ed .size) (lineAt s at) w → Right (cond t (cond u (headingStep w) (recordStep ed s net at w)) (Refused 2))
-      by false e u f w is form = unended (λ h. omega (arith, ltb-false (at + lineLength (drop at s)) (length s) e, length-of-line s at))
+          → Tells (ed .size) (lineAt s at) w → Right (cond t (cond u (headingStep w) (recordStep ed s net k at w)) (Refused 2 k))
+      by false e u f w is form = (refl, unended (λ h. omega (arith, ltb-false (at + lineLength (drop at s)) (length s) e, length-of-line s at)))
       by true e true f w is form =
           heading-right (omega (arith, ltb-true (at + lineLength (drop at s)) (length s) e, length-of-line s at)) (eqb-true k 1 f) w form
       by true e false f w is form =
@@ -172,37 +172,37 @@ module _ (ed : Edition) (s : List ℕ) (net : Network) (k at : ℕ) where
   unfolding readLine
   a-refused-line-has-its-cause n m = by (stepOf ed s net k at) step-right
     where
-      by : (w : Step) → Right w → added net k w ≡ refused n m → (m ≡ k) × Cause ed s net k at n
+      by : (w : Step) → Right w → added net w ≡ refused n m → (m ≡ k) × Cause ed s net k at n
       by Nothing h e = contradiction cc
       by (Site a b) h e = contradiction cc
       by (Link a b size) h e = contradiction cc
-      by (Refused i) h e = let same : i ≡ n = cc in (cc, rw (← same) h)
+      by (Refused i j) h e = let same : i ≡ n = cc in let here : j ≡ m = cc in (sym here ∙ h .0, rw (← same) (h .1))
 
 -- ---- a cause refuses its line
 
 module _ (ed : Edition) (s : List ℕ) (net : Network) (k at : ℕ) where
-  other-first-line : (w : Line) → w ≢ line.Heading → headingStep w ≡ Refused 2
+  other-first-line : (w : Line) → w ≢ line.Heading → headingStep w ≡ Refused 2 1
   unfolding headingStep
   other-first-line line.Heading d = absurd (d refl)
   other-first-line (line.Site a e) d = refl
   other-first-line (line.Link a e b f size) d = refl
   other-first-line (line.Fault n) d = refl
 
-  link-to-none : (size : ℕ) (u w : Found) → (u ≡ Absent) ⊎ (w ≡ Absent) → linkStep (net .links) size u w ≡ Refused 6
+  link-to-none : (size : ℕ) (u w : Found) → (u ≡ Absent) ⊎ (w ≡ Absent) → linkStep k (net .links) size u w ≡ Refused 6 k
   unfolding linkStep
   link-to-none size Absent w o = refl
   link-to-none size (At a) Absent o = refl
   link-to-none size (At a) (At b) o = contradiction (⊎-elim (λ e. cc) (λ e. cc) o)
 
   -- a later line, by its kind
-  later : Ended s at → k ≢ 1 → (w : Line) → kind (ed .size) (lineAt s at) ≡ w → stepOf ed s net k at ≡ recordStep ed s net at w
-  later h d w is = later-step ed s net k at h d ∙ ap (recordStep ed s net at) is
+  later : Ended s at → k ≢ 1 → (w : Line) → kind (ed .size) (lineAt s at) ≡ w → stepOf ed s net k at ≡ recordStep ed s net k at w
+  later h d w is = later-step ed s net k at h d ∙ ap (recordStep ed s net k at) is
 
-  step-of-a-cause : Sound ed s net → (n : ℕ) → Cause ed s net k at n → stepOf ed s net k at ≡ Refused n
+  step-of-a-cause : Sound ed s net → (n : ℕ) → Cause ed s net k at n → stepOf ed s net k at ≡ Refused n k
   unfolding recordStep siteStep linkStep
   step-of-a-cause sound n (unended h) = unended-step ed s net k at (omega arith)
   step-of-a-cause sound n (no-heading h e other) =
-      first-step ed s net k at h e ∙ other-first-line (kind (ed .size) (lineAt s at)) (no-heading-by-its-form (ed .size) (lineAt s at) other)
+      first-step ed s net k at h e ∙ other-first-line (kind (ed .size) (lineAt s at)) (no-heading-by-its-form (ed .size) (lineAt s at) other) ∙ ap (Refused 2) (sym e)
   step-of-a-cause sound n (second-heading h d is) = later h d _ (a-heading-by-its-form (ed .size) (lineAt s at) is)
   step-of-a-cause sound n (wrong-form h d is) = later h d _ (fault-2-is-the-wrong-form (ed .size) (lineAt s at) .1 is)
   step-of-a-cause sound n (too-large h d is) = later h d _ (fault-3-is-too-large (ed .size) (lineAt s at) .1 is)

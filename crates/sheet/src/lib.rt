@@ -73,7 +73,7 @@ fn read_lines(sheet: &[u8], edition: Edition) -> Reading
     let mut labels = tree_labels::own_labels();
     let mut at = 0;
     let mut number = 1;
-    while at < sheet.len() {
+    while text_lines::has_line(sheet, at) {
         let line = text_lines::line(sheet, at);
         let step = stepping::step_at(
             edition,
@@ -87,12 +87,11 @@ fn read_lines(sheet: &[u8], edition: Edition) -> Reading
             number,
             at,
         );
-        at = at + line.len() + 1;
-        let here = number;
+        at = text_lines::rest(sheet, at + line.len());
         number += 1;
         match step {
-            Step::Refused(n) => {
-                return refusal(n, here);
+            Step::Refused { number: n, line } => {
+                return refusal(n, line);
             }
             Step::Nothing => {}
             Step::Site { start, end } => {
