@@ -119,11 +119,15 @@ readSheet ed s =
 
 -- ---- names by number
 
--- the bytes of the name of site k (01: the bytes of its own `N` line); none for a number without a site, or over a sheet that is refused
-unfoldable pub nameIn : List ℕ → ℕ → Read → List ℕ
-nameIn s k (refused n l) = []
-nameIn s zero (accepted net) = []
-nameIn s (suc k) (accepted net) = part s (getD (net .names) k (0, 0))
+-- the range of the name of site k (01: the bytes of its own `N` line); an empty one for a number without a site, or over a sheet that is refused
+unfoldable pub rangeIn : ℕ → Read → ℕ × ℕ
+rangeIn k (refused n l) = (0, 0)
+rangeIn zero (accepted net) = (0, 0)
+rangeIn (suc k) (accepted net) = getD (net .names) k (0, 0)
 
-unfoldable pub nameOf : Edition → List ℕ → ℕ → List ℕ
-nameOf ed s k = nameIn s k (readSheet ed s)
+unfoldable pub nameRange : Edition → List ℕ → ℕ → ℕ × ℕ
+nameRange ed s k = rangeIn k (readSheet ed s)
+
+-- the bytes of that name
+abbrev pub nameOf : Edition → List ℕ → ℕ → List ℕ
+nameOf ed s k = part s (nameRange ed s k)
