@@ -14,14 +14,13 @@ use Rattle.model.specs.Flows.{Site, relabel}
 use Rattle.model.specs.declared.Edition.{Edition}
 use Rattle.tree_labels.specs.Labels.{linked, whole}
 use Rattle.tree_labels.specs.LabelPlaces.{linked-sites, whole-sites}
-use Rattle.text_lines.specs.Lines.{lineAt, afterLine}
-use Rattle.text_lines.specs.LineLaws.{length-of-line}
+use Rattle.text_lines.specs.Lines.{afterLine}
 use Rattle.sheet_names.specs.Names.{part, ranges, hash, entered, Indexes}
 use Rattle.sheet_names.specs.TableLaws.{no-sites, site-entered}
 use Rattle.sheet.specs.Sheet.{Network, empty, refused, accepted, stepOf, added, readLine, readLines, andThen, finish}
 use Rattle.sheet.specs.Reading.{padded, lists, reading}
 use Rattle.sheet.specs.Sound.{Sound, Accepts, none-is-sound, a-line-keeps-sound, links-are-few}
-use Rattle.sheet.specs.ReadLaws.{lines-end, lines-step, read-line-is-ended}
+use Rattle.sheet.specs.ReadLaws.{lines-end, lines-step}
 use Rattle.sheet.specs.Held.{labels, Held}
 use Rattle.sheet.specs.ListLaws.{padded-more, names-are}
 use Rattle.sheet.specs.LabelLaws.{own-labels, length-labels, labels-join, alike-tells}
@@ -113,24 +112,21 @@ module _ {ed : Edition} {s table marks : List ℕ} {net : Lists} {at number : �
 
   module _ (w : Step) (h : at < length s) (e : w ≡ stepOf ed s (P .read) number at) where
     -- the step reads the line
-    line-is : readLine ed s (P .read) number at ≡ added (P .read) number w
+    line-is : readLine ed s (P .read) number at ≡ added (P .read) w
     unfolding readLine
-    line-is = ap (added (P .read) number) (sym e)
+    line-is = ap (added (P .read)) (sym e)
 
     -- the network after a line is sound
-    sound-next : (next : Network) → added (P .read) number w ≡ accepted next → Sound ed s next
+    sound-next : (next : Network) → added (P .read) w ≡ accepted next → Sound ed s next
     sound-next next q = subst (Accepts (Sound ed s)) (line-is ∙ q) (a-line-keeps-sound ed s (P .read) number (P .sound) at (P .on-sheet))
 
     -- and the lines left go on from it
-    on : (next : Network) → added (P .read) number w ≡ accepted next → (after : Lists) → after ≡ lists next → (entries : List ℕ)
+    on : (next : Network) → added (P .read) w ≡ accepted next → (after : Lists) → after ≡ lists next → (entries : List ℕ)
         → Indexes s (next .names) entries
-        → (joined : List ℕ) → joined ≡ labels PLACES (reverse (next .links)) → Progress ed s after entries joined (at + length (lineAt s at) + 1) (number + 1)
+        → (joined : List ℕ) → joined ≡ labels PLACES (reverse (next .links)) → Progress ed s after entries joined (afterLine s at) (number + 1)
     unfolding afterLine andThen
     on next q after l entries t joined m =
         let read = line-is ∙ q in
-        let ended = read-line-is-ended ed s number at (P .read) next read in
-        let long = length-of-line s at in
-        let past : afterLine s at ≡ at + length (lineAt s at) + 1 = omega arith in
         record {
           fits = P .fits;
           read = next;
@@ -140,24 +136,24 @@ module _ {ed : Edition} {s table marks : List ℕ} {net : Lists} {at number : �
           sound = sound-next next q;
           on-sheet = omega arith;
           numbered = omega (arith, P .numbered);
-          rest = P .rest ∙ lines-step ed s number at (P .read) h ∙ rw (read, past, add-one number);
+          rest = P .rest ∙ lines-step ed s number at (P .read) h ∙ rw (read, add-one number);
         }
 
     -- a heading leaves the lists as they are
-    pub by-heading : w ≡ step.Nothing → Progress ed s net table marks (at + length (lineAt s at) + 1) (number + 1)
-    by-heading q = on (P .read) (ap (added (P .read) number) q) net (P .lists-are) table (P .indexed) marks (P .labels-are)
+    pub by-heading : w ≡ step.Nothing → Progress ed s net table marks (afterLine s at) (number + 1)
+    by-heading q = on (P .read) (ap (added (P .read)) q) net (P .lists-are) table (P .indexed) marks (P .labels-are)
 
     -- a site takes the next place of the names
     pub site-fits : (a b : ℕ) → w ≡ step.Site a b → net .sites < SITES
-    site-fits a b q = omega (arith, sites-are, sound-next _ (ap (added (P .read) number) q) .few, length-append (P .read .names) ((a, b) ∷ []))
+    site-fits a b q = omega (arith, sites-are, sound-next _ (ap (added (P .read)) q) .few, length-append (P .read .names) ((a, b) ∷ []))
 
     pub by-site : (a b : ℕ) → w ≡ step.Site a b → (entries : List ℕ) → entries ≡ entered table (hash (part s (a, b))) (net .sites + 1)
-        → Progress ed s (withSite net a b) entries marks (at + length (lineAt s at) + 1) (number + 1)
+        → Progress ed s (withSite net a b) entries marks (afterLine s at) (number + 1)
     unfolding lists
     by-site a b q entries e =
         let names = P .read .names in
         let room : length names < SITES = omega (arith, sites-are, site-fits a b q) in
-        on (record { names = names ++ ((a, b) ∷ []); links = P .read .links; capacities = P .read .capacities }) (ap (added (P .read) number) q) _
+        on (record { names = names ++ ((a, b) ∷ []); links = P .read .links; capacities = P .read .capacities }) (ap (added (P .read)) q) _
         (rw (P .lists-are, placed (λ r. r .0) names (a, b) room, placed (λ r. r .1) names (a, b) room, length-append names ((a, b) ∷ [])))
         entries (rw (e, sites-are) (site-entered (P .indexed) (a, b)))
         marks (P .labels-are)
@@ -169,12 +165,12 @@ module _ {ed : Edition} {s table marks : List ℕ} {net : Lists} {at number : �
     pub link-fits : (a b size : ℕ) → w ≡ step.Link a b size → (net .links < SITES) × (a < PLACES) × (b < PLACES)
     link-fits a b size q =
         let are-sites : Site (length (P .read .names)) a × Site (length (P .read .names)) b
-        = rw (link-behind a b) at (sound-next _ (ap (added (P .read) number) q) .ends) 0 (omega arith) in
+        = rw (link-behind a b) at (sound-next _ (ap (added (P .read)) q) .ends) 0 (omega arith) in
         let few = P .sound .few in
         omega (arith, links-are, links-are-few (P .sound) (omega arith))
 
     pub by-link : (a b size : ℕ) → w ≡ step.Link a b size → (joined : List ℕ) → joined ≡ linked marks a b
-        → Progress ed s (withLink net a b size) table joined (at + length (lineAt s at) + 1) (number + 1)
+        → Progress ed s (withLink net a b size) table joined (afterLine s at) (number + 1)
     unfolding lists
     by-link a b size q joined e =
         let ls = P .read .links in
@@ -183,7 +179,7 @@ module _ {ed : Edition} {s table marks : List ℕ} {net : Lists} {at number : �
         let room : length ls < SITES = omega (arith, links-are) in
         let sized : set (padded SITES cs) (length ls) size ≡ padded SITES (cs ++ (size ∷ []))
         = rw (← (P .sound .capacities)) (padded-more SITES cs size (omega (arith, P .sound .capacities))) in
-        on (record { names = P .read .names; links = ls ++ ((a, b) ∷ []); capacities = cs ++ (size ∷ []) }) (ap (added (P .read) number) q) _
+        on (record { names = P .read .names; links = ls ++ ((a, b) ∷ []); capacities = cs ++ (size ∷ []) }) (ap (added (P .read)) q) _
         (rw (P .lists-are, placed (λ l. l .0) ls (a, b) room, placed (λ l. l .1) ls (a, b) room, sized, length-append ls ((a, b) ∷ [])))
         table (P .indexed)
         joined
@@ -191,9 +187,9 @@ module _ {ed : Edition} {s table marks : List ℕ} {net : Lists} {at number : �
         ∙ labels-join PLACES a b (reverse ls) (fits .1) (fits .2) ∙ ap (labels PLACES) (sym (link-behind a b)))
 
     -- a refused line decides
-    pub by-refusal : (n : ℕ) → w ≡ step.Refused n → andThen (readLines ed s (length s) 1 0 empty) finish ≡ refused n number
+    pub by-refusal : (n l : ℕ) → w ≡ step.Refused n l → andThen (readLines ed s (length s) 1 0 empty) finish ≡ refused n l
     unfolding andThen
-    by-refusal n q = rw (P .rest, lines-step ed s number at (P .read) h, line-is, q)
+    by-refusal n l q = rw (P .rest, lines-step ed s number at (P .read) h, line-is, q)
 
   -- ---- after the last line
 

@@ -2,7 +2,7 @@
 use mathlib.Core.Bool.{Bool, true, false, cond}
 use mathlib.Core.List.{List}
 use mathlib.Core.Logic.{_⊎_, inl, inr, ⊎-elim, _≢_}
-use mathlib.Core.Path.{_≡_, refl, sym, ap, _∙_}
+use mathlib.Core.Path.{_≡_, refl, sym, ap, subst, _∙_}
 use Prim.Native.Nat.{ℕ, _+_, _-_, _<_}
 use native.Mathlib.Decide.{decLt}
 use native.Mathlib.Omega.{arith}
@@ -15,8 +15,11 @@ use Rattle.lists.specs.Sums.{same?, cases, contradiction}
 use Rattle.theory_trees.specs.Labels.{joined-iff}
 use Rattle.text_lines.specs.Lines.{lineLength, lineAt}
 use Rattle.text_lines.specs.LineLaws.{length-of-line}
-use Rattle.sheet_kinds.specs.LineKinds.{kind}
-use Rattle.sheet_kinds.specs.FaultyLines.{fault-numbers}
+use Rattle.sheet_kinds.specs.LineKinds.{field, IsSite, IsLink, kind}
+use Rattle.sheet_kinds.specs.FaultyLines.{fault-numbers, fault-2-is-the-wrong-form, fault-3-is-too-large}
+use Rattle.sheet_kinds.specs.FormedLines.{site-is-formed, link-is-formed}
+use Rattle.sheet_kinds.specs.KindForms.{LinkWithin, Tells, a-kind-tells-its-form, a-heading-by-its-form, no-heading-by-its-form, a-site-by-its-form}
+use Rattle.sheet_kinds.specs.KindForms.{a-link-by-its-form, site-name-is-field-1, link-name-is-field-1, link-name-is-field-2}
 use Rattle.sheet_kinds.specs.declared.Line.{Line}
 use Rattle.sheet_kinds.specs.declared.Line.the-variants as line
 use Rattle.sheet.specs.Sheet.{Network, refused, part, lookup, siteBy, siteStep, linkStep, headingStep, recordStep, stepOf, added, readLine}
@@ -24,9 +27,9 @@ use Rattle.sheet.specs.StepCases.{unended-step, first-step, later-step}
 use Rattle.sheet.specs.declared.stepping.Step.{Step}
 use Rattle.sheet.specs.declared.stepping.Step.the-variants.{Nothing, Site, Link, Refused}
 use Rattle.sheet_names.specs.LookupLaws.{Says, lookup-says}
-use Rattle.sheet.specs.Sound.{Sound}
+use Rattle.sheet.specs.Sound.{Sound, part-of-line}
 use Rattle.sheet.specs.Causes.{Named, NotGiven, Ended, Cause, unended, no-heading, second-heading, wrong-form, too-large, too-many, given, not-given}
-use Rattle.sheet.specs.Causes.{already-joined}
+use Rattle.sheet.specs.Causes.{already-joined, fieldsAt}
 use Rattle.sheet_names.specs.declared.Found.{Found}
 use Rattle.sheet_names.specs.declared.Found.the-variants.{At, Absent}
 
@@ -63,122 +66,164 @@ module _ (ed : Edition) (s : List ℕ) (net : Network) (sound : Sound ed s net) 
       by (At u) h = same? u v (λ e. ap At e) (λ d. absurd (⊎-elim (one-site f u v h n) (one-site f v u n h) (cases (decLt u v) inl (λ n. inr (omega arith)))))
       by Absent h = absurd (h v n)
 
+-- ---- names on a line
+
+module _ (s : List ℕ) (at : ℕ) where
+  -- where the names of a site line and of a link line stand on the sheet
+  abbrev pub firstName : ℕ × ℕ
+  firstName = (at + 2, at + (2 + length (field (fieldsAt s at) 1)))
+
+  abbrev pub secondName : ℕ × ℕ
+  secondName = let a = length (field (fieldsAt s at) 1) in (at + (3 + a), at + (3 + a + length (field (fieldsAt s at) 2)))
+
+  -- the part of the sheet that is looked up is that field
+  pub a-site-is-looked-up-by-field-1 : IsSite (fieldsAt s at) → part s firstName ≡ field (fieldsAt s at) 1
+  a-site-is-looked-up-by-field-1 h =
+      let f = site-is-formed (lineAt s at) 0 h in
+      part-of-line s at _ _ (f .0) (f .1) ∙ site-name-is-field-1 (lineAt s at) h
+
+  pub a-link-is-looked-up-by-field-1 : IsLink (fieldsAt s at) → part s firstName ≡ field (fieldsAt s at) 1
+  a-link-is-looked-up-by-field-1 h =
+      let f = link-is-formed (lineAt s at) 0 h 0 (omega arith) in
+      part-of-line s at _ _ (f .0) (f .1) ∙ link-name-is-field-1 (lineAt s at) h
+
+  pub a-link-is-looked-up-by-field-2 : IsLink (fieldsAt s at) → part s secondName ≡ field (fieldsAt s at) 2
+  a-link-is-looked-up-by-field-2 h =
+      let f = link-is-formed (lineAt s at) 0 h 0 (omega arith) in
+      part-of-line s at _ _ (f .2) (f .3) ∙ link-name-is-field-2 (lineAt s at) h
+
 -- ---- a refused line has a cause
 
 module _ (ed : Edition) (s : List ℕ) (net : Network) (k at : ℕ) where
-  -- a refusal has its cause
+  -- a refusal is at its line and has its cause
   abbrev Right : Step → Type 0
   Right Nothing = Unit {0}
   Right (Site a e) = Unit {0}
   Right (Link a b size) = Unit {0}
-  Right (Refused n) = Cause ed s net k at n
+  Right (Refused n m) = (m ≡ k) × Cause ed s net k at n
+
+  -- the names of the line, as fields
+  abbrev one : List ℕ
+  one = field (fieldsAt s at) 1
+
+  abbrev two : List ℕ
+  two = field (fieldsAt s at) 2
 
   module _ (h : Ended s at) (d : k ≢ 1) where
-    site-right : (a e : ℕ) → kind (ed .size) (lineAt s at) ≡ line.Site a e
-        → Right (siteStep ed (length (net .names)) (at + a, at + e) (lookup s (net .names) (part s (at + a, at + e))))
+    site-right : IsSite (fieldsAt s at) → (r : ℕ × ℕ) → part s r ≡ one → Right (siteStep ed k (length (net .names)) r (lookup s (net .names) (part s r)))
     unfolding siteStep
-    site-right a e is =
-        by (leb (ed .sites) (length (net .names))) refl (lookup s (net .names) (part s (at + a, at + e))) (finds s (part s (at + a, at + e)) (net .names))
+    site-right is r at-one = rw at-one (by (leb (ed .sites) (length (net .names))) refl (lookup s (net .names) one) (finds s one (net .names)))
       where
-        by : (t : Bool) → leb (ed .sites) (length (net .names)) ≡ t → (w : Found) → Finds s (net .names) (part s (at + a, at + e)) w
-            → Right (cond t (Refused 4) (siteBy (at + a, at + e) w))
-        by true q w f = too-many h d a e is (leb-true _ _ q)
-        by false q (At v) f = given h d a e is (leb-false _ _ q) v f
+        by : (t : Bool) → leb (ed .sites) (length (net .names)) ≡ t → (w : Found) → Finds s (net .names) one w → Right (cond t (Refused 4 k) (siteBy k r w))
+        by true q w f = (refl, too-many h d is (leb-true _ _ q))
+        by false q (At v) f = (refl, given h d is (leb-false _ _ q) v f)
         by false q Absent f = tt
 
-    link-right : (a e b f size : ℕ) → kind (ed .size) (lineAt s at) ≡ line.Link a e b f size
-        → Right (linkStep (net .links) size (lookup s (net .names) (part s (at + a, at + e))) (lookup s (net .names) (part s (at + b, at + f))))
+    link-right : LinkWithin (ed .size) (lineAt s at) → (size : ℕ) → Right (linkStep k (net .links) size (lookup s (net .names) one) (lookup s (net .names) two))
     unfolding linkStep
-    link-right a e b f size is =
-        by (lookup s (net .names) (part s (at + a, at + e))) (finds s (part s (at + a, at + e)) (net .names))
-        (lookup s (net .names) (part s (at + b, at + f))) (finds s (part s (at + b, at + f)) (net .names))
+    link-right is size = by (lookup s (net .names) one) (finds s one (net .names)) (lookup s (net .names) two) (finds s two (net .names))
       where
-        either : (v w : ℕ) → Named s (net .names) (part s (at + a, at + e)) v → Named s (net .names) (part s (at + b, at + f)) w
-            → (t : Bool) → eqb (joined (net .links) v w) 1 ≡ t → Right (cond t (Refused 7) (Link v w size))
-        either v w p q true z = already-joined h d a e b f size is v w p q (joined-iff (net .links) v w .0 (eqb-true _ _ z))
+        either : (v w : ℕ) → Named s (net .names) one v → Named s (net .names) two w
+            → (t : Bool) → eqb (joined (net .links) v w) 1 ≡ t → Right (cond t (Refused 7 k) (Link v w size))
+        either v w p q true z = (refl, already-joined h d is v w p q (joined-iff (net .links) v w .0 (eqb-true _ _ z)))
         either v w p q false z = tt
 
-        by : (u : Found) → Finds s (net .names) (part s (at + a, at + e)) u → (w : Found) → Finds s (net .names) (part s (at + b, at + f)) w
-            → Right (linkStep (net .links) size u w)
-        by Absent p w q = not-given h d a e b f size is (inl p)
-        by (At v) p Absent q = not-given h d a e b f size is (inr q)
+        by : (u : Found) → Finds s (net .names) one u → (w : Found) → Finds s (net .names) two w → Right (linkStep k (net .links) size u w)
+        by Absent p w q = (refl, not-given h d is (inl p))
+        by (At v) p Absent q = (refl, not-given h d is (inr q))
         by (At v) p (At w) q = either v w p q (eqb (joined (net .links) v w) 1) refl
 
-    record-right : (w : Line) → kind (ed .size) (lineAt s at) ≡ w → Right (recordStep ed s net at w)
+    record-right : (w : Line) → kind (ed .size) (lineAt s at) ≡ w → Tells (ed .size) (lineAt s at) w → Right (recordStep ed s net k at w)
     unfolding recordStep
-    record-right line.Heading is = second-heading h d is
-    record-right (line.Site a e) is = site-right a e is
-    record-right (line.Link a e b f size) is = link-right a e b f size is
-    record-right (line.Fault n) is = ⊎-elim
-        (λ z. rw z (wrong-form h d (rw z at is)))
-        (λ z. rw z (too-large h d (rw z at is)))
+    record-right line.Heading is form = (refl, second-heading h d form)
+    record-right (line.Site a e) is form =
+        subst (λ w. Right (recordStep ed s net k at w)) (sym (form .2))
+        (site-right (form .1) (firstName s at) (a-site-is-looked-up-by-field-1 s at (form .1)))
+    record-right (line.Link a e b f size) is form =
+        let g = form .1 .link in
+        subst (λ w. Right (recordStep ed s net k at w)) (sym (form .2))
+        (rw (a-link-is-looked-up-by-field-1 s at g, a-link-is-looked-up-by-field-2 s at g) (link-right (form .1) _))
+    record-right (line.Fault n) is form = ⊎-elim
+        (λ z. (refl, rw z (wrong-form h d (fault-2-is-the-wrong-form (ed .size) (lineAt s at) .0 (rw z at is)))))
+        (λ z. (refl, rw z (too-large h d (fault-3-is-too-large (ed .size) (lineAt s at) .0 (rw z at is)))))
         (fault-numbers (ed .size) (lineAt s at) n is)
 
-  heading-right : Ended s at → k ≡ 1 → (w : Line) → kind (ed .size) (lineAt s at) ≡ w → Right (headingStep w)
+  heading-right : Ended s at → k ≡ 1 → (w : Line) → Tells (ed .size) (lineAt s at) w → Right (headingStep w)
   unfolding headingStep
-  heading-right h e line.Heading is = tt
-  heading-right h e (line.Site a b) is = no-heading h e (λ z. contradiction cc)
-  heading-right h e (line.Link a b c d size) is = no-heading h e (λ z. contradiction cc)
-  heading-right h e (line.Fault n) is = no-heading h e (λ z. contradiction cc)
+  heading-right h e line.Heading form = tt
+  heading-right h e (line.Site a b) form = (sym e, no-heading h e (form .0))
+  heading-right h e (line.Link a b c d size) form = (sym e, no-heading h e (form .0))
+  heading-right h e (line.Fault n) form = (sym e, no-heading h e form)
 
   step-right : Right (stepOf ed s net k at)
   unfolding stepOf
-  step-right = by (ltb (at + lineLength (drop at s)) (length s)) refl (eqb k 1) refl (kind (ed .size) (lineAt s at)) refl
+  step-right =
+      by (ltb (at + lineLength (drop at s)) (length s)) refl (eqb k 1) refl (kind (ed .size) (lineAt s at)) refl (a-kind-tells-its-form (ed .size) (lineAt s at))
     where
       by : (t : Bool) → ltb (at + lineLength (drop at s)) (length s) ≡ t → (u : Bool) → eqb k 1 ≡ u → (w : Line) → kind (ed .size) (lineAt s at) ≡ w
-          → Right (cond t (cond u (headingStep w) (recordStep ed s net at w)) (Refused 2))
-      by false e u f w is = unended (λ h. omega (arith, ltb-false (at + lineLength (drop at s)) (length s) e, length-of-line s at))
-      by true e true f w is = heading-right (omega (arith, ltb-true (at + lineLength (drop at s)) (length s) e, length-of-line s at)) (eqb-true k 1 f) w is
-      by true e false f w is = record-right (omega (arith, ltb-true (at + lineLength (drop at s)) (length s) e, length-of-line s at)) (eqb-false k 1 f) w is
+          → Tells (ed .size) (lineAt s at) w → Right (cond t (cond u (headingStep w) (recordStep ed s net k at w)) (Refused 2 k))
+      by false e u f w is form = (refl, unended (λ h. omega (arith, ltb-false (at + lineLength (drop at s)) (length s) e, length-of-line s at)))
+      by true e true f w is form =
+          heading-right (omega (arith, ltb-true (at + lineLength (drop at s)) (length s) e, length-of-line s at)) (eqb-true k 1 f) w form
+      by true e false f w is form =
+          record-right (omega (arith, ltb-true (at + lineLength (drop at s)) (length s) e, length-of-line s at)) (eqb-false k 1 f) w is form
 
   pub a-refused-line-has-its-cause : (n m : ℕ) → readLine ed s net k at ≡ refused n m → (m ≡ k) × Cause ed s net k at n
   unfolding readLine
   a-refused-line-has-its-cause n m = by (stepOf ed s net k at) step-right
     where
-      by : (w : Step) → Right w → added net k w ≡ refused n m → (m ≡ k) × Cause ed s net k at n
+      by : (w : Step) → Right w → added net w ≡ refused n m → (m ≡ k) × Cause ed s net k at n
       by Nothing h e = contradiction cc
       by (Site a b) h e = contradiction cc
       by (Link a b size) h e = contradiction cc
-      by (Refused i) h e = let same : i ≡ n = cc in (cc, rw (← same) h)
+      by (Refused i j) h e = let same : i ≡ n = cc in let here : j ≡ m = cc in (sym here ∙ h .0, rw (← same) (h .1))
 
 -- ---- a cause refuses its line
 
 module _ (ed : Edition) (s : List ℕ) (net : Network) (k at : ℕ) where
-  other-first-line : (w : Line) → w ≢ line.Heading → headingStep w ≡ Refused 2
+  other-first-line : (w : Line) → w ≢ line.Heading → headingStep w ≡ Refused 2 1
   unfolding headingStep
   other-first-line line.Heading d = absurd (d refl)
   other-first-line (line.Site a e) d = refl
   other-first-line (line.Link a e b f size) d = refl
   other-first-line (line.Fault n) d = refl
 
-  link-to-none : (size : ℕ) (u w : Found) → (u ≡ Absent) ⊎ (w ≡ Absent) → linkStep (net .links) size u w ≡ Refused 6
+  link-to-none : (size : ℕ) (u w : Found) → (u ≡ Absent) ⊎ (w ≡ Absent) → linkStep k (net .links) size u w ≡ Refused 6 k
   unfolding linkStep
   link-to-none size Absent w o = refl
   link-to-none size (At a) Absent o = refl
   link-to-none size (At a) (At b) o = contradiction (⊎-elim (λ e. cc) (λ e. cc) o)
 
   -- a later line, by its kind
-  later : Ended s at → k ≢ 1 → (w : Line) → kind (ed .size) (lineAt s at) ≡ w → stepOf ed s net k at ≡ recordStep ed s net at w
-  later h d w is = later-step ed s net k at h d ∙ ap (recordStep ed s net at) is
+  later : Ended s at → k ≢ 1 → (w : Line) → kind (ed .size) (lineAt s at) ≡ w → stepOf ed s net k at ≡ recordStep ed s net k at w
+  later h d w is = later-step ed s net k at h d ∙ ap (recordStep ed s net k at) is
 
-  step-of-a-cause : Sound ed s net → (n : ℕ) → Cause ed s net k at n → stepOf ed s net k at ≡ Refused n
+  step-of-a-cause : Sound ed s net → (n : ℕ) → Cause ed s net k at n → stepOf ed s net k at ≡ Refused n k
   unfolding recordStep siteStep linkStep
   step-of-a-cause sound n (unended h) = unended-step ed s net k at (omega arith)
-  step-of-a-cause sound n (no-heading h e d) = first-step ed s net k at h e ∙ other-first-line (kind (ed .size) (lineAt s at)) d
-  step-of-a-cause sound n (second-heading h d is) = later h d _ is
-  step-of-a-cause sound n (wrong-form h d is) = later h d _ is
-  step-of-a-cause sound n (too-large h d is) = later h d _ is
-  step-of-a-cause sound n (too-many h d a e is l) = later h d _ is ∙ rw (le-leb _ _ l)
-  step-of-a-cause sound n (given h d a e is l v f) = later h d _ is ∙ rw (lt-leb _ _ l, found-is-named ed s net sound (part s (at + a, at + e)) v f)
-  step-of-a-cause sound n (not-given h d a e b f size is o) =
-      later h d _ is
-      ∙ link-to-none size (lookup s (net .names) (part s (at + a, at + e))) (lookup s (net .names) (part s (at + b, at + f)))
-      (⊎-elim (λ z. inl (absent-is-not-given s _ (net .names) z)) (λ z. inr (absent-is-not-given s _ (net .names) z)) o)
-  step-of-a-cause sound n (already-joined h d a e b f size is v w p q j) =
-      later h d _ is
+  step-of-a-cause sound n (no-heading h e other) =
+      first-step ed s net k at h e ∙ other-first-line (kind (ed .size) (lineAt s at)) (no-heading-by-its-form (ed .size) (lineAt s at) other) ∙ ap (Refused 2) (sym e)
+  step-of-a-cause sound n (second-heading h d is) = later h d _ (a-heading-by-its-form (ed .size) (lineAt s at) is)
+  step-of-a-cause sound n (wrong-form h d is) = later h d _ (fault-2-is-the-wrong-form (ed .size) (lineAt s at) .1 is)
+  step-of-a-cause sound n (too-large h d is) = later h d _ (fault-3-is-too-large (ed .size) (lineAt s at) .1 is)
+  step-of-a-cause sound n (too-many h d is l) = later h d _ (a-site-by-its-form (ed .size) (lineAt s at) is) ∙ rw (le-leb _ _ l)
+  step-of-a-cause sound n (given h d is l v f) =
+      later h d _ (a-site-by-its-form (ed .size) (lineAt s at) is)
+      ∙ rw (lt-leb _ _ l, a-site-is-looked-up-by-field-1 s at is, found-is-named ed s net sound (field (fieldsAt s at) 1) v f)
+  step-of-a-cause sound n (not-given h d is o) =
+      let one = field (fieldsAt s at) 1 in
+      let two = field (fieldsAt s at) 2 in
+      later h d _ (a-link-by-its-form (ed .size) (lineAt s at) is)
+      ∙ rw (a-link-is-looked-up-by-field-1 s at (is .link), a-link-is-looked-up-by-field-2 s at (is .link))
+      (link-to-none _ (lookup s (net .names) one) (lookup s (net .names) two)
+      (⊎-elim (λ z. inl (absent-is-not-given s one (net .names) z)) (λ z. inr (absent-is-not-given s two (net .names) z)) o))
+  step-of-a-cause sound n (already-joined h d is v w p q j) =
+      later h d _ (a-link-by-its-form (ed .size) (lineAt s at) is)
       ∙ rw (
-        found-is-named ed s net sound (part s (at + a, at + e)) v p,
-        found-is-named ed s net sound (part s (at + b, at + f)) w q,
+        a-link-is-looked-up-by-field-1 s at (is .link),
+        a-link-is-looked-up-by-field-2 s at (is .link),
+        found-is-named ed s net sound (field (fieldsAt s at) 1) v p,
+        found-is-named ed s net sound (field (fieldsAt s at) 2) w q,
         eq-eqb _ _ (joined-iff (net .links) v w .1 j),
       )
 

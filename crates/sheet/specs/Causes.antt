@@ -1,6 +1,7 @@
 -- Why a sheet is refused: the causes of document 01's table, each with its number, in the order in which they decide.
--- Document 01, "The network sheet" (what a fault 2 or 3 of a line is, `FaultyLines` tells):
+-- Document 01, "The network sheet" (the forms of lines: `isHeading`, `IsSite`, `IsLink` in LineKinds; `WrongForm`, `TooLarge` in FaultyLines):
 -- check 1 comes first, then the lowest line with a fault, in a site line 2, 4, 5, in a link line 2, 3, 6, 7; then 8.
+use mathlib.Core.Bool.{true, false}
 use mathlib.Core.List.{List}
 use mathlib.Core.Logic.{_⊎_, _≢_}
 use mathlib.Core.Path.{_≡_}
@@ -9,9 +10,10 @@ use lib.ListN.{length}
 use Rattle.model.specs.Flows.{Site, Joined}
 use Rattle.model.specs.declared.Edition.{Edition}
 use Rattle.text_lines.specs.Lines.{lineAt, afterLine}
-use Rattle.sheet_kinds.specs.LineKinds.{kind}
-use Rattle.sheet_kinds.specs.declared.Line.the-variants as line
-use Rattle.sheet.specs.Sheet.{Network, empty, accepted, part, readLine}
+use Rattle.sheet_kinds.specs.LineKinds.{fields, field, isHeading, IsSite}
+use Rattle.sheet_kinds.specs.FaultyLines.{WrongForm, TooLarge}
+use Rattle.sheet_kinds.specs.KindForms.{LinkWithin}
+use Rattle.sheet.specs.Sheet.{Network, empty, accepted, readLine}
 use Rattle.sheet_names.specs.Names.{nameAt}
 
 -- site v has the name f
@@ -27,26 +29,30 @@ NotGiven s names f = (v : ℕ) → ¬ (Named s names f v)
 abbrev pub Ended : List ℕ → ℕ → Type 0
 Ended s at = at + length (lineAt s at) < length s
 
+-- the fields of the line at an offset
+abbrev pub fieldsAt : List ℕ → ℕ → List (List ℕ)
+fieldsAt s at = fields (lineAt s at)
+
 -- why line k, at an offset, is refused, the lines above having given a network (01: the table, 2 to 7)
 pub data Cause (ed : Edition) (s : List ℕ) (net : Network) (k at : ℕ) : ℕ → Type 0 where
   -- 2: no byte 10 ends the line; line 1 is no heading; a later line is one; a later line has the wrong form
   unended : ¬ (Ended s at) → Cause ed s net k at 2
-  no-heading : Ended s at → k ≡ 1 → kind (ed .size) (lineAt s at) ≢ line.Heading → Cause ed s net k at 2
-  second-heading : Ended s at → k ≢ 1 → kind (ed .size) (lineAt s at) ≡ line.Heading → Cause ed s net k at 2
-  wrong-form : Ended s at → k ≢ 1 → kind (ed .size) (lineAt s at) ≡ line.Fault 2 → Cause ed s net k at 2
+  no-heading : Ended s at → k ≡ 1 → isHeading (fieldsAt s at) ≡ false → Cause ed s net k at 2
+  second-heading : Ended s at → k ≢ 1 → isHeading (fieldsAt s at) ≡ true → Cause ed s net k at 2
+  wrong-form : Ended s at → k ≢ 1 → WrongForm (lineAt s at) → Cause ed s net k at 2
   -- 3: a size above the limit
-  too-large : Ended s at → k ≢ 1 → kind (ed .size) (lineAt s at) ≡ line.Fault 3 → Cause ed s net k at 3
+  too-large : Ended s at → k ≢ 1 → TooLarge (ed .size) (lineAt s at) → Cause ed s net k at 3
   -- 4: a site more than the edition allows
-  too-many : Ended s at → k ≢ 1 → (a e : ℕ) → kind (ed .size) (lineAt s at) ≡ line.Site a e → ed .sites ≤ length (net .names) → Cause ed s net k at 4
+  too-many : Ended s at → k ≢ 1 → IsSite (fieldsAt s at) → ed .sites ≤ length (net .names) → Cause ed s net k at 4
   -- 5: a name already given to a site
-  given : Ended s at → k ≢ 1 → (a e : ℕ) → kind (ed .size) (lineAt s at) ≡ line.Site a e → length (net .names) < ed .sites
-      → (v : ℕ) → Named s (net .names) (part s (at + a, at + e)) v → Cause ed s net k at 5
+  given : Ended s at → k ≢ 1 → IsSite (fieldsAt s at) → length (net .names) < ed .sites
+      → (v : ℕ) → Named s (net .names) (field (fieldsAt s at) 1) v → Cause ed s net k at 5
   -- 6: a link to a name not given above
-  not-given : Ended s at → k ≢ 1 → (a e b f size : ℕ) → kind (ed .size) (lineAt s at) ≡ line.Link a e b f size
-      → NotGiven s (net .names) (part s (at + a, at + e)) ⊎ NotGiven s (net .names) (part s (at + b, at + f)) → Cause ed s net k at 6
+  not-given : Ended s at → k ≢ 1 → LinkWithin (ed .size) (lineAt s at)
+      → NotGiven s (net .names) (field (fieldsAt s at) 1) ⊎ NotGiven s (net .names) (field (fieldsAt s at) 2) → Cause ed s net k at 6
   -- 7: a link whose sites are joined by links above, or are one site (which is joined to itself)
-  already-joined : Ended s at → k ≢ 1 → (a e b f size : ℕ) → kind (ed .size) (lineAt s at) ≡ line.Link a e b f size
-      → (v w : ℕ) → Named s (net .names) (part s (at + a, at + e)) v → Named s (net .names) (part s (at + b, at + f)) w
+  already-joined : Ended s at → k ≢ 1 → LinkWithin (ed .size) (lineAt s at)
+      → (v w : ℕ) → Named s (net .names) (field (fieldsAt s at) 1) v → Named s (net .names) (field (fieldsAt s at) 2) w
       → Joined (net .links) v w → Cause ed s net k at 7
 
 -- the lines above line k are read without fault and give a network; line k starts at an offset

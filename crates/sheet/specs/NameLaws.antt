@@ -1,41 +1,41 @@
--- The name of a site by its number, as the lists of the answer give it: zeros stand for no site, and make an empty part.
+-- The range of a site's name by its number, as the lists of the answer give it: zeros stand for no site, and make an empty range.
 use mathlib.Core.List.{List, [], map}
-use mathlib.Core.Path.{_≡_, refl, ap}
+use mathlib.Core.Path.{_≡_, refl}
 use Prim.Native.Nat.{ℕ, zero, suc, _<_}
 use native.Mathlib.Omega.{arith}
 use lib.ListN.{List·getD-eq-default, List·getD-map}
 use Rattle.model.specs.Limits.{SITES}
 use Rattle.lists.specs.Numbers.{look}
 use Rattle.model.specs.declared.Edition.{Edition}
-use Rattle.sheet.specs.Sheet.{Read, refused, accepted, part, readSheet, nameIn, nameOf}
+use Rattle.sheet.specs.Sheet.{Read, refused, accepted, readSheet, rangeIn, nameRange}
 use Rattle.sheet.specs.Reading.{lists, reading}
 use Rattle.sheet.specs.ListLaws.{look-padded}
 use Rattle.sheet.specs.SheetTheorem.{an-accepted-sheet-is-a-tree}
 
 -- number 0 is no site
-pub no-site-zero : (ed : Edition) (s : List ℕ) → nameOf ed s 0 ≡ []
-unfolding nameOf nameIn
+pub no-site-zero : (ed : Edition) (s : List ℕ) → nameRange ed s 0 ≡ (0, 0)
+unfolding nameRange rangeIn
 no-site-zero ed s = by (readSheet ed s)
   where
-    by : (r : Read) → nameIn s 0 r ≡ []
+    by : (r : Read) → rangeIn 0 r ≡ (0, 0)
     by (refused n k) = refl
     by (accepted net) = refl
 
 -- nor is a number above the limit
-pub no-site-above : (ed : Edition) (s : List ℕ) (k : ℕ) → ed .sites < k → nameOf ed s k ≡ []
-unfolding nameOf nameIn
+pub no-site-above : (ed : Edition) (s : List ℕ) (k : ℕ) → ed .sites < k → nameRange ed s k ≡ (0, 0)
+unfolding nameRange rangeIn
 no-site-above ed s zero h = no-site-zero ed s
 no-site-above ed s (suc k) h = by (readSheet ed s) refl
   where
-    by : (r : Read) → readSheet ed s ≡ r → nameIn s (suc k) r ≡ []
+    by : (r : Read) → readSheet ed s ≡ r → rangeIn (suc k) r ≡ (0, 0)
     by (refused n l) e = refl
-    by (accepted net) e = ap (part s) (List·getD-eq-default (net .names) (0, 0) (omega (arith, an-accepted-sheet-is-a-tree ed s net e .few)))
+    by (accepted net) e = List·getD-eq-default (net .names) (0, 0) (omega (arith, an-accepted-sheet-is-a-tree ed s net e .few))
 
 -- the lists of the answer give the range of a site's name
-pub name-by-lists : (s : List ℕ) (r : Read) (i : ℕ) → part s (look (reading r .network .start) i, look (reading r .network .end) i) ≡ nameIn s (suc i) r
-unfolding reading lists nameIn
-name-by-lists s (refused n k) i = rw (look-padded SITES [] i)
-name-by-lists s (accepted net) i =
+pub range-by-lists : (r : Read) (i : ℕ) → (look (reading r .network .start) i, look (reading r .network .end) i) ≡ rangeIn (suc i) r
+unfolding reading lists rangeIn
+range-by-lists (refused n k) i = rw (look-padded SITES [] i)
+range-by-lists (accepted net) i =
     rw (
       look-padded SITES (map (λ r. r .0) (net .names)) i,
       look-padded SITES (map (λ r. r .1) (net .names)) i,

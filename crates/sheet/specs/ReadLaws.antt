@@ -5,21 +5,12 @@ use mathlib.Core.List.{List}
 use mathlib.Core.Path.{_≡_, refl, sym}
 use Prim.Native.Nat.{ℕ, zero, suc, _+_, _-_, _≤_, _<_}
 use native.Mathlib.Omega.{arith}
-use lib.Dec.{eqb, ltb}
-use lib.ListN.{length, drop}
-use borrow.Author.Tests.{lt-ltb, ltb-true}
+use lib.ListN.{length}
+use borrow.Author.Tests.{lt-ltb}
 use Rattle.model.specs.declared.Edition.{Edition}
-use Rattle.text_lines.specs.Lines.{lineLength, lineAt, afterLine, hasLine}
+use Rattle.text_lines.specs.Lines.{afterLine, hasLine}
 use Rattle.text_lines.specs.LineLaws.{no-line-past-the-sheet, after-line-is-later}
-use Rattle.sheet_kinds.specs.LineKinds.{kind}
-use Rattle.sheet.specs.Sheet.{Network, Read, refused, accepted, headingStep, recordStep, stepOf, added, readLine, andThen, readLines}
-use Rattle.sheet.specs.declared.stepping.Step.{Step}
-use Rattle.sheet.specs.declared.stepping.Step.the-variants.{Refused}
-use Rattle.lists.specs.Sums.{contradiction}
-
--- a sheet is not refused and accepted
-not-both : {n k : ℕ} {net : Network} → refused n k ≡ accepted net → ⊥
-not-both e = contradiction cc
+use Rattle.sheet.specs.Sheet.{Network, Read, refused, accepted, readLine, andThen, readLines}
 
 has-line : (s : List ℕ) (at : ℕ) → at < length s → hasLine s at ≡ true
 unfolding hasLine
@@ -63,15 +54,3 @@ module _ (ed : Edition) (s : List ℕ) where
       (then-alike (readLine ed s net k at) (readLines ed s (length s - suc at) (suc k) (afterLine s at))
       (readLines ed s (length s - afterLine s at) (suc k) (afterLine s at))
       (λ next. enough-fuel (length s - suc at) (length s - afterLine s at) (suc k) (afterLine s at) next (omega arith) (omega arith)))
-
-  -- a line that is read is ended
-  pub read-line-is-ended : (k at : ℕ) (net next : Network) → readLine ed s net k at ≡ accepted next → at + lineLength (drop at s) < length s
-  unfolding readLine stepOf
-  read-line-is-ended k at net next =
-      by (ltb (at + lineLength (drop at s)) (length s)) refl
-      (cond (eqb k 1) (headingStep (kind (ed .size) (lineAt s at))) (recordStep ed s net at (kind (ed .size) (lineAt s at))))
-    where
-      by : (t : Bool) → ltb (at + lineLength (drop at s)) (length s) ≡ t → (w : Step) → added net k (cond t w (Refused 2)) ≡ accepted next
-          → at + lineLength (drop at s) < length s
-      by true e w p = ltb-true _ _ e
-      by false e w p = absurd (not-both p)

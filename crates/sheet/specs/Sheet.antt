@@ -38,53 +38,53 @@ pub data Read : Type 0 where
 -- ---- what a line adds to the network read so far: the line at offset `at`, with number k
 
 -- a site line, by what the look-up of its name found: 5 where the name is given
-abbrev pub siteBy : ℕ × ℕ → Found → Step
-siteBy r (At v) = Refused 5
-siteBy r Absent = Site (r .0) (r .1)
+abbrev pub siteBy : ℕ → ℕ × ℕ → Found → Step
+siteBy k r (At v) = Refused 5 k
+siteBy k r Absent = Site (r .0) (r .1)
 
 -- a site line after n sites: 4 where they are as many as the edition allows, then 5
-unfoldable pub siteStep : Edition → ℕ → ℕ × ℕ → Found → Step
-siteStep ed n r found = cond (leb (ed .sites) n) (Refused 4) (siteBy r found)
+unfoldable pub siteStep : Edition → ℕ → ℕ → ℕ × ℕ → Found → Step
+siteStep ed k n r found = cond (leb (ed .sites) n) (Refused 4 k) (siteBy k r found)
 
 -- a link line, by what the look-ups of its names found: 6 where one is not given above, then 7 where its sites are joined by links above, or are one site
-unfoldable pub linkStep : Links → ℕ → Found → Found → Step
-linkStep ls size Absent w = Refused 6
-linkStep ls size (At a) Absent = Refused 6
-linkStep ls size (At a) (At b) = cond (eqb (joined ls a b) 1) (Refused 7) (Link a b size)
+unfoldable pub linkStep : ℕ → Links → ℕ → Found → Found → Step
+linkStep k ls size Absent w = Refused 6 k
+linkStep k ls size (At a) Absent = Refused 6 k
+linkStep k ls size (At a) (At b) = cond (eqb (joined ls a b) 1) (Refused 7 k) (Link a b size)
 
 -- line 1 is the heading
 unfoldable pub headingStep : Line → Step
 headingStep line.Heading = Nothing
-headingStep (line.Site a e) = Refused 2
-headingStep (line.Link a e b f size) = Refused 2
-headingStep (line.Fault n) = Refused 2
+headingStep (line.Site a e) = Refused 2 1
+headingStep (line.Link a e b f size) = Refused 2 1
+headingStep (line.Fault n) = Refused 2 1
 
 -- a later line is a site or a link
-unfoldable pub recordStep : Edition → List ℕ → Network → ℕ → Line → Step
-recordStep ed s net at line.Heading = Refused 2
-recordStep ed s net at (line.Site a e) = siteStep ed (length (net .names)) (at + a, at + e) (lookup s (net .names) (part s (at + a, at + e)))
-recordStep ed s net at (line.Link a e b f size) =
-    linkStep (net .links) size (lookup s (net .names) (part s (at + a, at + e))) (lookup s (net .names) (part s (at + b, at + f)))
-recordStep ed s net at (line.Fault n) = Refused n
+unfoldable pub recordStep : Edition → List ℕ → Network → ℕ → ℕ → Line → Step
+recordStep ed s net k at line.Heading = Refused 2 k
+recordStep ed s net k at (line.Site a e) = siteStep ed k (length (net .names)) (at + a, at + e) (lookup s (net .names) (part s (at + a, at + e)))
+recordStep ed s net k at (line.Link a e b f size) =
+    linkStep k (net .links) size (lookup s (net .names) (part s (at + a, at + e))) (lookup s (net .names) (part s (at + b, at + f)))
+recordStep ed s net k at (line.Fault n) = Refused n k
 
 -- a line that no byte 10 ends is of the wrong form, before any other fault
 unfoldable pub stepOf : Edition → List ℕ → Network → ℕ → ℕ → Step
 stepOf ed s net k at =
     let line = kind (ed .size) (lineAt s at) in
     cond (ltb (at + lineLength (drop at s)) (length s))
-    (cond (eqb k 1) (headingStep line) (recordStep ed s net at line))
-    (Refused 2)
+    (cond (eqb k 1) (headingStep line) (recordStep ed s net k at line))
+    (Refused 2 k)
 
--- the network with what a line adds, or its refusal at line k
-abbrev pub added : Network → ℕ → Step → Read
-added net k Nothing = accepted net
-added net k (Site a e) = accepted (record { names = net .names ++ ((a, e) ∷ []); links = net .links; capacities = net .capacities })
-added net k (Link a b size) = accepted (record { names = net .names; links = net .links ++ ((a, b) ∷ []); capacities = net .capacities ++ (size ∷ []) })
-added net k (Refused n) = refused n k
+-- the network with what a line adds, or its refusal
+abbrev pub added : Network → Step → Read
+added net Nothing = accepted net
+added net (Site a e) = accepted (record { names = net .names ++ ((a, e) ∷ []); links = net .links; capacities = net .capacities })
+added net (Link a b size) = accepted (record { names = net .names; links = net .links ++ ((a, b) ∷ []); capacities = net .capacities ++ (size ∷ []) })
+added net (Refused n k) = refused n k
 
 -- a line read
 unfoldable pub readLine : Edition → List ℕ → Network → ℕ → ℕ → Read
-readLine ed s net k at = added net k (stepOf ed s net k at)
+readLine ed s net k at = added net (stepOf ed s net k at)
 
 -- ---- the sheet
 
@@ -119,11 +119,15 @@ readSheet ed s =
 
 -- ---- names by number
 
--- the bytes of the name of site k (01: the bytes of its own `N` line); none for a number without a site, or over a sheet that is refused
-unfoldable pub nameIn : List ℕ → ℕ → Read → List ℕ
-nameIn s k (refused n l) = []
-nameIn s zero (accepted net) = []
-nameIn s (suc k) (accepted net) = part s (getD (net .names) k (0, 0))
+-- the range of the name of site k (01: the bytes of its own `N` line); an empty one for a number without a site, or over a sheet that is refused
+unfoldable pub rangeIn : ℕ → Read → ℕ × ℕ
+rangeIn k (refused n l) = (0, 0)
+rangeIn zero (accepted net) = (0, 0)
+rangeIn (suc k) (accepted net) = getD (net .names) k (0, 0)
 
-unfoldable pub nameOf : Edition → List ℕ → ℕ → List ℕ
-nameOf ed s k = nameIn s k (readSheet ed s)
+unfoldable pub nameRange : Edition → List ℕ → ℕ → ℕ × ℕ
+nameRange ed s k = rangeIn k (readSheet ed s)
+
+-- the bytes of that name
+abbrev pub nameOf : Edition → List ℕ → ℕ → List ℕ
+nameOf ed s k = part s (nameRange ed s k)

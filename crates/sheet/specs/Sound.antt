@@ -55,7 +55,7 @@ Accepts P (accepted net) = P net
 
 -- ---- a part of a line is a part of the sheet
 
-part-of-line : (s : List ℕ) (at a e : ℕ) → a ≤ e → e ≤ length (lineAt s at) → part s (at + a, at + e) ≡ take (e - a) (drop a (lineAt s at))
+pub part-of-line : (s : List ℕ) (at a e : ℕ) → a ≤ e → e ≤ length (lineAt s at) → part s (at + a, at + e) ≡ take (e - a) (drop a (lineAt s at))
 part-of-line s at a e p q =
     let l = lineAt s at in
     let rest = drop (at + length l) s in
@@ -109,30 +109,30 @@ module _ (ed : Edition) (s : List ℕ) (net : Network) (k : ℕ) (sound : Sound 
     sizes = one-more (λ i c. c ≤ ed .size) (net .capacities) size 0 (sound .sizes) h;
   }
 
-  site-line : (r : ℕ × ℕ) → IsNameRange s r → Accepts (Sound ed s) (added net k (siteStep ed (length (net .names)) r (lookup s (net .names) (part s r))))
+  site-line : (r : ℕ × ℕ) → IsNameRange s r → Accepts (Sound ed s) (added net (siteStep ed k (length (net .names)) r (lookup s (net .names) (part s r))))
   unfolding siteStep
   site-line r named = by (leb (ed .sites) (length (net .names))) refl (lookup s (net .names) (part s r)) (lookup-says s (part s r) (net .names) 1)
     where
       by : (t : Bool) → leb (ed .sites) (length (net .names)) ≡ t → (w : Found) → Says s (net .names) 1 (part s r) w
-          → Accepts (Sound ed s) (added net k (cond t (Refused 4) (siteBy r w)))
+          → Accepts (Sound ed s) (added net (cond t (Refused 4 k) (siteBy k r w)))
       by true e w h = tt
       by false e (At v) h = tt
       by false e Absent h = new-site r named (leb-false _ _ e) h
 
   link-line : (r q : ℕ × ℕ) (size : ℕ) → size ≤ ed .size
-      → Accepts (Sound ed s) (added net k (linkStep (net .links) size (lookup s (net .names) (part s r)) (lookup s (net .names) (part s q))))
+      → Accepts (Sound ed s) (added net (linkStep k (net .links) size (lookup s (net .names) (part s r)) (lookup s (net .names) (part s q))))
   unfolding linkStep joined
   link-line r q size h =
       by (lookup s (net .names) (part s r)) (lookup s (net .names) (part s q)) (lookup-says s (part s r) (net .names) 1)
       (lookup-says s (part s q) (net .names) 1)
     where
       either : (a b : ℕ) → Site (length (net .names)) a → Site (length (net .names)) b → (t : Bool) → eqb (joined (net .links) a b) 1 ≡ t
-          → Accepts (Sound ed s) (added net k (cond t (Refused 7) (Link a b size)))
+          → Accepts (Sound ed s) (added net (cond t (Refused 7 k) (Link a b size)))
       either a b p q true e = tt
       either a b p q false e = new-link a b size p q (λ z. eqb-false _ _ e (is-same (joined-reversed (net .links) a b .0 z))) h
 
       by : (u w : Found) → Says s (net .names) 1 (part s r) u → Says s (net .names) 1 (part s q) w
-          → Accepts (Sound ed s) (added net k (linkStep (net .links) size u w))
+          → Accepts (Sound ed s) (added net (linkStep k (net .links) size u w))
       by Absent w p j = tt
       by (At a) Absent p j = tt
       by (At a) (At b) p j = either a b (omega arith) (omega arith) (eqb (joined (net .links) a b) 1) refl
@@ -143,20 +143,20 @@ module _ (ed : Edition) (s : List ℕ) (net : Network) (k : ℕ) (sound : Sound 
   a-line-keeps-sound at b =
       by (ltb (at + lineLength (drop at s)) (length s)) (eqb k 1) (kind (ed .size) (lineAt s at)) (kinds-are-formed (ed .size) (lineAt s at))
     where
-      heading : (w : Line) → Accepts (Sound ed s) (added net k (headingStep w))
+      heading : (w : Line) → Accepts (Sound ed s) (added net (headingStep w))
       heading line.Heading = sound
       heading (line.Site a e) = tt
       heading (line.Link a e c f size) = tt
       heading (line.Fault n) = tt
 
-      later : (w : Line) → Formed (ed .size) (lineAt s at) w → Accepts (Sound ed s) (added net k (recordStep ed s net at w))
+      later : (w : Line) → Formed (ed .size) (lineAt s at) w → Accepts (Sound ed s) (added net (recordStep ed s net k at w))
       later line.Heading h = tt
       later (line.Site a e) h = site-line (at + a, at + e) (line-name s at a e b (h .0) (h .1) (h .2))
       later (line.Link a e c f size) h = link-line (at + a, at + e) (at + c, at + f) size (h .4)
       later (line.Fault n) h = tt
 
       by : (t u : Bool) (w : Line) → Formed (ed .size) (lineAt s at) w
-          → Accepts (Sound ed s) (added net k (cond t (cond u (headingStep w) (recordStep ed s net at w)) (Refused 2)))
+          → Accepts (Sound ed s) (added net (cond t (cond u (headingStep w) (recordStep ed s net k at w)) (Refused 2 k)))
       by false u w h = tt
       by true true w h = heading w
       by true false w h = later w h

@@ -4,7 +4,8 @@ ghost use Prim.Native.Nat.{_≤_};
 ghost use lib.ListN.{length};
 ghost use Rattle.model.specs.Limits.{SITES};
 ghost use Rattle.model.specs.Edition.{edition1};
-ghost use Rattle.sheet.specs.Sheet.{empty, refused, readLines, andThen, finish, readSheet, nameOf};
+ghost use Rattle.sheet.specs.Sheet.{empty, refused, readLines, andThen, finish, readSheet, nameRange};
+ghost use Rattle.sheet_names.specs.Names.{IsPart};
 ghost use Rattle.sheet.specs.Reading.{lists, reading};
 
 mod stepping;
@@ -73,7 +74,7 @@ fn read_lines(sheet: &[u8], edition: Edition) -> Reading
     let mut labels = tree_labels::own_labels();
     let mut at = 0;
     let mut number = 1;
-    while at < sheet.len() {
+    while text_lines::has_line(sheet, at) {
         let line = text_lines::line(sheet, at);
         let step = stepping::step_at(
             edition,
@@ -87,12 +88,11 @@ fn read_lines(sheet: &[u8], edition: Edition) -> Reading
             number,
             at,
         );
-        at = at + line.len() + 1;
-        let here = number;
+        at = text_lines::rest(sheet, at + line.len());
         number += 1;
         match step {
-            Step::Refused(n) => {
-                return refusal(n, here);
+            Step::Refused { number: n, line } => {
+                return refusal(n, line);
             }
             Step::Nothing => {}
             Step::Site { start, end } => {
@@ -142,17 +142,19 @@ pub fn read(sheet: &[u8]) -> Reading
     read_sheet(sheet, Edition::first())
 }
 
-// The name of a site, by its number: the bytes of its own `N` line; no bytes for a number without a site, or over a sheet that is refused.
+// The name of a site, by its number: the bytes of its own `N` line, that very part of the sheet; an empty part for a number without a site, or
+// over a sheet that is refused.
 pub fn name(sheet: &[u8], site: usize) -> &[u8]
-    ensures { λ r. ⌜ now r ≡ nameOf edition1 (now (sheet .entry)) site ⌝ }
+    ensures { λ r. ⌜ IsPart (sheet .entry) (nameRange edition1 (now (sheet .entry)) site) r ⌝ }
 {
+    let edition = Edition::first();
     if site < 1 {
         return &sheet[0..0];
     }
-    if site > Edition::SITES {
+    if site > edition.sites {
         return &sheet[0..0];
     }
-    let reading = read(sheet);
+    let reading = read_sheet(sheet, edition);
     let network = reading.network;
     let i = site - 1;
     sheet_names::part(sheet, network.start[i], network.end[i])

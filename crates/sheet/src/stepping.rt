@@ -1,4 +1,4 @@
-// What a line of a network sheet adds to the network read so far (document 01, "The network sheet"), or the number of its refusal.
+// What a line of a network sheet adds to the network read so far (document 01, "The network sheet"), or its refusal.
 ghost use mathlib.Core.Path.{_≡_};
 ghost use Prim.Native.Nat.{_+_, _≤_, _<_};
 ghost use lib.ListN.{length};
@@ -17,40 +17,62 @@ use sheet_kinds::Line;
 use sheet_names::Found;
 use sheet_names::HASHES;
 
-// What a line adds to the network, or the number of its refusal.
+// What a line adds to the network, or its refusal: the number and the line.
 pub enum Step {
     Nothing,
     Site { start: usize, end: usize },
     Link { one: usize, two: usize, size: u64 },
-    Refused(u64),
+    Refused { number: u64, line: usize },
 }
 
 // What a site line adds, its name being the part from a start to an end, by what the look-up of the name found.
-fn site_step(edition: Edition, sites: usize, found: Found, start: usize, end: usize) -> Step
-    ensures { λ r. ⌜ r ≡ siteStep edition sites (start, end) found ⌝ }
+fn site_step(
+    edition: Edition,
+    here: usize,
+    sites: usize,
+    found: Found,
+    start: usize,
+    end: usize,
+) -> Step
+    ensures { λ r. ⌜ r ≡ siteStep edition here sites (start, end) found ⌝ }
 {
     if sites >= edition.sites {
-        return Step::Refused(4);
+        return Step::Refused {
+            number: 4,
+            line: here,
+        };
     }
     match found {
-        Found::At(_) => Step::Refused(5),
+        Found::At(_) => Step::Refused {
+            number: 5,
+            line: here,
+        },
         Found::Absent => Step::Site { start, end },
     }
 }
 
 // What a link line adds, by what the look-ups of its two names found, and the labels of the sites.
-fn link_step(labels: &[u16; PLACES], first: Found, second: Found, size: u64) -> Step
+fn link_step(here: usize, labels: &[u16; PLACES], first: Found, second: Found, size: u64) -> Step
     requires { ⌜ Labelled PLACES first × Labelled PLACES second ⌝ }
-    ensures { λ r. ⌜ ((ls : Links) → LabelsOf ls (now (labels .entry)) → r ≡ linkStep ls size first second) ⌝ }
+    ensures { λ r. ⌜ ((ls : Links) → LabelsOf ls (now (labels .entry)) → r ≡ linkStep here ls size first second) ⌝ }
 {
     let Found::At(one) = first else {
-        return Step::Refused(6);
+        return Step::Refused {
+            number: 6,
+            line: here,
+        };
     };
     let Found::At(two) = second else {
-        return Step::Refused(6);
+        return Step::Refused {
+            number: 6,
+            line: here,
+        };
     };
     if labels[one] == labels[two] {
-        return Step::Refused(7);
+        return Step::Refused {
+            number: 7,
+            line: here,
+        };
     }
     Step::Link { one, two, size }
 }
@@ -61,21 +83,22 @@ fn heading_step(line: Line) -> Step
 {
     match line {
         Line::Heading => Step::Nothing,
-        Line::Site { start: _, end: _ } => Step::Refused(2),
+        Line::Site { start: _, end: _ } => Step::Refused { number: 2, line: 1 },
         Line::Link {
             start: _,
             end: _,
             start2: _,
             end2: _,
             size: _,
-        } => Step::Refused(2),
-        Line::Fault(_) => Step::Refused(2),
+        } => Step::Refused { number: 2, line: 1 },
+        Line::Fault(_) => Step::Refused { number: 2, line: 1 },
     }
 }
 
 // What a later line adds, at an offset.
 fn record_step(
     edition: Edition,
+    here: usize,
     sheet: &[u8],
     starts: &[usize; SITES],
     ends: &[usize; SITES],
@@ -88,15 +111,18 @@ fn record_step(
     requires { ⌜ (sites ≤ SITES) × Indexes (now sheet) (ranges (now starts) (now ends) 0 sites) (now table)
         × (at + length (lineAt (now sheet) at) < length (now sheet)) × Formed (edition .size) (lineAt (now sheet) at) line ⌝ }
     ensures { λ r. ⌜ ((net : Network) → Held (now (starts .entry)) (now (ends .entry)) sites (now (labels .entry)) net
-        → r ≡ recordStep edition (now (sheet .entry)) net at line) ⌝ }
+        → r ≡ recordStep edition (now (sheet .entry)) net here at line) ⌝ }
 {
     match line {
-        Line::Heading => Step::Refused(2),
+        Line::Heading => Step::Refused {
+            number: 2,
+            line: here,
+        },
         Line::Site { start, end } => {
             let from = at + start;
             let to = at + end;
             let found = sheet_names::find(sheet, starts, ends, sites, table, from, to);
-            site_step(edition, sites, found, from, to)
+            site_step(edition, here, sites, found, from, to)
         }
         Line::Link {
             start,
@@ -115,9 +141,9 @@ fn record_step(
                 at + start2,
                 at + end2,
             );
-            link_step(labels, first, second, size)
+            link_step(here, labels, first, second, size)
         }
-        Line::Fault(n) => Step::Refused(n),
+        Line::Fault(number) => Step::Refused { number, line: here },
     }
 }
 
@@ -140,11 +166,25 @@ pub fn step_at<'a>(
         → r ≡ stepOf edition (now (sheet .entry)) net number at) ⌝ }
 {
     if at + line.len() >= sheet.len() {
-        return Step::Refused(2);
+        return Step::Refused {
+            number: 2,
+            line: number,
+        };
     }
     let kind = sheet_kinds::classify(line, edition.size);
     if number == 1 {
         return heading_step(kind);
     }
-    record_step(edition, sheet, starts, ends, sites, table, labels, at, kind)
+    record_step(
+        edition,
+        number,
+        sheet,
+        starts,
+        ends,
+        sites,
+        table,
+        labels,
+        at,
+        kind,
+    )
 }

@@ -97,7 +97,7 @@ module _ (most : ℕ) (l : List ℕ) where
       either false = refl
 
   -- a link, having four fields, is no heading
-  link-is-no-heading : IsLink (fields l) → isHeading (fields l) ≡ false
+  pub link-is-no-heading : IsLink (fields l) → isHeading (fields l) ≡ false
   unfolding isHeading
   link-is-no-heading e = rw (ne-eqb (length (fields l)) 2 (λ z. omega (arith, link-parts (fields l) e .count)))
 

@@ -40,18 +40,27 @@ module _ (l : List ℕ) where
   third-end : 2 < length (fields l) → length (field (fields l) 0) ≡ 1 → getD (ends 0 (fields l)) 2 0 ≡ 3 + one + two
   third-end h e = omega (arith, second-end (omega arith) e, length-of-field (field-lies 2 l 0 h))
 
+  -- the second and the third field, by their places
+  pub part-of-field-1 : 1 < length (fields l) → length (field (fields l) 0) ≡ 1 → take (2 + one - 2) (drop 2 l) ≡ field (fields l) 1
+  part-of-field-1 h e =
+      let first : getD (ends 0 (fields l)) 0 0 + 1 ≡ 2 = omega (arith, length-of-field (field-lies 0 l 0 (omega arith))) in
+      rw (first, second-end h e, sub-zero) at (field-lies 1 l 0 h .part)
+
+  pub part-of-field-2 : 2 < length (fields l) → length (field (fields l) 0) ≡ 1
+      → take (3 + one + two - (3 + one)) (drop (3 + one) l) ≡ field (fields l) 2
+  part-of-field-2 h e =
+      let second : getD (ends 0 (fields l)) 1 0 + 1 ≡ 3 + one = omega (arith, second-end (omega arith) e) in
+      rw (second, third-end h e, sub-zero) at (field-lies 2 l 0 h .part)
+
   module _ (most : ℕ) where
-    site-is-formed : IsSite (fields l) → Formed most l (Site 2 (2 + one))
+    pub site-is-formed : IsSite (fields l) → Formed most l (Site 2 (2 + one))
     site-is-formed e =
         let k = site-parts (fields l) e in
         let short = ap length (k .letter) in
         let n : 1 < length (fields l) = omega (arith, k .count) in
-        let L = field-lies 1 l 0 n in
-        let first : getD (ends 0 (fields l)) 0 0 + 1 ≡ 2 = omega (arith, length-of-field (field-lies 0 l 0 (omega arith))) in
-        let name : take (2 + one - 2) (drop 2 l) ≡ field (fields l) 1 = rw (first, second-end n short, sub-zero) at (L .part) in
-        (omega arith, omega (arith, L .within, second-end n short), rw name (k .name))
+        (omega arith, omega (arith, field-lies 1 l 0 n .within, second-end n short), rw (part-of-field-1 n short) (k .name))
 
-    link-is-formed : IsLink (fields l) → (size : ℕ) → size ≤ most → Formed most l (Link 2 (2 + one) (3 + one) (3 + one + two) size)
+    pub link-is-formed : IsLink (fields l) → (size : ℕ) → size ≤ most → Formed most l (Link 2 (2 + one) (3 + one) (3 + one + two) size)
     link-is-formed e size h =
         let k = link-parts (fields l) e in
         let n : 2 < length (fields l) = omega (arith, k .count) in

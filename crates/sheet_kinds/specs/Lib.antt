@@ -2,3 +2,4 @@ pub mod LineKinds
 pub mod LineKindLaws
 pub mod FormedLines
 pub mod FaultyLines
+pub mod KindForms

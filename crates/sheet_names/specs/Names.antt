@@ -3,9 +3,10 @@
 use mathlib.Core.Bool.{cond}
 use mathlib.Core.List.{List, [], _∷_}
 use mathlib.Core.Path.{_≡_}
-use Prim.Native.Nat.{ℕ, zero, suc, _+_, _-_, _*_, _%_, _≤_, _<_}
+use Prim.Native.Nat.{ℕ, zero, suc, _+_, _-_, _*_, _%_, _≤_, _<_, min}
 use lib.Dec.{eqb}
 use lib.ListN.{length, getD, take, drop, set}
+use denote.Ref.{RefT, ptr, now}
 use Rattle.lists.specs.Numbers.{look}
 use Rattle.text_fields.specs.Fields.{same}
 use Rattle.sheet_names.specs.declared.Found.{Found}
@@ -14,6 +15,16 @@ use Rattle.sheet_names.specs.declared.Found.the-variants.{At, Absent}
 -- the part of the sheet from start to end
 abbrev pub part : List ℕ → ℕ × ℕ → List ℕ
 part s r = take (r .1 - r .0) (drop (r .0) s)
+
+-- the offset at which that part starts; one without bytes starts where it ends
+abbrev pub partStart : List ℕ → ℕ × ℕ → ℕ
+partStart s r = min (r .0) (min (r .1) (length s))
+
+-- q is the part of a lent sheet from start to end: it has the part's bytes, and they are those of the sheet itself
+-- (01: a part of the caller's sheet slice, not a copy)
+pub record IsPart (sheet : RefT (List ℕ)) (r : ℕ × ℕ) (q : RefT (List ℕ)) : Type 0 where
+  pub bytes : now q ≡ part (now sheet) r
+  pub place : ptr q ≡ (ptr sheet .0, ptr sheet .1 + partStart (now sheet) r)
 
 -- the number of the first site whose name is f, the names given being those of the sites from k up
 unfoldable pub lookupFrom : List ℕ → List (ℕ × ℕ) → ℕ → List ℕ → Found

@@ -2,7 +2,7 @@
 ghost use mathlib.Core.Path.{_≡_};
 ghost use Prim.Native.Nat.{_≤_, min};
 ghost use Rattle.model.specs.Limits.{SITES};
-ghost use Rattle.sheet_names.specs.Names.{part, lookup, ranges, hash, entered, Indexes};
+ghost use Rattle.sheet_names.specs.Names.{part, IsPart, lookup, ranges, hash, entered, Indexes};
 use model::SITES;
 
 // The number of hashes. specs/Names.antt has it by the same name.
@@ -21,13 +21,13 @@ fn lesser(a: usize, b: usize) -> usize
     if a < b { a } else { b }
 }
 
-// The part of a sheet from a start to an end.
+// The part of a sheet from a start to an end, that very part.
 pub fn part(sheet: &[u8], start: usize, end: usize) -> &[u8]
-    ensures { λ r. ⌜ now r ≡ part (now (sheet .entry)) (start, end) ⌝ }
+    ensures { λ r. ⌜ IsPart (sheet .entry) (start, end) r ⌝ }
 {
     let stop = lesser(end, sheet.len());
     if stop <= start {
-        return &sheet[0..0];
+        return &sheet[stop..stop];
     }
     &sheet[start..stop]
 }

@@ -8,10 +8,10 @@ use Prim.Native.Nat.{ℕ, zero, suc, _+_, _-_, _≤_, _<_, min}
 use native.Mathlib.Nat.{min-zero, suc-min-suc, add-sub-cancel-left}
 use native.Mathlib.Numerals.{add-one}
 use native.Mathlib.Omega.{arith}
-use lib.Dec.{eqb}
+use lib.Dec.{eqb, ltb}
 use lib.ListN.{length, getD, take, drop, take-append-drop, length-take, length-drop, drop-of-length-le}
 use lib.Seq.{drop-cons, drop-drop, drop-nil, getD-drop, getD-take, take-all}
-use borrow.Author.Tests.{eqb-true, eqb-false, ltb-true, le-ltb}
+use borrow.Author.Tests.{eqb-true, eqb-false, ltb-true, ltb-false, le-ltb}
 use Rattle.text_lines.specs.Lines.{lineLength, lineAt, lineStart, lineEnd, afterLine, hasLine}
 
 -- ---- the first byte
@@ -106,6 +106,30 @@ module _ (s : List ℕ) (at : ℕ) where
   pub no-line-past-the-sheet : length s ≤ at → hasLine s at ≡ false
   unfolding hasLine
   no-line-past-the-sheet l = le-ltb at (length s) l
+
+  -- there is a line just where the offset is on the sheet
+  pub a-line-is-on-the-sheet : hasLine s at ≡ true → at < length s
+  unfolding hasLine
+  a-line-is-on-the-sheet e = ltb-true at (length s) e
+
+  pub no-line-is-on-the-sheet : hasLine s at ≡ false → length s ≤ at
+  unfolding hasLine
+  no-line-is-on-the-sheet e = ltb-false at (length s) e
+
+  -- the line at the end of a line is empty
+  nothing-at-the-end-of-a-line : lineLength (drop (at + length (lineAt s at)) s) ≡ 0
+  nothing-at-the-end-of-a-line = by (ltb (at + length (lineAt s at)) (length s)) refl
+    where
+      by : (t : Bool) → ltb (at + length (lineAt s at)) (length s) ≡ t → lineLength (drop (at + length (lineAt s at)) s) ≡ 0
+      by true e =
+          let l = ltb-true (at + length (lineAt s at)) (length s) e in
+          ⊎-elim (λ h. h .1) (λ h. absurd (h .0 (line-stops-at-ten l))) (line-length-step s (at + length (lineAt s at)) l)
+      by false e = line-past-the-sheet-is-empty s _ (ltb-false (at + length (lineAt s at)) (length s) e)
+
+  -- the line after a line is the one after its end
+  pub after-the-end-of-a-line : at ≤ length s → afterLine s (at + length (lineAt s at)) ≡ afterLine s at
+  unfolding afterLine
+  after-the-end-of-a-line l = omega (arith, length-of-line, nothing-at-the-end-of-a-line)
 
   -- the reader moves on as long as there is a line
   pub after-line-is-later : hasLine s at ≡ true → at < afterLine s at

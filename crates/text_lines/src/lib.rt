@@ -80,9 +80,23 @@ impl<'a> LineReader<'a> {
     }
 }
 
-// The line at an offset of a sheet. The next one is a byte past its end, if that is on the sheet.
+// Whether there is a line at an offset of a sheet.
+pub fn has_line(sheet: &[u8], at: usize) -> bool
+    ensures { λ r. ⌜ r ≡ hasLine (now (sheet .entry)) at ⌝ }
+{
+    LineReader { sheet, at }.has_line()
+}
+
+// The line at an offset of a sheet.
 pub fn line(sheet: &[u8], at: usize) -> &[u8]
     ensures { λ r. ⌜ IsLine (sheet .entry) at r ⌝ }
 {
     LineReader { sheet, at }.line()
+}
+
+// The offset of the line after that at an offset of a sheet.
+pub fn rest(sheet: &[u8], at: usize) -> usize
+    ensures { λ r. ⌜ r ≡ afterLine (now (sheet .entry)) at ⌝ }
+{
+    LineReader { sheet, at }.rest().at
 }

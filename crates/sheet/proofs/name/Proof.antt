@@ -1,80 +1,71 @@
 -- `name` meets its contract: a number is outside the limits, or its place in the lists has the range of the name.
-use mathlib.Core.Path.{_≡_, sym, ap, _∙_}
-use Prim.Native.Nat.{suc, _-_}
+use mathlib.Core.Path.{_≡_, refl, sym, ap, subst, _∙_}
+use Prim.Native.Nat.{ℕ, suc, _+_, _-_, _≤_}
+use Rattle.lists.specs.Numbers.{look}
+use Rattle.model.specs.Limits.{SITES}
 use Rattle.model.specs.Edition.{edition1}
-use Rattle.sheet.specs.Sheet.{readSheet, nameOf}
-use Rattle.sheet.specs.NameLaws.{no-site-zero, no-site-above, name-by-lists}
+use Rattle.model.specs.declared.Edition.{Edition}
+use Rattle.sheet_names.specs.Names.{partStart, IsPart}
+use Rattle.sheet.specs.Sheet.{readSheet, nameRange}
+use Rattle.sheet.specs.Reading.{reading}
+use Rattle.sheet.specs.declared.Reading.{Reading}
+use Rattle.sheet.specs.NameLaws.{no-site-zero, no-site-above, range-by-lists}
 use native.Mathlib.Omega.{arith}
 use borrow.Author.Needs.{needs}
 use Rattle.sheet.proofs.name.Statement.{statement}
 use Rattle.sheet.proofs.name.Tie as tie
 
-sub-result : tie.Need-sub-result
-sub-result c = search needs
-
-part-result-start : tie.Need-part-result-start
-part-result-start c = search needs
-
-part-result-end : tie.Need-part-result-end
-part-result-end c = search needs
+-- the limit of the first edition
+within : (c : tie.Else2) → c .before .before .before .before .before .args .site ≤ SITES
+within c = omega (arith, c .if2 .left, ap (λ (e : Edition). e .sites) (c .before .before .before .first .ensures))
 
 returns : tie.Need-returns
-returns c = let none : c .before .before .before .args .site ≡ 0 = omega arith in rw none (sym (no-site-zero edition1 _))
-
-sub-result-2 : tie.Need-sub-result-2
-sub-result-2 c = search needs
-
-part-result-start-2 : tie.Need-part-result-start-2
-part-result-start-2 c = search needs
-
-part-result-end-2 : tie.Need-part-result-end-2
-part-result-end-2 c = search needs
+returns c =
+    let a = c .before .before .before .before .args in
+    let none : a .site ≡ 0 = omega (arith, c .before .if1 .taken) in
+    let range : nameRange edition1 (a .sheet .now) (a .site) ≡ (0, 0) = ap (nameRange edition1 (a .sheet .now)) none ∙ no-site-zero edition1 (a .sheet .now) in
+    let same : 0 + a .sheet .ptr .1 ≡ a .sheet .ptr .1 + partStart (a .sheet .now) (0, 0) = omega arith in
+    rw range (record { bytes = refl; place = ap (λ (o : ℕ). (a .sheet .ptr .0, o)) same })
 
 returns-2 : tie.Need-returns-2
-returns-2 c = sym (no-site-above edition1 _ _ (c .before .if2 .taken))
-
-read-requires : tie.Need-read-requires
-read-requires c κs = search needs
-
-mul-part : tie.Need-mul-part
-mul-part c = search needs
-
-element-copy-out-part : tie.Need-element-copy-out-part
-element-copy-out-part c = search needs
-
-mul-part-2 : tie.Need-mul-part-2
-mul-part-2 c = search needs
-
-element-copy-out-part-2 : tie.Need-element-copy-out-part-2
-element-copy-out-part-2 c = search needs
-
-part-requires : tie.Need-part-requires
-part-requires c κs = search needs
+returns-2 c =
+    let a = c .before .before .before .before .before .before .args in
+    let limit = ap (λ (e : Edition). e .sites) (c .before .before .before .before .first .ensures) in
+    let range : nameRange edition1 (a .sheet .now) (a .site) ≡ (0, 0)
+    = no-site-above edition1 (a .sheet .now) (a .site) (omega (arith, c .before .if2 .taken, limit)) in
+    let same : 0 + a .sheet .ptr .1 ≡ a .sheet .ptr .1 + partStart (a .sheet .now) (0, 0) = omega arith in
+    rw range (record { bytes = refl; place = ap (λ (o : ℕ). (a .sheet .ptr .0, o)) same })
 
 returns-3 : tie.Need-returns-3
-unfolding nameOf
+unfolding nameRange
 returns-3 c =
-    let a = c .before .before .before .before .before .before .before .before .args in
-    let number : a .site ≡ suc (a .site - 1) = omega arith in
-    rw (c .before .before .before .before .read .ensures) at (c .part .ensures)
-    ∙ name-by-lists (a .sheet .now) (readSheet edition1 (a .sheet .now)) (a .site - 1) ∙ ap (nameOf edition1 (a .sheet .now)) (sym number)
+    let read = c .before .before .before .before in
+    let first = read .before .before .before .before in
+    let a = first .before .before .args in
+    let s = a .sheet .now in
+    let number : a .site ≡ suc (a .site - 1) = omega (arith, read .before .before .before .if1 .left) in
+    let known : read .read-sheet .result ≡ reading (readSheet edition1 s) = read .read-sheet .ensures ∙ ap (λ e. reading (readSheet e s)) (first .first .ensures) in
+    let range = ap (λ (r : Reading). (look (r .network .start) (a .site - 1), look (r .network .end) (a .site - 1))) known
+    ∙ range-by-lists (readSheet edition1 s) (a .site - 1) ∙ ap (nameRange edition1 s) (sym number) in
+    subst (λ r. IsPart (a .sheet) r (c .part .result)) range (c .part .ensures)
 
 pub name-spec : {M : Type 1} → statement M
 name-spec =
     tie.close
     (tie.spec
-    sub-result
-    part-result-start
-    part-result-end
+    (λ c κs. search needs)
+    (λ c. search needs)
+    (λ c. search needs)
+    (λ c. search needs)
     returns
-    sub-result-2
-    part-result-start-2
-    part-result-end-2
+    (λ c. search needs)
+    (λ c. search needs)
+    (λ c. search needs)
     returns-2
-    read-requires
-    mul-part
-    element-copy-out-part
-    mul-part-2
-    element-copy-out-part-2
-    part-requires
+    (λ c κs. rw (c .before .before .before .first .ensures) (omega arith))
+    (λ c. omega (arith, within (c .before .before)))
+    (λ c. omega (arith, within (c .before .before), c .before .before .before .before .if1 .left))
+    (λ c. omega (arith, within (c .before .before .before)))
+    (λ c. omega (arith, within (c .before .before .before), c .before .before .before .before .before .if1 .left))
+    (λ c κs. search needs)
     returns-3)

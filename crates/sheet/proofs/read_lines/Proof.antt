@@ -4,7 +4,8 @@ use Prim.Native.Nat.{_≤_, _<_, _+_, _-_}
 use lib.ListN.{length}
 use borrow.Author.Tests.{not-true, not-false}
 use Rattle.model.specs.Limits.{PLACES, SITES}
-use Rattle.text_lines.specs.LineLaws.{line-stays-on-sheet}
+use Rattle.text_lines.specs.Lines.{afterLine}
+use Rattle.text_lines.specs.LineLaws.{line-stays-on-sheet, a-line-is-on-the-sheet, no-line-is-on-the-sheet, after-line-is-later, after-the-end-of-a-line}
 use Rattle.sheet.specs.Sheet.{stepOf}
 use Rattle.sheet.specs.Reading.{reading}
 use Rattle.sheet.proofs.Progress.{Progress, start, lengths, table-is, held, by-heading, site-fits, by-site, link-fits, by-link, by-refusal, by-parts}
@@ -20,40 +21,56 @@ Inv-loop sheet edition net₀ table₀ labels₀ at₀ number₀ net table label
 abbrev μ-loop : tie.MeasureT-loop
 μ-loop sheet edition net₀ table₀ labels₀ at₀ number₀ net table labels at number = length sheet - at
 
--- the line stays on the sheet
-on-sheet : (c : tie.After-line Inv-loop μ-loop) → let s = c .before .before .before .before .before .before .args .sheet .now in
-    c .before .before .loop .at + length (c .line .result .now) ≤ length s
-on-sheet c = let l = c .before .before .loop in
-    rw (c .line .ensures .bytes) (line-stays-on-sheet (c .before .before .before .before .before .before .args .sheet .now) (l .at) (l .inv .on-sheet))
+-- there is a line here
+here : (c : tie.Then1 Inv-loop μ-loop) → let top = c .before .before in
+    top .loop .at < length (top .before .before .before .before .args .sheet .now)
+here c = let top = c .before .before in
+    a-line-is-on-the-sheet (top .before .before .before .before .args .sheet .now) (top .loop .at) (sym (c .before .has-line .ensures) ∙ c .if1 .taken)
 
--- the next line is later
-less : (c : tie.After-line Inv-loop μ-loop) → let s = c .before .before .before .before .before .before .args .sheet .now in
-    length s - (c .before .before .loop .at + length (c .line .result .now) + 1) < length s - c .before .before .loop .at
-less c = omega (arith, on-sheet c, c .before .loop-test .taken)
-
--- the line of a turn, by its step
+-- the line of a turn, and its place in the loop, by its step and by what follows
 abbrev line-of : tie.After-step-at Inv-loop μ-loop → tie.After-line Inv-loop μ-loop
 line-of c = c .before .before .before .before .before .before
 
+abbrev round : tie.After-step-at Inv-loop μ-loop → tie.At-loop Inv-loop μ-loop
+round c = line-of c .before .before .before
+
+-- the line stays on the sheet
+on-sheet : (c : tie.After-step-at Inv-loop μ-loop) → let top = round c in
+    top .loop .at + length (line-of c .line .result .now) ≤ length (top .before .before .before .before .args .sheet .now)
+on-sheet c = let top = round c in
+    let stays = line-stays-on-sheet (top .before .before .before .before .args .sheet .now) (top .loop .at) (top .loop .inv .on-sheet) in
+    omega (arith, ap length (line-of c .line .ensures .bytes), stays)
+
+-- the rest is the line after this one, which is later
+rest-is : (c : tie.After-rest Inv-loop μ-loop) → let top = round (c .before) in
+    c .rest .result ≡ afterLine (top .before .before .before .before .args .sheet .now) (top .loop .at)
+rest-is c = let top = round (c .before) in
+    rw (line-of (c .before) .line .ensures .bytes) at (c .rest .ensures)
+    ∙ after-the-end-of-a-line (top .before .before .before .before .args .sheet .now) (top .loop .at) (top .loop .inv .on-sheet)
+
+less : (c : tie.After-rest Inv-loop μ-loop) → let top = round (c .before) in let s = top .before .before .before .before .args .sheet .now in
+    length s - c .rest .result < length s - top .loop .at
+less c =
+    let line = line-of (c .before) in
+    let top = round (c .before) in
+    let s = top .before .before .before .before .args .sheet .now in
+    let later = after-line-is-later s (top .loop .at) (sym (line .before .before .has-line .ensures) ∙ line .before .if1 .taken) in
+    omega (arith, here (line .before), rest-is c, later)
+
 -- the step is that of the line, after the network read so far
-step-is : (c : tie.After-step-at Inv-loop μ-loop) → let top = c .before .before .before .before .before .before .before .before in
-    let a = top .before .before .before .before .args in
+step-is : (c : tie.After-step-at Inv-loop μ-loop) → let top = round c in let a = top .before .before .before .before .args in
     c .step-at .result ≡ stepOf (a .edition) (a .sheet .now) (top .loop .inv .read) (top .loop .number) (top .loop .at)
-step-is c = let l = (line-of c) .before .before .loop in c .step-at .ensures (l .inv .read) (held (l .inv))
+step-is c = let P = round c .loop .inv in c .step-at .ensures (P .read) (held P)
 
 -- there is room for a site, and for a link and its labels
-site-room : (c : tie.After-known-told2 Inv-loop μ-loop) → let step = c .before .before .before in
-    let round = step .before .before .before .before .before .before .before .before in round .loop .net .sites < SITES
-site-room c = let step = c .before .before .before in let tested = step .before .before .before .before .before .before .before in
-    let round = tested .before in
-    site-fits (round .loop .inv) (step .step-at .result) (tested .loop-test .taken) (step-is step) _ _ (c .before .step2 .given .1)
+site-room : (c : tie.After-known-told2 Inv-loop μ-loop) → round (c .before .before .before .before) .loop .net .sites < SITES
+site-room c = let step = c .before .before .before .before in
+    site-fits (round step .loop .inv) (step .step-at .result) (here (line-of step .before)) (step-is step) _ _ (c .before .step2 .given .1)
 
-link-room : (c : tie.After-known-told3 Inv-loop μ-loop) → let step = c .before .before .before in
-    let round = step .before .before .before .before .before .before .before .before in let given = c .before .step3 .given in
-    (round .loop .net .links < SITES) × (given .0 .0 < PLACES) × (given .0 .1 .0 < PLACES)
-link-room c = let step = c .before .before .before in let tested = step .before .before .before .before .before .before .before in
-    let round = tested .before in
-    link-fits (round .loop .inv) (step .step-at .result) (tested .loop-test .taken) (step-is step) _ _ _ (c .before .step3 .given .1)
+link-room : (c : tie.After-known-told3 Inv-loop μ-loop) → let given = c .before .step3 .given in
+    (round (c .before .before .before .before) .loop .net .links < SITES) × (given .0 .0 < PLACES) × (given .0 .1 .0 < PLACES)
+link-room c = let step = c .before .before .before .before in
+    link-fits (round step .loop .inv) (step .step-at .result) (here (line-of step .before)) (step-is step) _ _ _ (c .before .step3 .given .1)
 
 loop-holds : tie.Need-loop-holds Inv-loop μ-loop
 loop-holds c =
@@ -61,50 +78,45 @@ loop-holds c =
     (start (c .before .before .before .args .edition) (c .before .before .before .pre) (c .before .before .before .args .sheet .now))
 
 step-at-requires : tie.Need-step-at-requires Inv-loop μ-loop
-step-at-requires c κs = let P = c .before .before .before .before .before .before .before .loop .inv in
-    (lengths P .1, table-is P, P .on-sheet, c .before .before .before .before .before .line .ensures .bytes)
+step-at-requires c κs = let line = c .before .before .before .before .before in let P = line .before .before .before .loop .inv in
+    (lengths P .1, table-is P, P .on-sheet, line .line .ensures .bytes)
 
 returns : tie.Need-returns Inv-loop μ-loop
-returns c =
-    let step = c .before .before .before .before in let tested = step .before .before .before .before .before .before .before in
-    let round = tested .before in
-    c .refusal .ensures
-    ∙ ap reading (sym (by-refusal (round .loop .inv) (step .step-at .result) (tested .loop-test .taken) (step-is step) _ (c .before .before .step .given .1)))
+returns c = let step = c .before .before .before .before .before in
+    let cause = by-refusal (round step .loop .inv) (step .step-at .result) (here (line-of step .before)) (step-is step) _ _ (c .before .before .step .given .1) in
+    c .refusal .ensures ∙ ap reading (sym cause)
 
 loop-again : tie.Need-loop-again Inv-loop μ-loop
-loop-again c =
-    let step = c .before .before in let tested = step .before .before .before .before .before .before .before in
-    let round = tested .before in
-    rw (line-of step .line .ensures .bytes)
-    (by-heading (round .loop .inv) (step .step-at .result) (tested .loop-test .taken) (step-is step) (c .enum-told .given .1))
+loop-again c = let step = c .before .before .before in
+    rw (rest-is (c .before .before))
+    (by-heading (round step .loop .inv) (step .step-at .result) (here (line-of step .before)) (step-is step) (c .enum-told .given .1))
 
 loop-again-2 : tie.Need-loop-again-2 Inv-loop μ-loop
-loop-again-2 c =
-    let step = c .before .before .before .before .before in let tested = step .before .before .before .before .before .before .before in
-    let round = tested .before in
-    rw (line-of step .line .ensures .bytes)
-    (by-site (round .loop .inv) (step .step-at .result) (tested .loop-test .taken) (step-is step) _ _ (c .before .before .before .step2 .given .1) _
+loop-again-2 c = let next = c .before .before .before .before .before in let step = next .before in
+    rw (rest-is next)
+    (by-site (round step .loop .inv) (step .step-at .result) (here (line-of step .before)) (step-is step) _ _ (c .before .before .before .step2 .given .1) _
     (c .enter .ensures))
 
 loop-again-3 : tie.Need-loop-again-3 Inv-loop μ-loop
-loop-again-3 c =
-    let step = c .before .before .before .before .before .before in let tested = step .before .before .before .before .before .before .before in
-    let round = tested .before in
-    rw (line-of step .line .ensures .bytes)
-    (by-link (round .loop .inv) (step .step-at .result) (tested .loop-test .taken) (step-is step) _ _ _ (c .before .before .before .before .step3 .given .1) _
-    (c .before .join .ensures))
+loop-again-3 c = let next = c .before .before .before .before .before .before in let step = next .before in
+    rw (rest-is next)
+    (by-link (round step .loop .inv) (step .step-at .result) (here (line-of step .before)) (step-is step) _ _ _
+    (c .before .before .before .before .step3 .given .1) _ (c .before .join .ensures))
+
+-- after the last line
+ended : (c : tie.Else1 Inv-loop μ-loop) → let top = c .before .before in
+    length (top .before .before .before .before .args .sheet .now) ≤ top .loop .at
+ended c = let top = c .before .before in
+    no-line-is-on-the-sheet (top .before .before .before .before .args .sheet .now) (top .loop .at) (sym (c .before .has-line .ensures) ∙ c .if1 .left)
 
 returns-2 : tie.Need-returns-2 Inv-loop μ-loop
-returns-2 c =
+returns-2 c = let over = c .before .before .before .before in
     c .refusal2 .ensures
-    ∙ ap reading
-    (sym (by-parts (c .before .before .before .before .before .loop .inv) (c .before .before .before .before .loop-test .left)
-    (sym (c .before .before .is-whole .ensures) ∙ not-true _ (c .before .if1 .taken))))
+    ∙ ap reading (sym (by-parts (over .before .before .loop .inv) (ended over) (sym (c .before .before .is-whole .ensures) ∙ not-true _ (c .before .if2 .taken))))
 
 returns-3 : tie.Need-returns-3 Inv-loop μ-loop
-returns-3 c =
-    sym (by-acceptance (c .before .before .before .before .loop .inv) (c .before .before .before .loop-test .left)
-    (sym (c .before .is-whole .ensures) ∙ not-false _ (c .if1 .left)))
+returns-3 c = let over = c .before .before .before in
+    sym (by-acceptance (over .before .before .loop .inv) (ended over) (sym (c .before .is-whole .ensures) ∙ not-false _ (c .if2 .left)))
 
 pub read-lines-spec : {M : Type 1} → statement M
 read-lines-spec =
@@ -116,15 +128,16 @@ read-lines-spec =
     (λ c κs. search needs)
     loop-holds
     (λ c κs. search needs)
+    (λ c κs. search needs)
     step-at-requires
-    (λ c. omega (arith, on-sheet (line-of c)))
-    (λ c. omega (arith, on-sheet (line-of c)))
-    (λ c. let l = (line-of c) .before .before .loop in omega (arith, l .inv .numbered, l .inv .on-sheet))
+    (λ c. omega (arith, on-sheet c))
+    (λ c κs. search needs)
+    (λ c. let l = round (c .before) .loop in omega (arith, l .inv .numbered, l .inv .on-sheet))
     (λ c. search needs)
     (λ c κs. search needs)
     returns
     (λ c. search needs)
-    (λ c. less (line-of (c .before .before)))
+    (λ c. less (c .before .before))
     loop-again
     (λ c. search needs)
     (λ c. omega (arith, site-room c))
@@ -134,7 +147,7 @@ read-lines-spec =
     (λ c. omega (arith, site-room c))
     (λ c. omega (arith, site-room (c .before)))
     (λ c κs. omega (arith, site-room (c .before)))
-    (λ c. less (line-of (c .before .before .before .before .before)))
+    (λ c. less (c .before .before .before .before .before))
     loop-again-2
     (λ c. search needs)
     (λ c. omega (arith, link-room c))
@@ -144,11 +157,11 @@ read-lines-spec =
     (λ c. omega (arith, link-room c))
     (λ c. link-room c .0)
     (λ c. omega (arith, link-room c))
-    (λ c. omega (arith, lengths ((line-of (c .before .before .before .before)) .before .before .loop .inv)))
+    (λ c. omega (arith, lengths (round (c .before .before .before .before .before) .loop .inv)))
     (λ c κs. search needs)
-    (λ c. less (line-of (c .before .before .before .before .before .before)))
+    (λ c. less (c .before .before .before .before .before .before))
     loop-again-3
-    (λ c. omega (arith, lengths (c .before .before .loop .inv)))
+    (λ c. omega (arith, lengths (c .before .before .before .loop .inv)))
     (λ c κs. search needs)
     (λ c κs. search needs)
     returns-2

@@ -11,7 +11,7 @@ use Rattle.sheet_names.proofs.enter.Tie as tie
 
 -- the hash is that of the name, and a place of the table
 hash-is : (c : tie.After-hash) → let a = c .before .before .before .args in c .hash .result ≡ hash (part (a .sheet .now) (a .start, a .end))
-hash-is c = rw (c .before .part .ensures) at (c .hash .ensures)
+hash-is c = rw (c .before .part .ensures .bytes) at (c .hash .ensures)
 
 place : (c : tie.After-hash) → c .hash .result < 16384
 place c = let a = c .before .before .before .args in rw (hash-is c) (hash-below 0 (part (a .sheet .now) (a .start, a .end)) (omega arith))

@@ -13,7 +13,7 @@ use Rattle.sheet_names.proofs.find.Tie as tie
 
 -- the hash is that of the name, and a place of the table
 hash-is : (c : tie.After-hash) → let a = c .before .before .before .args in c .hash .result ≡ hash (part (a .sheet .now) (a .start, a .end))
-hash-is c = rw (c .before .part .ensures) at (c .hash .ensures)
+hash-is c = rw (c .before .part .ensures .bytes) at (c .hash .ensures)
 
 place : (c : tie.After-hash) → c .hash .result < 16384
 place c = let a = c .before .before .before .args in rw (hash-is c) (hash-below 0 (part (a .sheet .now) (a .start, a .end)) (omega arith))
@@ -39,7 +39,7 @@ returns-2 c =
     let v = look (a .table .now) (site .before .hash .result) in
     let one : 1 ≤ v = omega (arith, c .before .before .before .before .before .if1 .left) in
     let named : part (a .sheet .now) (look (a .starts .now) (v - 1), look (a .ends .now) (v - 1)) ≡ name
-    = same-are-equal _ _ (sym (rw (c .before .before .part2 .ensures, site .before .before .part .ensures) at (c .before .same .ensures)) ∙ c .if2 .taken) in
+    = same-are-equal _ _ (sym (rw (c .before .before .part2 .ensures .bytes, site .before .before .part .ensures .bytes) at (c .before .same .ensures)) ∙ c .if2 .taken) in
     sym (site-there (start .pre .1) name v one (ap (look (a .table .now)) (sym (hash-is (site .before))))
     (ap (part (a .sheet .now)) (range-at (a .starts .now) (a .ends .now) (a .sites) (v - 1) (omega (arith, there site))) ∙ named))
 
@@ -47,7 +47,7 @@ returns-2 c =
 returns-3 : tie.Need-returns-3
 returns-3 c =
     let at-part = c .before .before .before .before .before .before .before .before .before in
-    rw (at-part .part .ensures) at (c .scan .ensures)
+    rw (at-part .part .ensures .bytes) at (c .scan .ensures)
 
 pub find-spec : {M : Type 1} → statement M
 find-spec =

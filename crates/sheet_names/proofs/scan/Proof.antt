@@ -22,7 +22,7 @@ abbrev μ-loop : tie.MeasureT-loop
 tested : (c : tie.After-same Inv-loop μ-loop) → let a = c .before .before .before .before .before .before .before .before .args in
     let i = c .before .before .before .before .before .loop .i in
     c .same .result ≡ same (part (a .sheet .now) (look (a .starts .now) i, look (a .ends .now) i)) (a .name .now)
-tested c = rw (c .before .part .ensures) at (c .same .ensures)
+tested c = rw (c .before .part .ensures .bytes) at (c .same .ensures)
 
 loop-holds : tie.Need-loop-holds Inv-loop μ-loop
 loop-holds c = (omega arith, rw sub-zero)

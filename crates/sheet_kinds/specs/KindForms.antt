@@ -1,0 +1,104 @@
+-- What a line of each kind is: the kind of a line is a heading, a site or a link just where its fields have that form; and its names are its
+-- fields 1 and 2. By the first field, as the kind of a line is found.
+use mathlib.Core.Bool.{Bool, true, false, cond, false≢true}
+use mathlib.Core.List.{List}
+use mathlib.Core.Logic.{_≢_}
+use mathlib.Core.Path.{_≡_, refl, sym, ap, subst, _∙_}
+use Prim.Native.Nat.{ℕ, _+_, _-_, _≤_, _<_}
+use native.Mathlib.Omega.{arith}
+use lib.Dec.{leb}
+use lib.ListN.{length, take, drop}
+use borrow.Author.Tests.{leb-true, le-leb}
+use Rattle.model.specs.Text.{bytes}
+use Rattle.sheet_kinds.specs.LineKinds.{same, fields, field, value, isHeading, checked, faultOf, siteForm, linkForm, IsSite, IsLink, judged, siteLine}
+use Rattle.sheet_kinds.specs.LineKinds.{sizedLink, linkLine, kindOf, kind}
+use Rattle.sheet_kinds.specs.LineKindLaws.{equal-are-same, judged-cases, site-parts, link-parts}
+use Rattle.sheet_kinds.specs.FormedLines.{part-of-field-1, part-of-field-2}
+use Rattle.sheet_kinds.specs.FaultyLines.{link-is-no-heading}
+use Rattle.sheet_kinds.specs.declared.Line.{Line}
+use Rattle.sheet_kinds.specs.declared.Line.the-variants.{Heading, Site, Link, Fault}
+
+-- the line is a link whose size is within the limit
+pub record LinkWithin (most : ℕ) (l : List ℕ) : Type 0 where
+  pub link : IsLink (fields l)
+  pub within : value (field (fields l) 3) ≤ most
+
+module _ (l : List ℕ) where
+  -- the name of a site, and the names of a link
+  pub site-name-is-field-1 : IsSite (fields l) → take (2 + length (field (fields l) 1) - 2) (drop 2 l) ≡ field (fields l) 1
+  site-name-is-field-1 h =
+      let k = site-parts (fields l) h in
+      part-of-field-1 l (omega (arith, k .count)) (ap length (k .letter))
+
+  pub link-name-is-field-1 : IsLink (fields l) → take (2 + length (field (fields l) 1) - 2) (drop 2 l) ≡ field (fields l) 1
+  link-name-is-field-1 h =
+      let k = link-parts (fields l) h in
+      part-of-field-1 l (omega (arith, k .count)) (ap length (k .letter))
+
+  pub link-name-is-field-2 : IsLink (fields l) → let a = length (field (fields l) 1) in let b = length (field (fields l) 2) in
+      take (3 + a + b - (3 + a)) (drop (3 + a) l) ≡ field (fields l) 2
+  link-name-is-field-2 h =
+      let k = link-parts (fields l) h in
+      part-of-field-2 l (omega (arith, k .count)) (ap length (k .letter))
+
+module _ (most : ℕ) (l : List ℕ) where
+  -- what a kind tells of the line: its form, and the places of its names
+  abbrev pub Tells : Line → Type 0
+  Tells Heading = isHeading (fields l) ≡ true
+  Tells (Site a e) = (isHeading (fields l) ≡ false) × IsSite (fields l) × (Site a e ≡ Site 2 (2 + length (field (fields l) 1)))
+  Tells (Link a e b f size) =
+      let one = length (field (fields l) 1) in
+      let two = length (field (fields l) 2) in
+      (isHeading (fields l) ≡ false) × LinkWithin most l
+      × (Link a e b f size ≡ Link 2 (2 + one) (3 + one) (3 + one + two) (value (field (fields l) 3)))
+  Tells (Fault n) = isHeading (fields l) ≡ false
+
+  module _ (no : isHeading (fields l) ≡ false) where
+    sized-tells : IsLink (fields l) → Tells (sizedLink most (fields l))
+    unfolding sizedLink
+    sized-tells g = by (leb (value (field (fields l) 3)) most) refl
+      where
+        by : (w : Bool) → leb (value (field (fields l) 3)) most ≡ w → let a = length (field (fields l) 1) in let b = length (field (fields l) 2) in
+            Tells (cond w (Link 2 (2 + a) (3 + a) (3 + a + b) (value (field (fields l) 3))) (Fault 3))
+        by true h = (no, record { link = g; within = leb-true _ _ h }, refl)
+        by false h = no
+
+    link-tells : Tells (linkLine most (fields l))
+    unfolding linkLine
+    link-tells = judged-cases Tells (checked linkForm (fields l)) _ sized-tells (λ d. no)
+
+    site-tells : Tells (siteLine (fields l))
+    unfolding siteLine
+    site-tells = judged-cases Tells (checked siteForm (fields l)) _ (λ g. (no, g, refl)) (λ d. no)
+
+  -- the kind of a line tells its form
+  pub a-kind-tells-its-form : Tells (kind most l)
+  unfolding kind kindOf
+  a-kind-tells-its-form = by (isHeading (fields l)) refl (same (field (fields l) 0) (bytes "L"))
+    where
+      by : (t : Bool) → isHeading (fields l) ≡ t → (u : Bool) → Tells (cond t Heading (cond u (linkLine most (fields l)) (siteLine (fields l))))
+      by true e u = e
+      by false e true = link-tells e
+      by false e false = site-tells e
+
+  -- and the form its kind
+  pub a-heading-by-its-form : isHeading (fields l) ≡ true → kind most l ≡ Heading
+  unfolding kind kindOf
+  a-heading-by-its-form e = rw e
+
+  pub no-heading-by-its-form : isHeading (fields l) ≡ false → kind most l ≢ Heading
+  no-heading-by-its-form e z = false≢true (sym e ∙ subst Tells z a-kind-tells-its-form)
+
+  site-is-no-heading : IsSite (fields l) → isHeading (fields l) ≡ false
+  unfolding isHeading same
+  site-is-no-heading e = let k = site-parts (fields l) e in rw (k .count, k .letter)
+
+  pub a-site-by-its-form : IsSite (fields l) → kind most l ≡ Site 2 (2 + length (field (fields l) 1))
+  unfolding kind kindOf siteLine judged faultOf same
+  a-site-by-its-form e = rw (site-is-no-heading e, site-parts (fields l) e .letter, e)
+
+  pub a-link-by-its-form : LinkWithin most l → let a = length (field (fields l) 1) in let b = length (field (fields l) 2) in
+      kind most l ≡ Link 2 (2 + a) (3 + a) (3 + a + b) (value (field (fields l) 3))
+  unfolding kind kindOf linkLine judged faultOf sizedLink
+  a-link-by-its-form h =
+      rw (link-is-no-heading most l (h .link), link-parts (fields l) (h .link) .letter, equal-are-same (bytes "L"), h .link, le-leb _ _ (h .within))
