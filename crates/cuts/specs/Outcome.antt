@@ -55,10 +55,3 @@ number Done = 0
 -- no line is at fault
 unfoldable pub line : Answer → ℕ
 line a = 0
-
--- how many sites have their places written, of n: 0 where something else is said
-unfoldable pub written : Answer → ℕ → ℕ
-written NoTree n = 0
-written TooLarge n = 0
-written Unequal n = 0
-written Done n = n

@@ -59,9 +59,10 @@ module _ (ed : Edition) (n : ℕ) (a b c : List ℕ) where
 
   pub no-tree-is-said-just-of-no-tree : (offer ed n a b c ≡ NoTree) ↔ (¬ (SizedTree ed n a b c))
   unfolding offer offerOf
-  no-tree-is-said-just-of-no-tree =
-      (λ e w. let t = said tests (within 0 (ed .size) c) e in true≢false (sym (tested w) ∙ t),
-      λ d. rw (is-false tests (λ e. d (sized e))) refl)
+  no-tree-is-said-just-of-no-tree = (
+    λ e w. let t = said tests (within 0 (ed .size) c) e in true≢false (sym (tested w) ∙ t),
+    λ d. rw (is-false tests (λ e. d (sized e))) refl,
+  )
     where
       said : (t u : Bool) → cond t (cond u Accepted TooLarge) NoTree ≡ NoTree → t ≡ false
       said true true e = contradiction cc
@@ -70,9 +71,10 @@ module _ (ed : Edition) (n : ℕ) (a b c : List ℕ) where
 
   pub too-large-is-said-just-of-a-capacity-above-the-limit : (offer ed n a b c ≡ TooLarge) ↔ (SizedTree ed n a b c × Above (ed .size) c)
   unfolding offer offerOf
-  too-large-is-said-just-of-a-capacity-above-the-limit =
-      (λ e. let t = said tests (within 0 (ed .size) c) e in (sized (t .0), not-within-is-above (ed .size) c (t .1)),
-      λ w. rw (tested (w .0), above-is-not-within (ed .size) c (w .1)) refl)
+  too-large-is-said-just-of-a-capacity-above-the-limit = (
+    λ e. let t = said tests (within 0 (ed .size) c) e in (sized (t .0), not-within-is-above (ed .size) c (t .1)),
+    λ w. rw (tested (w .0), above-is-not-within (ed .size) c (w .1)) refl,
+  )
     where
       said : (t u : Bool) → cond t (cond u Accepted TooLarge) NoTree ≡ TooLarge → (t ≡ true) × (u ≡ false)
       said true true e = contradiction cc
