@@ -95,7 +95,11 @@ module _ (n : ℕ) (a b c t : List ℕ) where
             (λ h. inr (accepted-is-a-tree-within-the-limits largest n a b c (h .0), eqb-true (length t) (length a) (h .1), not-within-is-above SIZE t (h .2)))
             (said-too-large (offer largest n a b c) each (within 0 SIZE t) (offeredCuts n a b c t) made e),
         ⊎-elim (λ h. rw (law .1 h) refl)
-            (λ h. rw (a-tree-within-the-limits-is-accepted largest n a b c (h .0), eq-eqb (length t) (length a) (h .1), above-is-not-within SIZE t (h .2)) refl),
+            (λ h. rw (
+              a-tree-within-the-limits-is-accepted largest n a b c (h .0),
+              eq-eqb (length t) (length a) (h .1),
+              above-is-not-within SIZE t (h .2),
+            ) refl),
       )
 
   pub unequal-is-told-just-of-another-number-of-balanced-sizes : (outcome n a b c t .answer ≡ Unequal)

@@ -22,7 +22,8 @@ use Rattle.tree.specs.Answers.{SizedTree, Above}
 use Rattle.tree.specs.Answers.{no-tree-is-said-just-of-no-tree, too-large-is-said-just-of-a-capacity-above-the-limit}
 use Rattle.tree.specs.declared.Offer.{Offer}
 use Rattle.tree.specs.declared.Offer.the-variants as offered
-use Rattle.pairing.specs.Weighing.Heavy.{heavySomewhere, balanced-has-no-heavy-link, no-heavy-link-is-balanced}
+use Rattle.pairing.specs.Weighing.Heavy.{HeavyLink, heavySomewhere, balanced-has-no-heavy-link, no-heavy-link-is-balanced}
+use Rattle.pairing.specs.Weighing.Heavy.{heavy-somewhere-is-a-heavy-link, a-heavy-link-is-somewhere}
 use Rattle.pairing.specs.declared.Pairing.{Pairing}
 use Rattle.pairing.specs.declared.Pairing.the-variants.{NoTree, TooLarge, Short, Heavy, Pairs}
 use Rattle.pairing.specs.Outcome.{terminals, listOf, decide, answer, after, paired, number, pairCount}
@@ -77,17 +78,6 @@ module _ (n : ℕ) (one two c : List ℕ) where
   abbrev heavy : Bool
   heavy = heavySomewhere (links one two) n (terminals n one two) (look c)
 
-  -- no inner site has a heavy link
-  abbrev pub Even : Type 0
-  Even = Balanced (links one two) (terminals n one two) (look c)
-
-  heavy-unless-balanced : TreeWithin largest n one two c → ¬ Even → heavy ≡ true
-  heavy-unless-balanced w d = by heavy refl
-    where
-      by : (t : Bool) → heavy ≡ t → t ≡ true
-      by true e = refl
-      by false e = absurd (d (no-heavy-link-is-balanced (links one two) (terminals n one two) (look c) (w .tree) e))
-
   module _ (places : ℕ) where
     abbrev enough : Bool
     enough = leb (length one) places
@@ -117,23 +107,24 @@ module _ (n : ℕ) (one two c : List ℕ) where
     )
 
     pub heavy-is-told-just-of-a-heavy-link : (answer n one two c places ≡ Heavy)
-        ↔ (TreeWithin largest n one two c × (length one ≤ places) × (¬ Even))
+        ↔ (TreeWithin largest n one two c × (length one ≤ places) × HeavyLink (links one two) n (terminals n one two) (look c))
     unfolding answer decide
     heavy-is-told-just-of-a-heavy-link = (
       λ e. let h = said-heavy (offer largest n one two c) enough heavy m e in (
         accepted-is-a-tree-within-the-limits largest n one two c (h .0),
         leb-true (length one) places (h .1),
-        λ b. let none = balanced-has-no-heavy-link (links one two) (terminals n one two) (look c) n b in let there = h .2 in contradiction cc,
+        heavy-somewhere-is-a-heavy-link (links one two) (terminals n one two) (look c) n (h .2),
       ),
       λ h. rw (
         a-tree-within-the-limits-is-accepted largest n one two c (h .0),
         le-leb (length one) places (h .1),
-        heavy-unless-balanced (h .0) (h .2),
+        a-heavy-link-is-somewhere (links one two) (terminals n one two) (look c) n (h .2),
       ) refl,
     )
 
     pub pairs-are-told-just-of-balanced-sizes : (count : ℕ) → (answer n one two c places ≡ Pairs count)
-        ↔ (TreeWithin largest n one two c × (length one ≤ places) × Even × (count ≡ length (listOf n one two c)))
+        ↔ (TreeWithin largest n one two c × (length one ≤ places) × Balanced (links one two) (terminals n one two) (look c)
+        × (count ≡ length (listOf n one two c)))
     unfolding answer decide
     pairs-are-told-just-of-balanced-sizes count = (
       λ e. let h = said-pairs (offer largest n one two c) enough heavy m count e in

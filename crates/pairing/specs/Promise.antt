@@ -18,6 +18,8 @@ use Rattle.theory_trees.specs.Ends.{ends-are-outer}
 use Rattle.theory_walk.specs.PairingTheorem.{pair-list-is-sound, pair-list-ascends, pair-list-lower-first}
 use Rattle.pairing.specs.declared.Pairing.the-variants.{Heavy, Pairs}
 use Rattle.pairing.specs.Outcome.{terminals, listOf, answer, after, paired}
+use Rattle.pairing.specs.Weighing.Heavy.{balanced-has-no-heavy-link, a-heavy-link-is-somewhere}
+use Rattle.lists.specs.Sums.{contradiction}
 use Rattle.pairing.specs.Answers.{heavy-is-told-just-of-a-heavy-link, pairs-are-told-just-of-balanced-sizes}
 
 -- the first `count` places of a list hold the pairs of a tree with the balanced capacities c
@@ -40,7 +42,11 @@ balanced-capacities-are-paired {n} {one} {two} {c} t B places enough =
 -- a heavy link is told of no balanced capacities
 pub heavy-is-not-balanced : (n : ℕ) (one two c : List ℕ) (places : ℕ) → answer n one two c places ≡ Heavy
     → Balanced (links one two) (terminals n one two) (look c) → ⊥
-heavy-is-not-balanced n one two c places e = heavy-is-told-just-of-a-heavy-link n one two c places .0 e .2
+heavy-is-not-balanced n one two c places e B =
+    let heavy = heavy-is-told-just-of-a-heavy-link n one two c places .0 e .2 in
+    let there = a-heavy-link-is-somewhere (links one two) (terminals n one two) (look c) n heavy in
+    let none = balanced-has-no-heavy-link (links one two) (terminals n one two) (look c) n B in
+    contradiction cc
 
 module _ (n : ℕ) (one two c : List ℕ) (lent : List Pair) (count : ℕ) (e : answer n one two c (length lent) ≡ Pairs count) where
   told : TreeWithin largest n one two c × (length one ≤ length lent) × Balanced (links one two) (terminals n one two) (look c)

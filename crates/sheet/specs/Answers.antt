@@ -50,17 +50,16 @@ module _ (ed : Edition) (s : List ℕ) where
   cause-is-2-to-7 (not-given h d a e b f size is o) = omega arith
   cause-is-2-to-7 (already-joined h d a e b f size is v w p q j) = omega arith
 
-  module _ {n k : ℕ} where
-    pub refusals-have-numbers-1-to-8 : Refusal ed s n k → (1 ≤ n) × (n ≤ 8)
-    refusals-have-numbers-1-to-8 (by-length o) = omega arith
-    refusals-have-numbers-1-to-8 (by-line some few r h c) = omega (arith, cause-is-2-to-7 c)
-    refusals-have-numbers-1-to-8 (by-whole some few r h o) = omega arith
+  pub refusals-have-numbers-1-to-8 : {n k : ℕ} → Refusal ed s n k → (1 ≤ n) × (n ≤ 8)
+  refusals-have-numbers-1-to-8 (by-length o) = omega arith
+  refusals-have-numbers-1-to-8 (by-line some few r h c) = omega (arith, cause-is-2-to-7 c)
+  refusals-have-numbers-1-to-8 (by-whole some few r h o) = omega arith
 
-    -- a line at fault is one of the sheet, which is within the limit; other refusals are at line 0
-    pub a-line-at-fault-is-on-the-sheet : Refusal ed s n k → (k ≤ length s) × (k ≤ ed .bytes)
-    a-line-at-fault-is-on-the-sheet (by-length o) = omega arith
-    a-line-at-fault-is-on-the-sheet (by-line some few r h c) = omega (arith, lines-are-bytes r)
-    a-line-at-fault-is-on-the-sheet (by-whole some few r h o) = omega arith
+  -- a line at fault is one of the sheet, which is within the limit; other refusals are at line 0
+  pub a-line-at-fault-is-on-the-sheet : {n k : ℕ} → Refusal ed s n k → (k ≤ length s) × (k ≤ ed .bytes)
+  a-line-at-fault-is-on-the-sheet (by-length o) = omega arith
+  a-line-at-fault-is-on-the-sheet (by-line some few r h c) = omega (arith, lines-are-bytes r)
+  a-line-at-fault-is-on-the-sheet (by-whole some few r h o) = omega arith
 
   -- ---- what is told
 

@@ -1,10 +1,12 @@
 -- `terminal_cuts` meets its contract, answer by answer.
 use mathlib.Core.Path.{_≡_, refl, sym, _∙_}
+use mathlib.Core.Bool.{true, false}
 use borrow.Author.Needs.{needs}
 use borrow.Author.Tests.{eq-eqb, ne-eqb, not-true, not-false}
 use lib.ListN.{length}
+use Rattle.model.specs.Limits.{SIZE}
 use Rattle.model.specs.Edition.{largest}
-use Rattle.tree.specs.Offer.{offer}
+use Rattle.tree.specs.Offer.{within, offer}
 use Rattle.tree.specs.declared.Offer.the-variants.{Accepted}
 use Rattle.tree.specs.Accepted.{accepted-is-a-tree-within-the-limits}
 use Rattle.cuts.specs.Outcome.{decide, outcome}
@@ -41,7 +43,7 @@ balanced-too-large c =
     let tested = c .before .before in
     let told = tested .before .before in
     let a = told .before .before .before .before .before .before .before .args in
-    let large = sym (tested .capacities-within .ensures) ∙ not-true _ (c .before .if2 .taken) in
+    let large : within 0 SIZE (a .balanced .now) ≡ false = sym (tested .capacities-within .ensures) ∙ not-true _ (c .before .if2 .taken) in
     c .no-cuts4 .ensures
     ∙ rw (accepted told, eq-eqb (length (a .balanced .now)) (length (a .one .now)) (tested .before .if1 .left), large) refl
 
@@ -51,7 +53,7 @@ made c =
     let tested = c .before .before in
     let told = tested .before .before in
     let a = told .before .before .before .before .before .before .before .args in
-    let small = sym (tested .capacities-within .ensures) ∙ not-false _ (c .before .if2 .left) in
+    let small : within 0 SIZE (a .balanced .now) ≡ true = sym (tested .capacities-within .ensures) ∙ not-false _ (c .before .if2 .left) in
     c .cuts-by-ends .ensures
     ∙ rw (accepted told, eq-eqb (length (a .balanced .now)) (length (a .one .now)) (tested .before .if1 .left), small) refl
 
