@@ -1,7 +1,7 @@
 -- What reading a sheet answers, in both directions: a number at a line just for its cause, 0 just without one. Numbers are 1 to 8, and a line at fault
 -- is one of the sheet. Document 01, "The network sheet" (the table's columns "No." and "Returned"). By the causes, one by one.
 use mathlib.Core.List.{List}
-use mathlib.Core.Logic.{_↔_}
+use mathlib.Core.Logic.{_↔_, _≢_}
 use mathlib.Core.Path.{_≡_, refl}
 use Prim.Native.Nat.{ℕ, suc, _≤_, _<_}
 use native.Mathlib.Omega.{arith}
@@ -11,8 +11,8 @@ use Rattle.lists.specs.Sums.{contradiction}
 use Rattle.model.specs.declared.Edition.{Edition}
 use Rattle.text_lines.specs.Lines.{hasLine}
 use Rattle.text_lines.specs.LineLaws.{after-line-is-later}
-use Rattle.sheet.specs.Sheet.{Network, Read, refused, accepted, readSheet}
-use Rattle.sheet.specs.Reading.{reading}
+use Rattle.sheet.specs.Sheet.{Network, empty, Read, refused, accepted, readSheet}
+use Rattle.sheet.specs.Reading.{lists, reading}
 use Rattle.sheet.specs.Causes.{Cause, unended, no-heading, second-heading, wrong-form, too-large, too-many, given, not-given, already-joined}
 use Rattle.sheet.specs.Causes.{Reached, start, next, Refusal, by-length, by-line, by-whole}
 use Rattle.sheet.specs.SheetTheorem.{a-sheet-is-refused-for-its-cause}
@@ -63,10 +63,12 @@ module _ (ed : Edition) (s : List ℕ) where
 
   -- ---- what is told
 
-  abbrev told : Answer
+  -- the answer to the sheet
+  abbrev pub told : Answer
   told = reading (readSheet ed s) .answer
 
-  abbrev Tells : Read → ℕ → ℕ → Type 0
+  -- what reading comes to is told with number n, at line k
+  abbrev pub Tells : Read → ℕ → ℕ → Type 0
   Tells r n k = (number (reading r .answer) ≡ n) × (line (reading r .answer) ≡ k)
 
   pub a-number-is-told-just-for-its-cause : (n k : ℕ) → 1 ≤ n → Tells (readSheet ed s) n k ↔ Refusal ed s n k
@@ -89,3 +91,16 @@ module _ (ed : Edition) (s : List ℕ) where
       by : (r : Read) → readSheet ed s ≡ r → ((n k : ℕ) → ¬ (Refusal ed s n k)) → number (reading r .answer) ≡ 0
       by (refused n k) e none = absurd (none n k (a-sheet-is-refused-for-its-cause ed s n k .0 e))
       by (accepted net) e none = refl
+
+  -- a sheet that is refused is answered with the network of no sites, any other with its own
+  pub a-refused-sheet-gets-no-network : number told ≢ 0 → reading (readSheet ed s) .network ≡ lists empty
+  unfolding number reading
+  a-refused-sheet-gets-no-network = by (readSheet ed s)
+    where
+      by : (r : Read) → number (reading r .answer) ≢ 0 → reading r .network ≡ lists empty
+      by (refused n k) d = refl
+      by (accepted net) d = absurd (d refl)
+
+  pub an-accepted-sheet-gets-its-network : (net : Network) → readSheet ed s ≡ accepted net → reading (readSheet ed s) .network ≡ lists net
+  unfolding reading
+  an-accepted-sheet-gets-its-network net e = rw e refl

@@ -3,18 +3,21 @@
 use mathlib.Core.Path.{_≡_, refl, sym, _∙_}
 use mathlib.Core.Bool.{Bool, true, false, cond, _&&_, true≢false}
 use mathlib.Core.List.{List, [], _∷_}
-use mathlib.Core.Logic.{_↔_}
+use mathlib.Core.Logic.{_↔_, _≢_}
 use Prim.Native.Nat.{ℕ, suc, _<_}
 use native.Mathlib.Omega.{arith}
 use borrow.Author.Tests.{leb-false, le-leb, eqb-true, eq-eqb}
 use lib.Dec.{eqb, leb}
-use lib.ListN.{length}
+use lib.ListN.{length, replicate}
 use Rattle.lists.specs.Numbers.{look}
 use Rattle.lists.specs.Sums.{contradiction}
+use Rattle.model.specs.Limits.{SITES}
+use Rattle.model.specs.Edition.{largest}
 use Rattle.model.specs.declared.Edition.{Edition}
 use Rattle.tree.specs.declared.Offer.{Offer}
 use Rattle.tree.specs.declared.Offer.the-variants.{NoTree, TooLarge, Accepted}
 use Rattle.tree.specs.Offer.{within, isTree, offerOf, offer}
+use Rattle.tree.specs.Elimination.{decide, eliminated, eliminatedToward}
 use Rattle.tree.specs.Accepted.{TreeOf, TreeWithin, both-true, within-look, is-tree-is-a-tree, a-tree-is-tree, is-false}
 use Rattle.tree.specs.Accepted.{accepted-is-a-tree-within-the-limits, a-tree-within-the-limits-is-accepted}
 
@@ -84,3 +87,18 @@ module _ (ed : Edition) (n : ℕ) (a b c : List ℕ) where
   pub accepted-is-said-just-of-a-tree-within-the-limits : (offer ed n a b c ≡ Accepted) ↔ TreeWithin ed n a b c
   accepted-is-said-just-of-a-tree-within-the-limits =
       (accepted-is-a-tree-within-the-limits ed n a b c, a-tree-within-the-limits-is-accepted ed n a b c)
+
+-- ---- the order that goes with an answer
+
+no-order-but-of-an-accepted : (o : Offer) (order : List ℕ) → o ≢ Accepted → decide o order .sites ≡ replicate SITES 0
+unfolding decide
+no-order-but-of-an-accepted NoTree order d = refl
+no-order-but-of-an-accepted TooLarge order d = refl
+no-order-but-of-an-accepted Accepted order d = absurd (d refl)
+
+-- an offer that is not accepted is answered without an order: 0 in every place
+pub a-refused-offer-gets-no-order : (n : ℕ) (a b c : List ℕ) → offer largest n a b c ≢ Accepted → (root : ℕ)
+    → (eliminated n a b c .sites ≡ replicate SITES 0) × (eliminatedToward n a b c root .sites ≡ replicate SITES 0)
+unfolding eliminated eliminatedToward
+a-refused-offer-gets-no-order n a b c d root =
+    (no-order-but-of-an-accepted (offer largest n a b c) _ d, no-order-but-of-an-accepted (offer largest n a b c) _ d)

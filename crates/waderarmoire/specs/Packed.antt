@@ -3,8 +3,7 @@ use Prim.Native.Nat.{ℕ, _+_, _*_, _/_, _%_}
 use Rattle.planner.specs.declared.Outcome.{Outcome}
 use Rattle.planner.specs.declared.Outcome.the-variants.{Report, Refused}
 
--- the refusal's number times 2 ^ 40, its line times 2 ^ 20, and the report's length. Numbers are below 4,096 and lines and lengths below 1,048,576,
--- so that each can be read off.
+-- the refusal's number times 2 ^ 40, its line times 2 ^ 20, and the report's length. No remainder loses anything, and each can be read off: `Unpacked`.
 unfoldable pub packed : Outcome → ℕ
 packed (Report n) = n % 1048576
 packed (Refused k l) = k % 4096 * 1099511627776 + l % 1048576 * 1048576
