@@ -30,6 +30,10 @@ unfoldable pub line : Answer → ℕ
 line Accepted = 0
 line (Refused n k) = k
 
+-- what reading comes to is told with number n, at line k
+abbrev pub Tells : Read → ℕ → ℕ → Type 0
+Tells r n k = (number (reading r .answer) ≡ n) × (line (reading r .answer) ≡ k)
+
 -- ---- how large they are
 
 module _ (ed : Edition) (s : List ℕ) where
@@ -63,14 +67,6 @@ module _ (ed : Edition) (s : List ℕ) where
 
   -- ---- what is told
 
-  -- the answer to the sheet
-  abbrev pub told : Answer
-  told = reading (readSheet ed s) .answer
-
-  -- what reading comes to is told with number n, at line k
-  abbrev pub Tells : Read → ℕ → ℕ → Type 0
-  Tells r n k = (number (reading r .answer) ≡ n) × (line (reading r .answer) ≡ k)
-
   pub a-number-is-told-just-for-its-cause : (n k : ℕ) → 1 ≤ n → Tells (readSheet ed s) n k ↔ Refusal ed s n k
   unfolding number line reading
   a-number-is-told-just-for-its-cause n k some =
@@ -80,7 +76,7 @@ module _ (ed : Edition) (s : List ℕ) where
       by (refused m l) t = let e = t .0 in let f = t .1 in cc
       by (accepted net) t = absurd (omega (arith, t .0))
 
-  pub zero-is-told-just-without-a-cause : (number told ≡ 0) ↔ ((n k : ℕ) → ¬ (Refusal ed s n k))
+  pub zero-is-told-just-without-a-cause : (number (reading (readSheet ed s) .answer) ≡ 0) ↔ ((n k : ℕ) → ¬ (Refusal ed s n k))
   unfolding number reading
   zero-is-told-just-without-a-cause = (
     λ e n k c. let t = a-number-is-told-just-for-its-cause n k (refusals-have-numbers-1-to-8 c .0) .1 c .0 in
@@ -93,7 +89,7 @@ module _ (ed : Edition) (s : List ℕ) where
       by (accepted net) e none = refl
 
   -- a sheet that is refused is answered with the network of no sites, any other with its own
-  pub a-refused-sheet-gets-no-network : number told ≢ 0 → reading (readSheet ed s) .network ≡ lists empty
+  pub a-refused-sheet-gets-no-network : number (reading (readSheet ed s) .answer) ≢ 0 → reading (readSheet ed s) .network ≡ lists empty
   unfolding number reading
   a-refused-sheet-gets-no-network = by (readSheet ed s)
     where
