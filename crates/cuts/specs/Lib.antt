@@ -1,2 +1,3 @@
 pub mod Outcome
+pub mod Answers
 pub mod Promise

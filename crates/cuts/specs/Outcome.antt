@@ -5,11 +5,11 @@ use mathlib.Core.List.{List}
 use Prim.Native.Nat.{ℕ}
 use lib.Dec.{eqb}
 use lib.ListN.{length, replicate}
-use Rattle.model.specs.Limits.{SITES}
+use Rattle.model.specs.Limits.{SITES, SIZE}
 use Rattle.lists.specs.Numbers.{look}
 use Rattle.model.specs.Edition.{largest}
 use Rattle.model.specs.Flows.{Links, ends}
-use Rattle.tree.specs.Offer.{links, offer}
+use Rattle.tree.specs.Offer.{links, within, offer}
 use Rattle.tree.specs.declared.Offer.{Offer}
 use Rattle.tree.specs.declared.Offer.the-variants as offered
 -- the owner of each site, and of each terminal the size and the count of its cut, each in a place for each site
@@ -31,13 +31,27 @@ cuts ls n terminal c t = let r = owned ls n terminal c t in record { owner = r .
 abbrev pub offeredCuts : ℕ → List ℕ → List ℕ → List ℕ → List ℕ → Cuts
 offeredCuts n one two c t = cuts (links one two) n (look (ends (links one two) n)) (look c) (look t)
 
--- the outcome by what is said of the offer, and by whether there is a balanced capacity for each link
-unfoldable pub decide : Offer → Bool → Cuts → Cuts
-decide offered.NoTree b r = noCuts NoTree
-decide offered.TooLarge b r = noCuts TooLarge
-decide offered.Accepted false r = noCuts Unequal
-decide offered.Accepted true r = r
+-- the outcome by what is said of the offer, then by whether there is a balanced capacity for each link, then by whether these are within the limit
+unfoldable pub decide : Offer → Bool → Bool → Cuts → Cuts
+decide offered.NoTree each limited r = noCuts NoTree
+decide offered.TooLarge each limited r = noCuts TooLarge
+decide offered.Accepted false limited r = noCuts Unequal
+decide offered.Accepted true false r = noCuts TooLarge
+decide offered.Accepted true true r = r
 
 -- the outcome of n sites, the first and second sites of the links, the given and the balanced capacities
 unfoldable pub outcome : ℕ → List ℕ → List ℕ → List ℕ → List ℕ → Cuts
-outcome n one two c t = decide (offer largest n one two c) (eqb (length t) (length one)) (offeredCuts n one two c t)
+outcome n one two c t = decide (offer largest n one two c) (eqb (length t) (length one)) (within 0 SIZE t) (offeredCuts n one two c t)
+
+-- ---- document 01's numbers
+
+-- 01 has none for an offer that is no tree or too large, nor for balanced capacities that are not one for each link, where numbers are 0; success is 0
+unfoldable pub number : Answer → ℕ
+number NoTree = 0
+number TooLarge = 0
+number Unequal = 0
+number Done = 0
+
+-- no line is at fault
+unfoldable pub line : Answer → ℕ
+line a = 0

@@ -1,53 +1,28 @@
--- What the outcome of `terminal_cuts` promises: it is given for accepted offers and no others, each place holds what is defined of its
--- site, and for balanced capacities that are the greatest no site is in two cuts and the sizes sum to what leaves the terminals.
+-- What the cuts of `terminal_cuts` promise, where they are made: each place holds what is defined of its site,
+-- and for balanced capacities that are the greatest no site is in two cuts and the sizes sum to what leaves the terminals.
 use mathlib.Core.Path.{_≡_, refl, sym, ap, _∙_}
-use mathlib.Core.Bool.{Bool, true, false}
 use mathlib.Core.Logic.{_↔_}
 use mathlib.Core.List.{List}
 use Prim.Native.Nat.{ℕ, _-_, _*_}
 use native.Mathlib.Omega.{arith}
-use borrow.Author.Tests.{eqb-true, eq-eqb}
-use lib.Dec.{eqb}
-use lib.ListN.{length}
 use Rattle.model.specs.Limits.{SITES}
 use Rattle.lists.specs.Numbers.{is, sum, count, look}
 use Rattle.model.specs.Edition.{largest}
 use Rattle.model.specs.Flows.{Links, Site, sites, ends, atTerminals}
 use Rattle.model.specs.Trimming.{Greatest}
 use Rattle.model.specs.Cuts.{group, inCut, cutSize, cutCount, owner}
-use Rattle.lists.specs.Sums.{is-same, is-other, is-one, is-iff, same?, contradiction}
+use Rattle.lists.specs.Sums.{is-same, is-other, is-one, is-iff, same?}
 use Rattle.lists.specs.Places.{over-eq}
 use Rattle.theory_trees.specs.TerminalCuts.{cut-sizes-sum-to-the-terminals}
 use Rattle.theory_trees.specs.Owners.{owner-iff-in-cut, a-terminal-owns-itself}
-use Rattle.tree.specs.Offer.{links, offer}
-use Rattle.tree.specs.Accepted.{TreeWithin, accepted-is-a-tree-within-the-limits, a-tree-within-the-limits-is-accepted}
-use Rattle.tree.specs.declared.Offer.{Offer}
-use Rattle.tree.specs.declared.Offer.the-variants as offered
+use Rattle.tree.specs.Offer.{links}
+use Rattle.tree.specs.Accepted.{TreeWithin}
 use Rattle.cuts.specs.declared.Answer.the-variants.{Done}
-use Rattle.cuts.specs.declared.Cuts.{Cuts}
-use Rattle.cuts.specs.Outcome.{places, ofTerminal, owned, noCuts, cuts, offeredCuts, decide, outcome}
+use Rattle.cuts.specs.Outcome.{places, ofTerminal, owned, cuts, offeredCuts, outcome}
+use Rattle.cuts.specs.Answers.{accepted-offers-get-their-cuts, cuts-are-for-accepted-offers}
 use Rattle.cuts_groups.specs.Places.{of-inner, of-terminal, look-places, places-sum, places-count}
 
--- ---- for accepted offers and no others
-
-decided : (o : Offer) (b : Bool) (r : Cuts) → decide o b r .answer ≡ Done → (o ≡ offered.Accepted) × (b ≡ true)
-unfolding decide noCuts
-decided offered.NoTree b r e = contradiction cc
-decided offered.TooLarge b r e = contradiction cc
-decided offered.Accepted false r e = contradiction cc
-decided offered.Accepted true r e = (refl, refl)
-
 module _ (n : ℕ) (a b c t : List ℕ) where
-  pub accepted-offers-get-their-cuts : TreeWithin largest n a b c → length t ≡ length a → outcome n a b c t ≡ offeredCuts n a b c t
-  unfolding outcome decide
-  accepted-offers-get-their-cuts w e = rw (a-tree-within-the-limits-is-accepted largest n a b c w, eq-eqb (length t) (length a) e) refl
-
-  pub cuts-are-for-accepted-offers : outcome n a b c t .answer ≡ Done → TreeWithin largest n a b c × (length t ≡ length a)
-  unfolding outcome
-  cuts-are-for-accepted-offers e =
-      let d = decided (offer largest n a b c) (eqb (length t) (length a)) (offeredCuts n a b c t) e in
-      (accepted-is-a-tree-within-the-limits largest n a b c (d .0), eqb-true (length t) (length a) (d .1))
-
   -- ---- what the places hold
 
   module _ (done : outcome n a b c t .answer ≡ Done) where
@@ -59,10 +34,10 @@ module _ (n : ℕ) (a b c t : List ℕ) where
     terminal = look (ends ls n)
 
     within : TreeWithin largest n a b c
-    within = cuts-are-for-accepted-offers done .0
+    within = cuts-are-for-accepted-offers n a b c t done .0
 
     whole : outcome n a b c t ≡ offeredCuts n a b c t
-    whole = accepted-offers-get-their-cuts within (cuts-are-for-accepted-offers done .1)
+    whole = accepted-offers-get-their-cuts n a b c t within (cuts-are-for-accepted-offers n a b c t done .1)
 
     at-site : (f : ℕ → ℕ) (x : ℕ) → Site n x → look (places n f) (x - 1) ≡ f x
     at-site f x p = look-places f n (x - 1) (omega arith) ∙ ap f (omega arith)

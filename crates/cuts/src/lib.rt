@@ -1,6 +1,7 @@
 // Terminal cuts: for each site the terminal whose cut holds it, and each cut's size and number of sites.
 use cuts_groups::NONE;
 use model::SITES;
+use model::SIZE;
 use tree::Offer;
 ghost use mathlib.Core.Path.{_≡_};
 ghost use lib.ListN.{length};
@@ -12,7 +13,7 @@ ghost use Rattle.cuts.specs.Outcome.{noCuts, offeredCuts, outcome};
 pub enum Answer {
     // no tree of two or more sites within the limits
     NoTree,
-    // a given capacity above the limit
+    // a given or a balanced capacity above the limit
     TooLarge,
     // balanced capacities of another number than the links
     Unequal,
@@ -78,6 +79,9 @@ pub fn terminal_cuts(
         Offer::Accepted => {
             if balanced.len() != one.len() {
                 return no_cuts(Answer::Unequal);
+            }
+            if !tree::capacities_within(SIZE, balanced) {
+                return no_cuts(Answer::TooLarge);
             }
             cuts_by_ends(n, one, two, capacity, balanced)
         }

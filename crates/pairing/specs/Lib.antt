@@ -1,4 +1,5 @@
 pub mod Weighing
 pub mod Outcome
 pub mod Storing
+pub mod Answers
 pub mod Promise

@@ -10,4 +10,5 @@ pub mod Sound
 pub mod CauseLaws
 pub mod RefusalLaws
 pub mod SheetTheorem
+pub mod Answers
 pub mod NameLaws

@@ -41,13 +41,13 @@ pub record TreeWithin (ed : Edition) (n : ℕ) (one two c : List ℕ) : Type 0 w
   pub capacities : n ≡ suc (length c)
   pub limited : (j : ℕ) → j < length c → look c j ≤ ed .size
 
-both-true : (a b : Bool) → (a && b) ≡ true → (a ≡ true) × (b ≡ true)
+pub both-true : (a b : Bool) → (a && b) ≡ true → (a ≡ true) × (b ≡ true)
 both-true true b e = (refl, e)
 both-true false b e = contradiction cc
 
 -- ---- the tests of lists, place by place
 
-within-look : (low high : ℕ) (l : List ℕ) → within low high l ≡ true → (i : ℕ) → i < length l → (low ≤ look l i) × (look l i ≤ high)
+pub within-look : (low high : ℕ) (l : List ℕ) → within low high l ≡ true → (i : ℕ) → i < length l → (low ≤ look l i) × (look l i ≤ high)
 unfolding within
 within-look low high [] e i h = absurd (omega arith)
 within-look low high (x ∷ l) e zero h =
@@ -55,7 +55,7 @@ within-look low high (x ∷ l) e zero h =
     (leb-true low x (t .0), leb-true x high (t .1))
 within-look low high (x ∷ l) e (suc i) h = within-look low high l (both-true (leb low x && leb x high) (within low high l) e .1) i (omega arith)
 
-within-all : (low high : ℕ) (l : List ℕ) → ((i : ℕ) → i < length l → (low ≤ look l i) × (look l i ≤ high)) → within low high l ≡ true
+pub within-all : (low high : ℕ) (l : List ℕ) → ((i : ℕ) → i < length l → (low ≤ look l i) × (look l i ≤ high)) → within low high l ≡ true
 unfolding within
 within-all low high [] h = refl
 within-all low high (x ∷ l) h =

@@ -38,3 +38,15 @@ offerOf ed tree k c =
 -- what is said of an offer
 unfoldable pub offer : Edition → ℕ → List ℕ → List ℕ → List ℕ → Offer
 offer ed n one two c = offerOf ed (isTree (ed .sites) n one two) (length one) c
+
+-- ---- document 01's numbers
+
+-- 01 has no number for an offer that is no tree or too large, where numbers are 0 and lent places keep their values; an accepted one is no refusal
+unfoldable pub number : Offer → ℕ
+number NoTree = 0
+number TooLarge = 0
+number Accepted = 0
+
+-- no line is at fault
+unfoldable pub line : Offer → ℕ
+line o = 0

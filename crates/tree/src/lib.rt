@@ -25,7 +25,7 @@ pub enum Offer {
 }
 
 // Whether every capacity of a list is within a limit.
-fn capacities_within(most: u64, list: &[u64]) -> bool
+pub fn capacities_within(most: u64, list: &[u64]) -> bool
     ensures { λ r. ⌜ r ≡ within 0 most (now (list .entry)) ⌝ }
 {
     for i in 0..list.len() {

@@ -41,15 +41,22 @@ after Balanced t lent = t ++ drop (length t) lent
 unfoldable pub trimmed : ℕ → List ℕ → List ℕ → List ℕ → List ℕ → List ℕ
 trimmed n one two c lent = after (answer n one two c lent) (capacities n one two c) lent
 
--- what document 01 tells of an answer: its number, its line, and how many places are written
-pub record Told : Type 0 where
-  pub number : ℕ
-  pub line : ℕ
-  pub written : ℕ
+-- ---- document 01's numbers
 
--- success is 0; a lent list too short is 9, at line 0; of an offer that is no tree or too large 01 says that numbers are 0
-unfoldable pub told : Trimming → ℕ → Told
-told NoTree links = record { number = 0; line = 0; written = 0 }
-told TooLarge links = record { number = 0; line = 0; written = 0 }
-told Short links = record { number = 9; line = 0; written = 0 }
-told Balanced links = record { number = 0; line = 0; written = links }
+-- 9 for a lent list with fewer places than links. It has none for an offer that is no tree or too large, where numbers are 0, and success is 0
+unfoldable pub number : Trimming → ℕ
+number NoTree = 0
+number TooLarge = 0
+number Short = 9
+number Balanced = 0
+
+-- no line is at fault
+unfoldable pub line : Trimming → ℕ
+line a = 0
+
+-- how many places are written: one for each link, 0 where something else is said
+unfoldable pub written : Trimming → ℕ → ℕ
+written NoTree links = 0
+written TooLarge links = 0
+written Short links = 0
+written Balanced links = links

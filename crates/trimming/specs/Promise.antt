@@ -1,13 +1,10 @@
 -- The promise of trimming, all that a user of its answer relies on: a whole number for each link of a tree, the greatest that leave no
 -- inner site with a heavy link. By the theory of balanced capacities, over the definitions that `trim` is equated with.
 use mathlib.Core.Path.{_≡_, refl, ap, _∙_}
-use mathlib.Core.Bool.{Bool, true, false}
 use mathlib.Core.List.{List, _++_}
-use Prim.Native.Nat.{ℕ, _<_}
+use Prim.Native.Nat.{ℕ}
 use native.Mathlib.Omega.{arith}
-use borrow.Author.Tests.{leb-false}
-use lib.Dec.{leb}
-use lib.Seq.{take-at, drop-at}
+use lib.Seq.{take-at, drop-at, take-length}
 use lib.ListN.{length, take, drop}
 use Rattle.lists.specs.Numbers.{look}
 use Rattle.model.specs.Edition.{largest}
@@ -16,25 +13,18 @@ use Rattle.model.specs.Trimming.{Greatest}
 use Rattle.theory_trees.specs.Greatest.{balanced-is-greatest, balanced-has-each-link, balanced-again}
 use Rattle.tree.specs.Offer.{links, offer}
 use Rattle.tree.specs.Links.{length-links}
-use Rattle.tree.specs.Accepted.{TreeWithin, accepted-is-a-tree-within-the-limits, a-tree-within-the-limits-is-accepted}
-use Rattle.tree.specs.declared.Offer.{Offer}
+use Rattle.tree.specs.Accepted.{TreeWithin, a-tree-within-the-limits-is-accepted}
 use Rattle.tree.specs.declared.Offer.the-variants as offered
 use Rattle.trimming.specs.declared.Trimming.{Trimming}
 use Rattle.trimming.specs.declared.Trimming.the-variants.{NoTree, TooLarge, Short, Balanced}
-use Rattle.trimming.specs.Outcome.{decide, answer, capacities, after, trimmed, told}
-use Rattle.lists.specs.Sums.{contradiction}
+use Rattle.trimming.specs.Outcome.{answer, capacities, after, trimmed, written}
+use Rattle.trimming.specs.Answers.{success-is-told-just-of-a-tree-with-enough-places}
 
 -- t are the balanced capacities of a tree with the capacities c
 pub record Promise (n : ℕ) (one two c t : List ℕ) : Type 0 where
   pub tree : Tree (links one two) n
   pub each : length t ≡ length one
   pub greatest : Greatest (links one two) (look (ends (links one two) n)) (look c) (look t)
-
-balanced-is-accepted : (o : Offer) (enough : Bool) → decide o enough ≡ Balanced → o ≡ offered.Accepted
-unfolding decide
-balanced-is-accepted offered.NoTree enough e = contradiction cc
-balanced-is-accepted offered.TooLarge enough e = contradiction cc
-balanced-is-accepted offered.Accepted enough e = refl
 
 module _ {n : ℕ} {one two c : List ℕ} (w : TreeWithin largest n one two c) where
   pub capacities-keep-the-promise : Promise n one two c (capacities n one two c)
@@ -66,8 +56,7 @@ module _ {n : ℕ} {one two c : List ℕ} (w : TreeWithin largest n one two c) w
 
 module _ (n : ℕ) (one two c lent : List ℕ) (e : answer n one two c lent ≡ Balanced) where
   within : TreeWithin largest n one two c
-  unfolding answer
-  within = accepted-is-a-tree-within-the-limits largest n one two c (balanced-is-accepted (offer largest n one two c) (leb (length one) (length lent)) e)
+  within = success-is-told-just-of-a-tree-with-enough-places n one two c lent .0 e .0
 
   -- the lent list begins with the balanced capacities, and goes on as it was
   list-after : trimmed n one two c lent ≡ capacities n one two c ++ drop (length one) lent
@@ -93,32 +82,23 @@ module _ (n : ℕ) (one two c lent : List ℕ) (e : answer n one two c lent ≡ 
   unfolding capacities
   its-answer-is-given-back = rw first-places (balanced-again (within .tree) (look (ends (links one two) n)) c)
 
--- ---- the other answers
+-- ---- what is written, whatever is told
 
-nine-is-short : (a : Trimming) (m : ℕ) → told a m .number ≡ 9 → a ≡ Short
-unfolding told
-nine-is-short NoTree m e = absurd (omega arith)
-nine-is-short TooLarge m e = absurd (omega arith)
-nine-is-short Short m e = refl
-nine-is-short Balanced m e = absurd (omega arith)
-
-short-is-short : (o : Offer) (enough : Bool) → decide o enough ≡ Short → (o ≡ offered.Accepted) × (enough ≡ false)
-unfolding decide
-short-is-short offered.NoTree enough e = contradiction cc
-short-is-short offered.TooLarge enough e = contradiction cc
-short-is-short offered.Accepted true e = contradiction cc
-short-is-short offered.Accepted false e = (refl, refl)
+after-written : (a : Trimming) (t lent : List ℕ) (m : ℕ) → (a ≡ Balanced → length t ≡ m) → after a t lent ≡ take (written a m) t ++ drop (written a m) lent
+unfolding after written
+after-written NoTree t lent m e = refl
+after-written TooLarge t lent m e = refl
+after-written Short t lent m e = refl
+after-written Balanced t lent m e = rw (← (e refl), take-length) refl
 
 module _ (n : ℕ) (one two c lent : List ℕ) where
-  -- 9 is told after every other cause, for fewer lent places than links
-  pub nine-means-too-few-places : told (answer n one two c lent) (length one) .number ≡ 9
-      → (offer largest n one two c ≡ offered.Accepted) × (length lent < length one)
-  unfolding answer
-  nine-means-too-few-places e =
-      let t = short-is-short (offer largest n one two c) (leb (length one) (length lent)) (nine-is-short (answer n one two c lent) (length one) e) in
-      (t .0, leb-false (length one) (length lent) (t .1))
+  -- the balanced capacities stand in as many places as are told to be written; the others stay as they were, all of them where there is no success
+  pub what-is-told-is-written : let m = written (answer n one two c lent) (length one) in
+      trimmed n one two c lent ≡ take m (capacities n one two c) ++ drop m lent
+  unfolding trimmed
+  what-is-told-is-written = after-written (answer n one two c lent) (capacities n one two c) lent (length one)
+      (λ e. capacities-keep-the-promise (within n one two c lent e) .each)
 
-  -- whatever is told but success, the lent list stays as it was
   pub what-is-lent-stays : (answer n one two c lent ≡ Balanced → ⊥) → trimmed n one two c lent ≡ lent
   unfolding trimmed after
   what-is-lent-stays d = stays (answer n one two c lent) (capacities n one two c) d

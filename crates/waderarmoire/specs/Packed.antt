@@ -1,10 +1,23 @@
 -- An outcome as one number, for callers in other languages.
-use Prim.Native.Nat.{ℕ, _+_, _*_, _%_}
+use Prim.Native.Nat.{ℕ, _+_, _*_, _/_, _%_}
 use Rattle.planner.specs.declared.Outcome.{Outcome}
 use Rattle.planner.specs.declared.Outcome.the-variants.{Report, Refused}
 
--- the refusal's number times 2 ^ 40, its line times 2 ^ 20, and the report's length. Numbers are below 4,096 and lines and lengths below 1,048,576,
--- so that each can be read off.
+-- the refusal's number times 2 ^ 40, its line times 2 ^ 20, and the report's length. No remainder loses anything, and each can be read off: `Unpacked`.
 unfoldable pub packed : Outcome → ℕ
 packed (Report n) = n % 1048576
 packed (Refused k l) = k % 4096 * 1099511627776 + l % 1048576 * 1048576
+
+-- ---- taken apart, as the C header does (c/waderarmoire.h)
+
+-- the number: value >> 40
+unfoldable pub unpackedNumber : ℕ → ℕ
+unpackedNumber value = value / 1099511627776
+
+-- the line: (value >> 20) & 0xfffff
+unfoldable pub unpackedLine : ℕ → ℕ
+unpackedLine value = value / 1048576 % 1048576
+
+-- the length: value & 0xfffff
+unfoldable pub unpackedLength : ℕ → ℕ
+unpackedLength value = value % 1048576

@@ -6,12 +6,12 @@ use mathlib.Core.Logic.{_≢_}
 use mathlib.Core.List.{List, [], _∷_}
 use Prim.Native.Nat.{ℕ, zero, suc, _+_, _-_, _≤_, _<_}
 use native.Mathlib.Omega.{arith}
-use borrow.Author.Tests.{eq-eqb, ne-eqb, le-ltb, ltb-false}
+use borrow.Author.Tests.{eq-eqb, ne-eqb, eqb-true, lt-ltb, le-ltb, ltb-true, ltb-false}
 use lib.Dec.{eqb, ltb}
 use lib.ListN.{length}
 use Rattle.lists.specs.Numbers.{upfrom}
-use Rattle.model.specs.Flows.{Links, sites, at, sumAt, others, Tree}
-use Rattle.model.specs.Trimming.{Light, Balanced}
+use Rattle.model.specs.Flows.{Links, Site, sites, at, sumAt, others, Tree}
+use Rattle.model.specs.Trimming.{Heavy, Light, Balanced}
 use Rattle.lists.specs.Sums.{same?, contradiction}
 use Rattle.theory_trees.specs.Sites.{at-site}
 use Rattle.theory_trees.specs.Trees.{others-add}
@@ -32,6 +32,16 @@ heavyAt ls terminal t v = cond (eqb (terminal v) 1) false (any (isHeavy ls t v) 
 -- some inner site has a heavy link (01: a link heavy at some joint)
 unfoldable pub heavySomewhere : Links → ℕ → (ℕ → ℕ) → (ℕ → ℕ) → Bool
 heavySomewhere ls n terminal t = any (heavyAt ls terminal t) (sites n)
+
+-- a link heavy at an inner site (01: a link heavy at some joint)
+pub record HeavyLink (ls : Links) (n : ℕ) (terminal t : ℕ → ℕ) : Type 0 where
+  pub site : ℕ
+  pub link : ℕ
+  pub is-site : Site n site
+  pub is-inner : terminal site ≢ 1
+  pub is-link : link < length ls
+  pub is-there : at ls site link ≡ 1
+  pub is-heavy : Heavy ls t site link
 
 -- ---- tests of the numbers of an interval
 
@@ -63,6 +73,17 @@ module _ (test : ℕ → Bool) where
       (λ q. rw (q, e) refl)
       (λ d. either (test b) (any test (upfrom (suc b) m)) (one-passes (suc b) m x (omega arith) (omega arith) e))
 
+  some-passes : (b m : ℕ) → any test (upfrom b m) ≡ true → (x : ℕ) × (b ≤ x) × (x < b + m) × (test x ≡ true)
+  unfolding any upfrom
+  some-passes b zero e = contradiction cc
+  some-passes b (suc m) e = by (test b) refl e (some-passes (suc b) m)
+    where
+      by : (u : Bool) → test b ≡ u → (u || any test (upfrom (suc b) m)) ≡ true
+          → (any test (upfrom (suc b) m) ≡ true → (x : ℕ) × (suc b ≤ x) × (x < suc b + m) × (test x ≡ true))
+          → (x : ℕ) × (b ≤ x) × (x < b + suc m) × (test x ≡ true)
+      by true q f more = (b, omega arith, omega arith, q)
+      by false q f more = let h = more f in (h .0, omega arith, omega arith, h .3)
+
 module _ (ls : Links) (t : ℕ → ℕ) where
   -- ---- one link at one site
 
@@ -84,6 +105,15 @@ module _ (ls : Links) (t : ℕ → ℕ) where
 
   is-light : (v j : ℕ) → j < length ls → at ls v j ≡ 1 → isHeavy ls t v j ≡ false → t j + t j ≤ sumAt ls v t
   is-light v j l a e = omega (arith, others-add ls v j t l a, ltb-false (sumAt ls v t - t j) (t j) (rw (heavy-by-sum v j l a) at e))
+
+  heavy-is-heavy : (v j : ℕ) → isHeavy ls t v j ≡ true → (at ls v j ≡ 1) × Heavy ls t v j
+  unfolding isHeavy
+  heavy-is-heavy v j = by (eqb (at ls v j) 1) refl (ltb (others ls v j t) (t j)) refl
+    where
+      by : (a : Bool) → eqb (at ls v j) 1 ≡ a → (b : Bool) → ltb (others ls v j t) (t j) ≡ b → (a && b) ≡ true → (at ls v j ≡ 1) × Heavy ls t v j
+      by true p true q e = (eqb-true (at ls v j) 1 p, ltb-true (others ls v j t) (t j) q)
+      by true p false q e = contradiction cc
+      by false p b q e = contradiction cc
 
 module _ (ls : Links) (terminal t : ℕ → ℕ) where
   -- ---- all links at one site
@@ -127,3 +157,33 @@ module _ (ls : Links) (terminal t : ℕ → ℕ) where
   no-heavy-link-is-balanced {n} T e v d j l a =
       let s = at-site ls (T .ends) j l a in
       light-there v d (each-fails (heavyAt ls terminal t) 1 n e v (s .0) (omega arith)) j l a
+
+  -- ---- a heavy link is one that is told, and one that is told is there
+
+  heavy-at-an-inner-site : (v : ℕ) → heavyAt ls terminal t v ≡ true
+      → (terminal v ≢ 1) × ((j : ℕ) × (0 ≤ j) × (j < 0 + length ls) × (isHeavy ls t v j ≡ true))
+  heavy-at-an-inner-site v e = same? (terminal v) 1
+      (λ m. let none = terminal-has-no-heavy-link v m in contradiction cc)
+      (λ d. (d, some-passes (isHeavy ls t v) 0 (length ls) (rw (inner v d) at e)))
+
+  pub heavy-somewhere-is-a-heavy-link : (n : ℕ) → heavySomewhere ls n terminal t ≡ true → HeavyLink ls n terminal t
+  unfolding heavySomewhere
+  heavy-somewhere-is-a-heavy-link n e =
+      let v = some-passes (heavyAt ls terminal t) 1 n e in
+      let j = heavy-at-an-inner-site (v .0) (v .3) in
+      let h = heavy-is-heavy ls t (v .0) (j .1 .0) (j .1 .3) in
+      record {
+        site = v .0;
+        link = j .1 .0;
+        is-site = (v .1, omega arith);
+        is-inner = j .0;
+        is-link = omega arith;
+        is-there = h .0;
+        is-heavy = h .1;
+      }
+
+  pub a-heavy-link-is-somewhere : (n : ℕ) → HeavyLink ls n terminal t → heavySomewhere ls n terminal t ≡ true
+  unfolding isHeavy
+  a-heavy-link-is-somewhere n h = heavy-there n (h .site) (h .is-site .0) (h .is-site .1)
+      (one-is-heavy (h .site) (h .link) (h .is-inner) (h .is-link)
+      (rw (eq-eqb (at ls (h .site) (h .link)) 1 (h .is-there), lt-ltb (others ls (h .site) (h .link) t) (t (h .link)) (h .is-heavy)) refl))

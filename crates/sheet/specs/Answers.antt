@@ -1,0 +1,102 @@
+-- What reading a sheet answers, in both directions: a number at a line just for its cause, 0 just without one. Numbers are 1 to 8, and a line at fault
+-- is one of the sheet. Document 01, "The network sheet" (the table's columns "No." and "Returned"). By the causes, one by one.
+use mathlib.Core.List.{List}
+use mathlib.Core.Logic.{_↔_, _≢_}
+use mathlib.Core.Path.{_≡_, refl}
+use Prim.Native.Nat.{ℕ, suc, _≤_, _<_}
+use native.Mathlib.Omega.{arith}
+use lib.ListN.{length}
+use borrow.Author.Tests.{lt-ltb}
+use Rattle.lists.specs.Sums.{contradiction}
+use Rattle.model.specs.declared.Edition.{Edition}
+use Rattle.text_lines.specs.Lines.{hasLine}
+use Rattle.text_lines.specs.LineLaws.{after-line-is-later}
+use Rattle.sheet.specs.Sheet.{Network, empty, Read, refused, accepted, readSheet}
+use Rattle.sheet.specs.Reading.{lists, reading}
+use Rattle.sheet.specs.Causes.{Cause, unended, no-heading, second-heading, wrong-form, too-large, too-many, given, not-given, already-joined}
+use Rattle.sheet.specs.Causes.{Reached, start, next, Refusal, by-length, by-line, by-whole}
+use Rattle.sheet.specs.SheetTheorem.{a-sheet-is-refused-for-its-cause}
+use Rattle.sheet.specs.declared.Answer.{Answer}
+use Rattle.sheet.specs.declared.Answer.the-variants.{Accepted, Refused}
+
+-- ---- document 01's numbers
+
+-- success is 0, and then there is no line
+unfoldable pub number : Answer → ℕ
+number Accepted = 0
+number (Refused n k) = n
+
+unfoldable pub line : Answer → ℕ
+line Accepted = 0
+line (Refused n k) = k
+
+-- what reading comes to is told with number n, at line k
+abbrev pub Tells : Read → ℕ → ℕ → Type 0
+Tells r n k = (number (reading r .answer) ≡ n) × (line (reading r .answer) ≡ k)
+
+-- ---- how large they are
+
+module _ (ed : Edition) (s : List ℕ) where
+  -- each line above takes at least a byte
+  lines-are-bytes : {k at : ℕ} {net : Network} → Reached ed s k at net → k ≤ suc at
+  unfolding hasLine
+  lines-are-bytes start = omega arith
+  lines-are-bytes (next {at = at} r h e) = omega (arith, lines-are-bytes r, after-line-is-later s at (lt-ltb at (length s) h))
+
+  cause-is-2-to-7 : {net : Network} {k at n : ℕ} → Cause ed s net k at n → (2 ≤ n) × (n ≤ 7)
+  cause-is-2-to-7 (unended h) = omega arith
+  cause-is-2-to-7 (no-heading h e d) = omega arith
+  cause-is-2-to-7 (second-heading h d is) = omega arith
+  cause-is-2-to-7 (wrong-form h d is) = omega arith
+  cause-is-2-to-7 (too-large h d is) = omega arith
+  cause-is-2-to-7 (too-many h d a e is l) = omega arith
+  cause-is-2-to-7 (given h d a e is l v f) = omega arith
+  cause-is-2-to-7 (not-given h d a e b f size is o) = omega arith
+  cause-is-2-to-7 (already-joined h d a e b f size is v w p q j) = omega arith
+
+  pub refusals-have-numbers-1-to-8 : {n k : ℕ} → Refusal ed s n k → (1 ≤ n) × (n ≤ 8)
+  refusals-have-numbers-1-to-8 (by-length o) = omega arith
+  refusals-have-numbers-1-to-8 (by-line some few r h c) = omega (arith, cause-is-2-to-7 c)
+  refusals-have-numbers-1-to-8 (by-whole some few r h o) = omega arith
+
+  -- a line at fault is one of the sheet, which is within the limit; other refusals are at line 0
+  pub a-line-at-fault-is-on-the-sheet : {n k : ℕ} → Refusal ed s n k → (k ≤ length s) × (k ≤ ed .bytes)
+  a-line-at-fault-is-on-the-sheet (by-length o) = omega arith
+  a-line-at-fault-is-on-the-sheet (by-line some few r h c) = omega (arith, lines-are-bytes r)
+  a-line-at-fault-is-on-the-sheet (by-whole some few r h o) = omega arith
+
+  -- ---- what is told
+
+  pub a-number-is-told-just-for-its-cause : (n k : ℕ) → 1 ≤ n → Tells (readSheet ed s) n k ↔ Refusal ed s n k
+  unfolding number line reading
+  a-number-is-told-just-for-its-cause n k some =
+      let law = a-sheet-is-refused-for-its-cause ed s n k in (λ t. law .0 (by (readSheet ed s) t), λ c. rw (law .1 c) (refl, refl))
+    where
+      by : (r : Read) → Tells r n k → r ≡ refused n k
+      by (refused m l) t = let e = t .0 in let f = t .1 in cc
+      by (accepted net) t = absurd (omega (arith, t .0))
+
+  pub zero-is-told-just-without-a-cause : (number (reading (readSheet ed s) .answer) ≡ 0) ↔ ((n k : ℕ) → ¬ (Refusal ed s n k))
+  unfolding number reading
+  zero-is-told-just-without-a-cause = (
+    λ e n k c. let t = a-number-is-told-just-for-its-cause n k (refusals-have-numbers-1-to-8 c .0) .1 c .0 in
+        absurd (omega (arith, e, t, refusals-have-numbers-1-to-8 c .0)),
+    λ none. by (readSheet ed s) refl none,
+  )
+    where
+      by : (r : Read) → readSheet ed s ≡ r → ((n k : ℕ) → ¬ (Refusal ed s n k)) → number (reading r .answer) ≡ 0
+      by (refused n k) e none = absurd (none n k (a-sheet-is-refused-for-its-cause ed s n k .0 e))
+      by (accepted net) e none = refl
+
+  -- a sheet that is refused is answered with the network of no sites, any other with its own
+  pub a-refused-sheet-gets-no-network : number (reading (readSheet ed s) .answer) ≢ 0 → reading (readSheet ed s) .network ≡ lists empty
+  unfolding number reading
+  a-refused-sheet-gets-no-network = by (readSheet ed s)
+    where
+      by : (r : Read) → number (reading r .answer) ≢ 0 → reading r .network ≡ lists empty
+      by (refused n k) d = refl
+      by (accepted net) d = absurd (d refl)
+
+  pub an-accepted-sheet-gets-its-network : (net : Network) → readSheet ed s ≡ accepted net → reading (readSheet ed s) .network ≡ lists net
+  unfolding reading
+  an-accepted-sheet-gets-its-network net e = rw e refl
