@@ -1,6 +1,6 @@
 -- What the cuts of `terminal_cuts` promise, where they are made: each place holds what is defined of its site,
 -- and for balanced capacities that are the greatest no site is in two cuts and the sizes sum to what leaves the terminals.
-use mathlib.Core.Path.{_≡_, refl, sym, ap, _∙_}
+use mathlib.Core.Path.{_≡_, sym, ap, _∙_}
 use mathlib.Core.Logic.{_↔_}
 use mathlib.Core.List.{List}
 use Prim.Native.Nat.{ℕ, _-_, _*_}

@@ -1,7 +1,7 @@
 -- Sites grouped by labels: what leaves the sites of a label, and what a tally holds.
 use mathlib.Core.Path.{_≡_}
 use mathlib.Core.List.{List, map}
-use Prim.Native.Nat.{ℕ, _+_, _-_, _*_, _/_, _%_, _≤_, _<_}
+use Prim.Native.Nat.{ℕ, _+_, _-_, _*_, _/_, _%_, _≤_}
 use lib.ListN.{length}
 use Rattle.model.specs.Limits.{LINKS, PLACES, SITES, SIZE, WORDS}
 use Rattle.lists.specs.Numbers.{is, differ, less, sum, upfrom, look}

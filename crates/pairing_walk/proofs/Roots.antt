@@ -7,7 +7,7 @@ use native.Mathlib.Omega.{arith}
 use lib.ListN.{length, take, List·getD-eq-default}
 use Rattle.model.specs.Limits.{HALVES, NUMBERS}
 use Rattle.lists.specs.Numbers.{look}
-use Rattle.model.specs.Pairing.{put, give, walk, pairsFrom, lowestInner, pairs}
+use Rattle.model.specs.Pairing.{put, give, pairsFrom, lowestInner, pairs}
 use Rattle.lists.specs.Sums.{pick-same, pick-other}
 use Rattle.tree.specs.Offer.{links}
 use Rattle.tree.specs.Links.{length-links}

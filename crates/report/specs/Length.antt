@@ -7,7 +7,7 @@ use native.Mathlib.Omega.{arith}
 use lib.ListN.{length, length-append}
 use Rattle.model.specs.Limits.{LINKS, REPORT, SITES, SIZE}
 use Rattle.lists.specs.Numbers.{look, upfrom, Each}
-use Rattle.model.specs.Flows.{Site, sites, total}
+use Rattle.model.specs.Flows.{Site, total}
 use Rattle.model.specs.Text.{bytes}
 use Rattle.model.specs.declared.Pair.{Pair}
 use Rattle.lists.specs.Sums.{pick-cases}

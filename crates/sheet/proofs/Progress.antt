@@ -15,7 +15,7 @@ use Rattle.model.specs.declared.Edition.{Edition}
 use Rattle.tree_labels.specs.Labels.{linked, whole}
 use Rattle.tree_labels.specs.LabelPlaces.{linked-sites, whole-sites}
 use Rattle.text_lines.specs.Lines.{afterLine}
-use Rattle.sheet_names.specs.Names.{part, ranges, hash, entered, Indexes}
+use Rattle.sheet_names.specs.Names.{HASHES, part, ranges, hash, entered, Indexes}
 use Rattle.sheet_names.specs.TableLaws.{no-sites, site-entered}
 use Rattle.sheet.specs.Sheet.{Network, empty, refused, accepted, stepOf, added, readLine, readLines, andThen, finish}
 use Rattle.sheet.specs.Reading.{padded, lists, reading}
@@ -72,7 +72,7 @@ pub record Progress (ed : Edition) (s : List ℕ) (net : Lists) (table marks : L
   pub numbered : number ≤ at + 1
   pub rest : readLines ed s (length s) 1 0 empty ≡ readLines ed s (length s - at) number at read
 
-pub start : (ed : Edition) → ed .sites ≤ SITES → (s : List ℕ) → Progress ed s (lists empty) (replicate 16384 0) (upfrom 0 PLACES) 0 1
+pub start : (ed : Edition) → ed .sites ≤ SITES → (s : List ℕ) → Progress ed s (lists empty) (replicate HASHES 0) (upfrom 0 PLACES) 0 1
 start ed h s = record {
   fits = h;
   read = empty;

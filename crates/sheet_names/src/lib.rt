@@ -1,4 +1,4 @@
-// The names of sites, as ranges of a sheet, and their look-up: by a table of hashes, and site by site where two names have one hash.
+// Inner: the names of sites, as ranges of a sheet, and their look-up: by a table of hashes, and site by site where two names have one hash.
 ghost use mathlib.Core.Path.{_≡_};
 ghost use Prim.Native.Nat.{_≤_, min};
 ghost use Rattle.model.specs.Limits.{SITES};

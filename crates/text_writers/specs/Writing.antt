@@ -5,7 +5,7 @@ use Prim.Native.Nat.{ℕ, suc, _+_, _-_, _≤_, _<_, min}
 use native.Mathlib.Nat.{add-zero}
 use native.Mathlib.Numerals.{add-one}
 use native.Mathlib.Omega.{arith}
-use lib.ListN.{length, getD, set, take, drop, length-append, length-take, length-set, take-append-drop}
+use lib.ListN.{length, getD, set, take, drop, length-append, length-take, take-append-drop}
 use lib.Seq.{sets, set-out, length-sets, take-suc, take-all}
 use native.Mathlib.Decide.{decLt}
 use Rattle.text_writers.specs.Fields.{line, begun}

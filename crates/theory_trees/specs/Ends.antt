@@ -1,7 +1,6 @@
 -- The ends of a tree as terminals: the list of the ends holds 1 just where a site has one link.
 -- Past the sites both the list and the rule have 0: no link is at a number that is no site.
 use mathlib.Core.Path.{_≡_, sym, fun-ext, _∙_}
-use mathlib.Core.List.{map}
 use Prim.Native.Nat.{ℕ, suc}
 use native.Mathlib.Omega.{arith}
 use native.Mathlib.Decide.{decLt}

@@ -18,8 +18,7 @@ use Rattle.tree.specs.Answers.{SizedTree, Above}
 use Rattle.tree.specs.Answers.{no-tree-is-said-just-of-no-tree, too-large-is-said-just-of-a-capacity-above-the-limit}
 use Rattle.tree.specs.declared.Offer.{Offer}
 use Rattle.tree.specs.declared.Offer.the-variants as offered
-use Rattle.trimming.specs.declared.Trimming.{Trimming}
-use Rattle.trimming.specs.declared.Trimming.the-variants.{NoTree, TooLarge, Short, Balanced}
+use Rattle.trimming.specs.declared.Trimming.the-variants.{NoTree, TooLarge, Balanced}
 use Rattle.trimming.specs.Outcome.{decide, answer, number}
 
 -- ---- by the cases of the definition

@@ -1,13 +1,12 @@
 -- Balanced along an order, the capacities of a tree are the balanced ones: the order from outside inward does not matter.
-use mathlib.Core.Path.{_≡_, refl, sym, ap, _∙_}
+use mathlib.Core.Path.{_≡_, refl}
 use mathlib.Core.List.{List, [], _∷_, _++_}
 use Prim.Native.Nat.{ℕ, zero, suc, _≤_, _<_}
 use native.Mathlib.Omega.{arith}
 use lib.Seq.{take-at, drop-at}
-use lib.ListN.{length, take, drop}
+use lib.ListN.{length}
 use Rattle.model.specs.Edition.{largest}
 use Rattle.lists.specs.Numbers.{count, look}
-use Rattle.model.specs.Flows.{Links}
 use Rattle.model.specs.Trimming.{elimination, InwardOrder, balanced}
 use Rattle.lists.specs.Sums.{is-same}
 use Rattle.theory_trees.specs.Sites.{sites-site}

@@ -1,5 +1,5 @@
 -- `pairing::take_apart` meets its contract: a heavy link, or the pairs. The list of the ends that is lent holds the terminals.
-use mathlib.Core.Path.{_≡_, refl, sym, ap, subst, _∙_}
+use mathlib.Core.Path.{refl, sym, ap, subst, _∙_}
 use native.Mathlib.Omega.{arith}
 use borrow.Author.Needs.{needs}
 use borrow.Author.Tests.{le-leb}

@@ -1,11 +1,10 @@
 -- `heading` meets its contract: a field, and the last two.
-use mathlib.Core.Path.{_∙_}
 use mathlib.Core.List.{[], _∷_}
 use lib.ListN.{length, take}
 use lib.Seq.{length-take-le}
 use Rattle.model.specs.Flows.{total}
 use Rattle.text_writers.specs.Fields.{decimal, begun}
-use Rattle.text_writers.specs.Writing.{same-size, line-ended, first-field, room-begun, room-ended}
+use Rattle.text_writers.specs.Writing.{line-ended, first-field, room-begun, room-ended}
 use Rattle.report.specs.Report.{headRecord}
 use borrow.Author.Needs.{needs}
 use Rattle.report.proofs.heading.Statement.{statement}

@@ -1,5 +1,4 @@
 -- `read` meets its contract: the first edition is within the limits.
-use mathlib.Core.Path.{_≡_}
 use native.Mathlib.Omega.{arith}
 use borrow.Author.Needs.{needs}
 use Rattle.sheet.proofs.read.Statement.{statement}

@@ -1,6 +1,5 @@
 -- `is_heading` meets its contract: test by test, as the definition.
 use mathlib.Core.Path.{_≡_, sym, _∙_}
-use native.Mathlib.Omega.{arith}
 use lib.ListN.{length}
 use borrow.Author.Tests.{eq-eqb, ne-eqb, not-true, not-false}
 use Rattle.model.specs.Text.{bytes}

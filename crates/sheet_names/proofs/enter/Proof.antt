@@ -4,7 +4,7 @@ use Prim.Native.Nat.{_<_}
 use native.Mathlib.Omega.{arith}
 use borrow.Author.Needs.{needs}
 use borrow.Author.Tests.{eq-eqb, ne-eqb}
-use Rattle.sheet_names.specs.Names.{part, hash, entered}
+use Rattle.sheet_names.specs.Names.{HASHES, part, hash, entered}
 use Rattle.sheet_names.specs.TableLaws.{hash-below}
 use Rattle.sheet_names.proofs.enter.Statement.{statement}
 use Rattle.sheet_names.proofs.enter.Tie as tie
@@ -13,7 +13,7 @@ use Rattle.sheet_names.proofs.enter.Tie as tie
 hash-is : (c : tie.After-hash) → let a = c .before .before .before .args in c .hash .result ≡ hash (part (a .sheet .now) (a .start, a .end))
 hash-is c = rw (c .before .part .ensures .bytes) at (c .hash .ensures)
 
-place : (c : tie.After-hash) → c .hash .result < 16384
+place : (c : tie.After-hash) → c .hash .result < HASHES
 place c = let a = c .before .before .before .args in rw (hash-is c) (hash-below 0 (part (a .sheet .now) (a .start, a .end)) (omega arith))
 
 returns : tie.Need-returns

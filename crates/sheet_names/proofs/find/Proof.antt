@@ -5,7 +5,7 @@ use native.Mathlib.Omega.{arith}
 use borrow.Author.Needs.{needs}
 use Rattle.lists.specs.Numbers.{look}
 use Rattle.text_fields.specs.FieldLaws.{same-are-equal}
-use Rattle.sheet_names.specs.Names.{part, hash}
+use Rattle.sheet_names.specs.Names.{HASHES, part, hash}
 use Rattle.sheet_names.specs.LookupLaws.{length-ranges, range-at}
 use Rattle.sheet_names.specs.TableLaws.{hash-below, none-there, site-there}
 use Rattle.sheet_names.proofs.find.Statement.{statement}
@@ -15,7 +15,7 @@ use Rattle.sheet_names.proofs.find.Tie as tie
 hash-is : (c : tie.After-hash) → let a = c .before .before .before .args in c .hash .result ≡ hash (part (a .sheet .now) (a .start, a .end))
 hash-is c = rw (c .before .part .ensures .bytes) at (c .hash .ensures)
 
-place : (c : tie.After-hash) → c .hash .result < 16384
+place : (c : tie.After-hash) → c .hash .result < HASHES
 place c = let a = c .before .before .before .args in rw (hash-is c) (hash-below 0 (part (a .sheet .now) (a .start, a .end)) (omega arith))
 
 -- what stands there is a site
@@ -39,7 +39,8 @@ returns-2 c =
     let v = look (a .table .now) (site .before .hash .result) in
     let one : 1 ≤ v = omega (arith, c .before .before .before .before .before .if1 .left) in
     let named : part (a .sheet .now) (look (a .starts .now) (v - 1), look (a .ends .now) (v - 1)) ≡ name
-    = same-are-equal _ _ (sym (rw (c .before .before .part2 .ensures .bytes, site .before .before .part .ensures .bytes) at (c .before .same .ensures)) ∙ c .if2 .taken) in
+    = same-are-equal _ _
+    (sym (rw (c .before .before .part2 .ensures .bytes, site .before .before .part .ensures .bytes) at (c .before .same .ensures)) ∙ c .if2 .taken) in
     sym (site-there (start .pre .1) name v one (ap (look (a .table .now)) (sym (hash-is (site .before))))
     (ap (part (a .sheet .now)) (range-at (a .starts .now) (a .ends .now) (a .sites) (v - 1) (omega (arith, there site))) ∙ named))
 

@@ -5,13 +5,13 @@ use native.Mathlib.Nat.{mod-lt}
 use native.Mathlib.Omega.{arith}
 use lib.ListN.{length, drop}
 use Rattle.lists.specs.Numbers.{look}
-use Rattle.sheet_names.specs.Names.{hashFrom, hash}
+use Rattle.sheet_names.specs.Names.{HASHES, hashFrom, hash}
 use Rattle.sheet_names.specs.TableLaws.{hash-step, hash-end}
 use Rattle.sheet_names.proofs.hash.Statement.{statement}
 use Rattle.sheet_names.proofs.hash.Tie as tie
 
 abbrev Inv-loop : tie.InvT-loop
-Inv-loop name value₀ i₀ value i = (i ≤ length name) × (value < 16384) × (hash name ≡ hashFrom value (drop i name))
+Inv-loop name value₀ i₀ value i = (i ≤ length name) × (value < HASHES) × (hash name ≡ hashFrom value (drop i name))
 
 abbrev μ-loop : tie.MeasureT-loop
 μ-loop name value₀ i₀ value i = length name - i

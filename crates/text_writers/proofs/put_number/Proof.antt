@@ -1,5 +1,5 @@
 -- `put_number` meets its contract. The loop's invariant: the digits are those of the rest, and then those already found, behind place k.
-use mathlib.Core.Path.{_≡_, refl, sym, _∙_}
+use mathlib.Core.Path.{_≡_, refl, sym}
 use mathlib.Core.List.{_++_, append-nil}
 use Prim.Native.Nat.{suc, _+_, _-_, _/_, _%_, _≤_, _<_}
 use native.Mathlib.Omega.{arith}

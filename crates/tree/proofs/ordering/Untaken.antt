@@ -10,7 +10,7 @@ use native.Mathlib.Nat.{mul-le-mul-right}
 use lib.Seq.{getD-set-same, getD-set-other}
 use lib.ListN.{length, set, length-set}
 use Rattle.model.specs.Limits.{LINKS, PLACES, SITES}
-use Rattle.lists.specs.Numbers.{pick, is, sum, count, look}
+use Rattle.lists.specs.Numbers.{pick, is, count, look}
 use Rattle.model.specs.Flows.{Links, Site, Tree, one, two, at, sumAt}
 use Rattle.model.specs.Trimming.{unvisited, first, remove}
 use Rattle.lists.specs.Sums.{pick-same, pick-other, is-same, is-other, same?, sum-mul, sum-le}

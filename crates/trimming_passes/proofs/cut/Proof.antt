@@ -1,5 +1,5 @@
 -- `trimming_passes::cut` meets its contract: along the chain every link at v is cut, and no other link changes; at a terminal none does.
-use mathlib.Core.Path.{_≡_, refl, sym, _∙_}
+use mathlib.Core.Path.{_≡_, sym, _∙_}
 use mathlib.Core.Logic.{_≢_}
 use Prim.Native.Nat.{_-_}
 use native.Mathlib.Omega.{arith}

@@ -5,7 +5,6 @@ use native.Mathlib.Omega.{arith}
 use borrow.Author.Needs.{needs}
 use borrow.Author.Tests.{eq-eqb, ne-eqb}
 use Rattle.model.specs.Limits.{PLACES}
-use Rattle.lists.specs.Numbers.{look}
 use Rattle.sheet.specs.Sheet.{linkStep}
 use Rattle.sheet.specs.StepCases.{Labelled}
 use Rattle.sheet.specs.LabelLaws.{labels-tell}
