@@ -48,10 +48,10 @@ module _ (ed : Edition) (s : List ℕ) where
   cause-is-2-to-7 (second-heading h d is) = omega arith
   cause-is-2-to-7 (wrong-form h d is) = omega arith
   cause-is-2-to-7 (too-large h d is) = omega arith
-  cause-is-2-to-7 (too-many h d a e is l) = omega arith
-  cause-is-2-to-7 (given h d a e is l v f) = omega arith
-  cause-is-2-to-7 (not-given h d a e b f size is o) = omega arith
-  cause-is-2-to-7 (already-joined h d a e b f size is v w p q j) = omega arith
+  cause-is-2-to-7 (too-many h d is l) = omega arith
+  cause-is-2-to-7 (given h d is l v f) = omega arith
+  cause-is-2-to-7 (not-given h d is o) = omega arith
+  cause-is-2-to-7 (already-joined h d is v w p q j) = omega arith
 
   pub refusals-have-numbers-1-to-8 : {n k : ℕ} → Refusal ed s n k → (1 ≤ n) × (n ≤ 8)
   refusals-have-numbers-1-to-8 (by-length o) = omega arith
