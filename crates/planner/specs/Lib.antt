@@ -1,5 +1,6 @@
 pub mod Outcome
 pub mod Answers
+pub mod Told
 pub mod Small
 pub mod Shows
 pub mod Ready
