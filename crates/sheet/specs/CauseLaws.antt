@@ -119,7 +119,8 @@ module _ (ed : Edition) (s : List ℕ) (net : Network) (k at : ℕ) where
         by false q (At v) f = (refl, given h d is (leb-false _ _ q) v f)
         by false q Absent f = tt
 
-    link-right : LinkWithin (ed .size) (lineAt s at) → (size : ℕ) → Right (linkStep k (net .links) size (lookup s (net .names) one) (lookup s (net .names) two))
+    link-right : LinkWithin (ed .size) (lineAt s at) → (size : ℕ)
+        → Right (linkStep k (net .links) size (lookup s (net .names) one) (lookup s (net .names) two))
     unfolding linkStep
     link-right is size = by (lookup s (net .names) one) (finds s one (net .names)) (lookup s (net .names) two) (finds s two (net .names))
       where
@@ -158,7 +159,8 @@ module _ (ed : Edition) (s : List ℕ) (net : Network) (k at : ℕ) where
   step-right : Right (stepOf ed s net k at)
   unfolding stepOf
   step-right =
-      by (ltb (at + lineLength (drop at s)) (length s)) refl (eqb k 1) refl (kind (ed .size) (lineAt s at)) refl (a-kind-tells-its-form (ed .size) (lineAt s at))
+      by (ltb (at + lineLength (drop at s)) (length s)) refl (eqb k 1) refl (kind (ed .size) (lineAt s at)) refl
+      (a-kind-tells-its-form (ed .size) (lineAt s at))
     where
       by : (t : Bool) → ltb (at + lineLength (drop at s)) (length s) ≡ t → (u : Bool) → eqb k 1 ≡ u → (w : Line) → kind (ed .size) (lineAt s at) ≡ w
           → Tells (ed .size) (lineAt s at) w → Right (cond t (cond u (headingStep w) (recordStep ed s net k at w)) (Refused 2 k))
@@ -202,7 +204,8 @@ module _ (ed : Edition) (s : List ℕ) (net : Network) (k at : ℕ) where
   unfolding recordStep siteStep linkStep
   step-of-a-cause sound n (unended h) = unended-step ed s net k at (omega arith)
   step-of-a-cause sound n (no-heading h e other) =
-      first-step ed s net k at h e ∙ other-first-line (kind (ed .size) (lineAt s at)) (no-heading-by-its-form (ed .size) (lineAt s at) other) ∙ ap (Refused 2) (sym e)
+      first-step ed s net k at h e
+      ∙ other-first-line (kind (ed .size) (lineAt s at)) (no-heading-by-its-form (ed .size) (lineAt s at) other) ∙ ap (Refused 2) (sym e)
   step-of-a-cause sound n (second-heading h d is) = later h d _ (a-heading-by-its-form (ed .size) (lineAt s at) is)
   step-of-a-cause sound n (wrong-form h d is) = later h d _ (fault-2-is-the-wrong-form (ed .size) (lineAt s at) .1 is)
   step-of-a-cause sound n (too-large h d is) = later h d _ (fault-3-is-too-large (ed .size) (lineAt s at) .1 is)

@@ -44,7 +44,8 @@ returns-3 c =
     let a = first .before .before .args in
     let s = a .sheet .now in
     let number : a .site ≡ suc (a .site - 1) = omega (arith, read .before .before .before .if1 .left) in
-    let known : read .read-sheet .result ≡ reading (readSheet edition1 s) = read .read-sheet .ensures ∙ ap (λ e. reading (readSheet e s)) (first .first .ensures) in
+    let known : read .read-sheet .result ≡ reading (readSheet edition1 s)
+    = read .read-sheet .ensures ∙ ap (λ e. reading (readSheet e s)) (first .first .ensures) in
     let range = ap (λ (r : Reading). (look (r .network .start) (a .site - 1), look (r .network .end) (a .site - 1))) known
     ∙ range-by-lists (readSheet edition1 s) (a .site - 1) ∙ ap (nameRange edition1 s) (sym number) in
     subst (λ r. IsPart (a .sheet) r (c .part .result)) range (c .part .ensures)

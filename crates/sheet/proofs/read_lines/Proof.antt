@@ -83,7 +83,8 @@ step-at-requires c κs = let line = c .before .before .before .before .before in
 
 returns : tie.Need-returns Inv-loop μ-loop
 returns c = let step = c .before .before .before .before .before in
-    let cause = by-refusal (round step .loop .inv) (step .step-at .result) (here (line-of step .before)) (step-is step) _ _ (c .before .before .step .given .1) in
+    let cause = by-refusal (round step .loop .inv) (step .step-at .result) (here (line-of step .before)) (step-is step) _ _
+    (c .before .before .step .given .1) in
     c .refusal .ensures ∙ ap reading (sym cause)
 
 loop-again : tie.Need-loop-again Inv-loop μ-loop
@@ -112,7 +113,8 @@ ended c = let top = c .before .before in
 returns-2 : tie.Need-returns-2 Inv-loop μ-loop
 returns-2 c = let over = c .before .before .before .before in
     c .refusal2 .ensures
-    ∙ ap reading (sym (by-parts (over .before .before .loop .inv) (ended over) (sym (c .before .before .is-whole .ensures) ∙ not-true _ (c .before .if2 .taken))))
+    ∙ ap reading
+    (sym (by-parts (over .before .before .loop .inv) (ended over) (sym (c .before .before .is-whole .ensures) ∙ not-true _ (c .before .if2 .taken))))
 
 returns-3 : tie.Need-returns-3 Inv-loop μ-loop
 returns-3 c = let over = c .before .before .before in

@@ -39,7 +39,8 @@ returns-2 c =
     let v = look (a .table .now) (site .before .hash .result) in
     let one : 1 ≤ v = omega (arith, c .before .before .before .before .before .if1 .left) in
     let named : part (a .sheet .now) (look (a .starts .now) (v - 1), look (a .ends .now) (v - 1)) ≡ name
-    = same-are-equal _ _ (sym (rw (c .before .before .part2 .ensures .bytes, site .before .before .part .ensures .bytes) at (c .before .same .ensures)) ∙ c .if2 .taken) in
+    = same-are-equal _ _
+    (sym (rw (c .before .before .part2 .ensures .bytes, site .before .before .part .ensures .bytes) at (c .before .same .ensures)) ∙ c .if2 .taken) in
     sym (site-there (start .pre .1) name v one (ap (look (a .table .now)) (sym (hash-is (site .before))))
     (ap (part (a .sheet .now)) (range-at (a .starts .now) (a .ends .now) (a .sites) (v - 1) (omega (arith, there site))) ∙ named))
 
