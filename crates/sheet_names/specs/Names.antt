@@ -54,8 +54,9 @@ unfoldable pub hashFrom : ℕ → List ℕ → ℕ
 hashFrom h [] = h
 hashFrom h (b ∷ bs) = hashFrom ((h * 31 + b) % HASHES) bs
 
+-- of a name, its last eight bytes; all bytes of a shorter one
 abbrev pub hash : List ℕ → ℕ
-hash f = hashFrom 0 f
+hash f = hashFrom 0 (drop (length f - 8) f)
 
 -- the table with one site more, whose name has the hash h: the first site with a hash keeps the place
 unfoldable pub entered : List ℕ → ℕ → ℕ → List ℕ

@@ -24,10 +24,13 @@ use Rattle.sheet_names.specs.declared.Found.the-variants.{At, Absent}
 -- ---- hashes
 
 -- a hash is a place of the table
-pub hash-below : (h : ℕ) (f : List ℕ) → h < HASHES → hashFrom h f < HASHES
+from-below : (h : ℕ) (f : List ℕ) → h < HASHES → hashFrom h f < HASHES
 unfolding hashFrom
-hash-below h [] l = l
-hash-below h (b ∷ bs) l = hash-below ((h * 31 + b) % HASHES) bs (mod-lt (h * 31 + b) (omega arith))
+from-below h [] l = l
+from-below h (b ∷ bs) l = from-below ((h * 31 + b) % HASHES) bs (mod-lt (h * 31 + b) (omega arith))
+
+pub hash-below : (f : List ℕ) → hash f < HASHES
+hash-below f = from-below 0 (drop (length f - 8) f) (omega arith)
 
 -- the bytes from place i on, by the byte at i
 pub hash-step : (h : ℕ) (f : List ℕ) (i : ℕ) → i < length f → hashFrom h (drop i f) ≡ hashFrom ((h * 31 + look f i) % HASHES) (drop (i + 1) f)
@@ -72,7 +75,7 @@ module _ {s : List ℕ} {names : List (ℕ × ℕ)} {table : List ℕ} (t : Inde
   unfolding place
   free e =
       let here : look (set table place (length names + 1)) place ≡ length names + 1 =
-      getD-set-same table place (length names + 1) 0 (omega (arith, t .long, hash-below 0 (part s r) (omega arith))) in
+      getD-set-same table place (length names + 1) 0 (omega (arith, t .long, hash-below (part s r))) in
       let more = length-append names (r ∷ []) in
       record {
         long = length-set table place (length names + 1) ∙ t .long;

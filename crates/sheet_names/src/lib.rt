@@ -1,6 +1,6 @@
 // Inner: the names of sites, as ranges of a sheet, and their look-up: by a table of hashes, and site by site where two names have one hash.
 ghost use mathlib.Core.Path.{_≡_};
-ghost use Prim.Native.Nat.{_≤_, min};
+ghost use Prim.Native.Nat.{_-_, _≤_, min};
 ghost use Rattle.model.specs.Limits.{SITES};
 ghost use Rattle.sheet_names.specs.Names.{part, IsPart, lookup, ranges, hash, entered, Indexes};
 use model::SITES;
@@ -32,12 +32,19 @@ pub fn part(sheet: &[u8], start: usize, end: usize) -> &[u8]
     &sheet[start..stop]
 }
 
+// The place from which a name of so many bytes is hashed: its last eight bytes are, or all of fewer.
+fn hashed_from(length: usize) -> usize
+    ensures { λ r. ⌜ r ≡ length - 8 ⌝ }
+{
+    if length < 8 { 0 } else { length - 8 }
+}
+
 // The hash of a name.
 fn hash(name: &[u8]) -> usize
     ensures { λ r. ⌜ r ≡ hash (now (name .entry)) ⌝ }
 {
     let mut value = 0;
-    let mut i = 0;
+    let mut i = hashed_from(name.len());
     while i < name.len() {
         value = (value * 31 + name[i] as usize) % HASHES;
         i += 1;

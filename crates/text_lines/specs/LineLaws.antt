@@ -63,6 +63,15 @@ pub line-length-step : (s : List ℕ) (at : ℕ) → at < length s
     → ((getD s at 0 ≡ 10) × (lineLength (drop at s) ≡ 0)) ⊎ ((getD s at 0 ≢ 10) × (lineLength (drop at s) ≡ suc (lineLength (drop (at + 1) s))))
 line-length-step s at l = rw (drop-cons s at 0 l, add-one) (first-byte (getD s at 0) (drop (suc at) s))
 
+-- two bytes that are not 10 are passed over
+pub two-bytes-on : (s : List ℕ) (at : ℕ) → at + 1 < length s → getD s at 0 ≢ 10 → getD s (at + 1) 0 ≢ 10
+    → at + 2 + lineLength (drop (at + 2) s) ≡ at + lineLength (drop at s)
+two-bytes-on s at l d e =
+    let there : at + 1 + 1 ≡ at + 2 = omega arith in
+    ⊎-elim (λ h. absurd (d (h .0)))
+    (λ h. ⊎-elim (λ k. absurd (e (k .0))) (λ k. omega (arith, h .1, rw there at (k .1))) (line-length-step s (at + 1) l))
+    (line-length-step s at (omega arith))
+
 module _ (s : List ℕ) (at : ℕ) where
   -- a line has as many bytes as stand before the first byte 10
   pub length-of-line : length (lineAt s at) ≡ lineLength (drop at s)

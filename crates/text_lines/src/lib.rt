@@ -1,7 +1,9 @@
 // The line reader (document 01, "The network sheet"): it stands over a lent sheet at an offset and hands out the line there as that very
 // part of the sheet. The work is done by covered functions on slice and offset; the methods are thin and proved by hand.
 ghost use mathlib.Core.Path.{_≡_};
-ghost use Rattle.text_lines.specs.Lines.{lineStart, lineEnd, afterLine, hasLine, IsLine};
+ghost use Prim.Native.Nat.{_+_, _≤_};
+ghost use lib.ListN.{length, drop};
+ghost use Rattle.text_lines.specs.Lines.{lineLength, lineStart, lineEnd, afterLine, hasLine, IsLine};
 
 // The offset at which the line at an offset starts: that offset, or the end of the sheet if it is past it.
 fn line_start(sheet: &[u8], at: usize) -> usize
@@ -10,18 +12,36 @@ fn line_start(sheet: &[u8], at: usize) -> usize
     if at < sheet.len() { at } else { sheet.len() }
 }
 
+// The offset at which a line ends that has at most one byte left on the sheet.
+fn last_end(sheet: &[u8], end: usize) -> usize
+    requires { ⌜ (end ≤ length (now sheet)) × (length (now sheet) ≤ end + 1) ⌝ }
+    ensures { λ r. ⌜ r ≡ end + lineLength (drop end (now (sheet .entry))) ⌝ }
+{
+    if end >= sheet.len() {
+        return end;
+    }
+    if sheet[end] == b'\n' {
+        return end;
+    }
+    end + 1
+}
+
 // The offset at which the line at an offset ends: that of its byte 10, or the end of the sheet.
 fn line_end(sheet: &[u8], at: usize) -> usize
     ensures { λ r. ⌜ r ≡ lineEnd (now (sheet .entry)) at ⌝ }
 {
     let mut end = line_start(sheet, at);
-    while end < sheet.len() {
+    let length = sheet.len();
+    while 1 < length - end {
         if sheet[end] == b'\n' {
             return end;
         }
-        end += 1;
+        if sheet[end + 1] == b'\n' {
+            return end + 1;
+        }
+        end += 2;
     }
-    end
+    last_end(sheet, end)
 }
 
 // The line at an offset.

@@ -16,7 +16,7 @@ hash-is : (c : tie.After-hash) → let a = c .before .before .before .args in c 
 hash-is c = rw (c .before .part .ensures .bytes) at (c .hash .ensures)
 
 place : (c : tie.After-hash) → c .hash .result < HASHES
-place c = let a = c .before .before .before .args in rw (hash-is c) (hash-below 0 (part (a .sheet .now) (a .start, a .end)) (omega arith))
+place c = let a = c .before .before .before .args in rw (hash-is c) (hash-below (part (a .sheet .now) (a .start, a .end)))
 
 -- what stands there is a site
 there : (c : tie.After-site) → let a = c .before .before .before .before .args in look (a .table .now) (c .before .hash .result) ≤ a .sites
