@@ -9,6 +9,7 @@ pub mod ReadLaws
 pub mod Sound
 pub mod CauseLaws
 pub mod RefusalLaws
+pub mod OwnLines
 pub mod SheetTheorem
 pub mod Answers
 pub mod NameLaws

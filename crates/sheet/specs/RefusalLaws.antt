@@ -92,9 +92,10 @@ module _ (ed : Edition) (s : List ℕ) where
 
   -- ---- the sheet
 
+  -- a refused sheet has its cause, and an accepted one is read to its end
   abbrev Right : Read → Type 0
   Right (refused n k) = Refusal ed s n k
-  Right (accepted net) = Unit {0}
+  Right (accepted net) = (k : ℕ) × (at : ℕ) × Reached ed s k at net × (length s ≤ at)
 
   module _ (some : 1 ≤ length s) (few : length s ≤ ed .bytes) where
     finish-right : (k at : ℕ) (net : Network) → Reached ed s k at net → length s ≤ at → Right (finish net)
@@ -103,7 +104,7 @@ module _ (ed : Edition) (s : List ℕ) where
       where
         by : (t : Bool) → leb 2 (length (net .names)) ≡ t → (u : Bool) → allJoined (net .links) (sites (length (net .names))) ≡ u
             → Right (cond (t && u) (accepted net) (refused 8 0))
-        by true e true f = tt
+        by true e true f = (k, at, q, h)
         by true e false f = by-whole some few q h (inr (not-all-joined (net .links) (length (net .names)) f))
         by false e u f = by-whole some few q h (inl (leb-false _ _ e))
 
@@ -125,6 +126,10 @@ module _ (ed : Edition) (s : List ℕ) where
 
   pub a-refused-sheet-has-its-cause : (n k : ℕ) → readSheet ed s ≡ refused n k → Refusal ed s n k
   a-refused-sheet-has-its-cause n k e = subst Right e sheet-right
+
+  pub an-accepted-sheet-is-read-to-its-end : (net : Network) → readSheet ed s ≡ accepted net
+      → (k : ℕ) × (at : ℕ) × Reached ed s k at net × (length s ≤ at)
+  an-accepted-sheet-is-read-to-its-end net e = subst Right e sheet-right
 
   lines-decide : 1 ≤ length s → length s ≤ ed .bytes → readSheet ed s ≡ andThen (readLines ed s (length s) 1 0 empty) finish
   unfolding readSheet
