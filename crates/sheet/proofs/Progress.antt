@@ -2,18 +2,18 @@
 -- Each step takes one line from those left to those read.
 use mathlib.Core.Bool.{true, false, cond}
 use mathlib.Core.List.{List, [], _∷_, _++_, map, map-append, reverse, reverseAux-append}
-use mathlib.Core.Path.{_≡_, refl, sym, ap, subst, _∙_}
+use mathlib.Core.Path.{_≡_, refl, sym, ap, ap₂, subst, _∙_}
 use Prim.Native.Nat.{ℕ, _+_, _-_, _≤_, _<_}
 use native.Mathlib.Nat.{sub-zero}
 use native.Mathlib.Numerals.{add-one}
 use native.Mathlib.Omega.{arith}
-use lib.ListN.{length, replicate, set, length-append, length-map}
+use lib.ListN.{length, replicate, set, take, drop, length-append, length-map}
 use Rattle.model.specs.Limits.{PLACES, SITES}
-use Rattle.lists.specs.Numbers.{look, upfrom}
-use Rattle.model.specs.Flows.{Site, relabel}
+use Rattle.lists.specs.Numbers.{upfrom}
+use Rattle.model.specs.Flows.{Site}
 use Rattle.model.specs.declared.Edition.{Edition}
 use Rattle.tree_labels.specs.Labels.{linked, whole}
-use Rattle.tree_labels.specs.LabelPlaces.{linked-sites, whole-sites}
+use Rattle.tree_labels.specs.LabelPlaces.{whole-sites}
 use Rattle.text_lines.specs.Lines.{afterLine}
 use Rattle.sheet_names.specs.Names.{HASHES, part, ranges, hash, entered, Indexes}
 use Rattle.sheet_names.specs.TableLaws.{no-sites, site-entered}
@@ -23,7 +23,7 @@ use Rattle.sheet.specs.Sound.{Sound, Accepts, none-is-sound, a-line-keep
 use Rattle.sheet.specs.ReadLaws.{lines-end, lines-step}
 use Rattle.sheet.specs.Held.{labels, Held}
 use Rattle.sheet.specs.ListLaws.{padded-more, names-are}
-use Rattle.sheet.specs.LabelLaws.{own-labels, length-labels, labels-join, alike-tells}
+use Rattle.sheet.specs.LabelLaws.{own-labels, length-labels, labels-join, linked-at-the-sites, alike-tells}
 use Rattle.sheet.specs.declared.Lists.{Lists}
 use Rattle.sheet.specs.declared.stepping.Step.{Step}
 use Rattle.sheet.specs.declared.stepping.Step.the-variants as step
@@ -162,18 +162,22 @@ module _ {ed : Edition} {s table marks : List ℕ} {net : Lists} {at number : �
     link-behind : (a b : ℕ) → reverse (P .read .links ++ ((a, b) ∷ [])) ≡ (a, b) ∷ reverse (P .read .links)
     link-behind a b = reverseAux-append (P .read .links) ((a, b) ∷ []) []
 
+    -- a link joins two sites
+    link-sites : (a b size : ℕ) → w ≡ step.Link a b size → Site (length (P .read .names)) a × Site (length (P .read .names)) b
+    link-sites a b size q = rw (link-behind a b) at (sound-next _ (ap (added (P .read)) q) .ends) 0 (omega arith)
+
     pub link-fits : (a b size : ℕ) → w ≡ step.Link a b size → (net .links < SITES) × (a < PLACES) × (b < PLACES)
     link-fits a b size q =
-        let are-sites : Site (length (P .read .names)) a × Site (length (P .read .names)) b
-        = rw (link-behind a b) at (sound-next _ (ap (added (P .read)) q) .ends) 0 (omega arith) in
+        let are-sites = link-sites a b size q in
         let few = P .sound .few in
         omega (arith, links-are, links-are-few (P .sound) (omega arith))
 
-    pub by-link : (a b size : ℕ) → w ≡ step.Link a b size → (joined : List ℕ) → joined ≡ linked marks a b
-        → Progress ed s (withLink net a b size) table joined (afterLine s at) (number + 1)
+    pub by-link : (a b size : ℕ) → w ≡ step.Link a b size → (joined : List ℕ) → joined ≡ linked (take (net .sites + 1) marks) a b
+        → Progress ed s (withLink net a b size) table (joined ++ drop (net .sites + 1) marks) (afterLine s at) (number + 1)
     unfolding lists
     by-link a b size q joined e =
         let ls = P .read .links in
+        let are-sites = link-sites a b size q in
         let cs = P .read .capacities in
         let fits = link-fits a b size q in
         let room : length ls < SITES = omega (arith, links-are) in
@@ -182,8 +186,10 @@ module _ {ed : Edition} {s table marks : List ℕ} {net : Lists} {at number : �
         on (record { names = P .read .names; links = ls ++ ((a, b) ∷ []); capacities = cs ++ (size ∷ []) }) (ap (added (P .read)) q) _
         (rw (P .lists-are, placed (λ l. l .0) ls (a, b) room, placed (λ l. l .1) ls (a, b) room, sized, length-append ls ((a, b) ∷ [])))
         table (P .indexed)
-        joined
-        (e ∙ linked-sites marks a b (omega (arith, lengths)) (omega (arith, lengths)) ∙ ap (λ m. map (relabel (look m a) (look m b)) m) (P .labels-are)
+        (joined ++ drop (net .sites + 1) marks)
+        (ap (λ j. j ++ drop (net .sites + 1) marks) e ∙ ap₂ (λ k m. linked (take (k + 1) m) a b ++ drop (k + 1) m) sites-are (P .labels-are)
+        ∙ linked-at-the-sites PLACES (length (P .read .names)) (reverse ls) (P .sound .ends) (omega (arith, P .sound .few, P .fits)) a b (are-sites .0)
+        (are-sites .1)
         ∙ labels-join PLACES a b (reverse ls) (fits .1) (fits .2) ∙ ap (labels PLACES) (sym (link-behind a b)))
 
     -- a refused line decides

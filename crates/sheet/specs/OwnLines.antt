@@ -19,7 +19,7 @@ use Rattle.sheet_kinds.specs.declared.Line.the-variants as line
 use Rattle.sheet_names.specs.Lists.{one-more}
 use Rattle.sheet_names.specs.declared.Found.{Found}
 use Rattle.sheet_names.specs.declared.Found.the-variants.{At, Absent}
-use Rattle.sheet.specs.Sheet.{Network, accepted, part, lookup, siteBy, siteStep, linkStep, headingStep, recordStep, stepOf, added, readLine, readSheet}
+use Rattle.sheet.specs.Sheet.{Network, accepted, part, siteBy, siteStep, linkStep, headingStep, recordStep, stepOf, added, readLine, readSheet}
 use Rattle.sheet.specs.Causes.{fieldsAt, Reached, start, next}
 use Rattle.sheet.specs.CauseLaws.{firstName, a-site-is-looked-up-by-field-1}
 use Rattle.sheet.specs.RefusalLaws.{an-accepted-sheet-is-read-to-its-end}

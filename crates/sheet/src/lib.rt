@@ -108,7 +108,8 @@ fn read_lines(sheet: &[u8], edition: Edition) -> Reading
                 net.two[i] = two;
                 net.capacity[i] = size;
                 net.links = i + 1;
-                tree_labels::join(&mut labels, one, two);
+                let places = net.sites + 1;
+                tree_labels::join(&mut labels[..places], one, two);
             }
         }
     }

@@ -2,6 +2,7 @@
 use mathlib.Core.Path.{_≡_, sym, ap, _∙_}
 use Prim.Native.Nat.{_≤_, _<_, _+_, _-_}
 use lib.ListN.{length}
+use lib.Seq.{length-take-le}
 use borrow.Author.Tests.{not-true, not-false}
 use Rattle.model.specs.Limits.{PLACES, SITES}
 use Rattle.text_lines.specs.Lines.{afterLine}
@@ -159,7 +160,10 @@ read-lines-spec =
     (λ c. omega (arith, link-room c))
     (λ c. link-room c .0)
     (λ c. omega (arith, link-room c))
-    (λ c. omega (arith, lengths (round (c .before .before .before .before .before) .loop .inv)))
+    (λ c. omega (arith, lengths (round (c .before .before .before .before) .loop .inv)))
+    (λ c. omega (arith, lengths (round (c .before .before .before .before) .loop .inv)))
+    (λ c. let l = round (c .before .before .before .before .before) .loop in
+    sym (length-take-le (l .net .sites + 1) (l .labels) (omega (arith, lengths (l .inv)))))
     (λ c κs. search needs)
     (λ c. less (c .before .before .before .before .before .before))
     loop-again-3
