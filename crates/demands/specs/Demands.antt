@@ -11,13 +11,14 @@ use lib.ListN.{length}
 use Rattle.model.specs.Limits.{REPORT}
 use Rattle.model.specs.Edition.{edition1}
 use Rattle.lists.specs.Numbers.{look}
-use Rattle.model.specs.Flows.{Links, Tree, Fits}
+use Rattle.model.specs.Flows.{Links, Tree, Fits, ends}
 use Rattle.model.specs.Trimming.{balanced}
 use Rattle.model.specs.declared.Edition.{Edition}
 use Rattle.model.specs.declared.Pair.{Pair}
 use Rattle.lists.specs.Sums.{cases}
 use Rattle.theory_trees.specs.Greatest.{balanced-again}
 use Rattle.theory_trees.specs.Leaves.{Outer}
+use Rattle.theory_trees.specs.Ends.{ends-are-outer}
 use Rattle.sheet.specs.Sheet.{Network, Read, refused, accepted, readSheet}
 use Rattle.sheet.specs.SheetTheorem.{an-accepted-sheet-is-a-tree}
 use Rattle.report.specs.Report.{report}
@@ -81,6 +82,12 @@ pub the-same-plans-fit-exactly-if-the-trimmed-sizes-agree : {ls : Links} {n : �
     → ((fs : List Pair) → IsPlan n end fs → (k : ℕ) → 1 ≤ k → Fits ls k (look c) fs ↔ Fits ls k (look d) fs)
     ↔ ((j : ℕ) → j < length ls → look (balanced ls n end c) j ≡ look (balanced ls n end d) j)
 the-same-plans-fit-exactly-if-the-trimmed-sizes-agree T end O c d = same-plans-fit-iff-trimmed-agree T end O c d
+
+-- so for the ends of the tree itself
+pub the-same-plans-fit-a-tree-exactly-if-its-trimmed-sizes-agree : {ls : Links} {n : ℕ} → Tree ls n → (c d : List ℕ) → let end = look (ends ls n) in
+    ((fs : List Pair) → IsPlan n end fs → (k : ℕ) → 1 ≤ k → Fits ls k (look c) fs ↔ Fits ls k (look d) fs)
+    ↔ ((j : ℕ) → j < length ls → look (balanced ls n end c) j ≡ look (balanced ls n end d) j)
+the-same-plans-fit-a-tree-exactly-if-its-trimmed-sizes-agree T = same-plans-fit-iff-trimmed-agree T (look (ends _ _)) (ends-are-outer T)
 
 -- trimming, handed its own answer as sizes, gives that answer back; for any ends
 pub trimming-gives-its-own-answer-back : {ls : Links} {n : ℕ} → Tree ls n → (end : ℕ → ℕ) (c : List ℕ)
