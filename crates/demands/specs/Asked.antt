@@ -19,6 +19,7 @@ use Rattle.theory_walk.specs.Sound.{arises, Ascending}
 use Rattle.sheet_kinds.specs.LineKinds.{field}
 use Rattle.sheet.specs.Sheet.{Network, refused, accepted, readSheet}
 use Rattle.sheet.specs.Causes.{Refusal}
+use Rattle.sheet.specs.Answers.{SheetNumber}
 use Rattle.sheet.specs.SheetTheorem.{IsNetwork}
 use Rattle.report.specs.Report.{report, refusalLine}
 use Rattle.planner.specs.Outcome.{Planned, number, lineOf, lengthOf, planned}
@@ -42,14 +43,14 @@ pub record FullReport (r b : List ℕ) (p : Planned) : Type 0 where
   pub length-told : lengthOf (p .outcome) ≡ length r
   pub buffer-filled : p .buffer ≡ r ++ drop (length r) b
 
--- no cause of the table's 1 to 8 holds of the sheet s
+-- no cause of a refusal (1 to 8, 10 to 12) holds of the sheet s
 abbrev pub WithoutCause : Edition → List ℕ → Type 0
 WithoutCause ed s = (k l : ℕ) → ¬ (Refusal ed s k l)
 
 -- what planning the sheet s into the buffer b comes to: the sheet is refused for a cause of its own, with that cause's number and line;
 -- or it has no such cause, and its report is longer than the buffer; or it has no such cause and gets its full report
 pub data Demand1 (ed : Edition) (s b : List ℕ) : Type 0 where
-  faulty-sheet : (k l : ℕ) → readSheet ed s ≡ refused k l → Refusal ed s k l → 1 ≤ k → k ≤ 8 → Refused k l b (planned ed s b) → Demand1 ed s b
+  faulty-sheet : (k l : ℕ) → readSheet ed s ≡ refused k l → Refusal ed s k l → SheetNumber k → Refused k l b (planned ed s b) → Demand1 ed s b
   long-report : WithoutCause ed s → (net : Network) → readSheet ed s ≡ accepted net → length b < length (report s net) → Refused 9 0 b (planned ed s b)
       → Demand1 ed s b
   full-report : WithoutCause ed s → (net : Network) → readSheet ed s ≡ accepted net → length (report s net) ≤ length b
@@ -127,15 +128,14 @@ pub record IsReport (ed : Edition) (s r : List ℕ) : Type 0 where
   pub is-in-order : InOrder net (readReport s net r)
   pub meets-demand-3 : Demand3 net (readReport s net r)
 
--- the bytes r are the line of a refusal of the sheet s: one line, `refused`, a number from 1 to 8 and a line; the number and the line read off it have
--- their cause
+-- the bytes r are the line of a refusal of the sheet s: one line, `refused`, a number of the table (1 to 8, 10 to 12) and a line; the number
+-- and the line read off it have their cause
 pub record IsRefusal (ed : Edition) (s r : List ℕ) : Type 0 where
   pub one-line : length (records r) ≡ 1
   pub three-fields : length (firstLine r) ≡ 3
   pub heading : field (firstLine r) 0 ≡ bytes "refused"
   pub cause : Refusal ed s (numberRead r) (lineRead r)
-  pub at-least-1 : 1 ≤ numberRead r
-  pub at-most-8 : numberRead r ≤ 8
+  pub of-the-table : SheetNumber (numberRead r)
   pub whole : r ≡ refusalLine (numberRead r) (lineRead r)
 
 -- what the program prints for the sheet s: its full report, where it has no cause of a refusal; or the line of its refusal, which is never 9

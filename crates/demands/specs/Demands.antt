@@ -51,7 +51,7 @@ module _ (ed : Edition) (s b : List ℕ) where
       ↔ ((net : Network) × (readSheet ed s ≡ accepted net) × (length b < length (report s net)))
   nine-is-told-exactly-for-a-long-report = (
     λ nine. elim demand-1 [
-      | faulty-sheet k l e c low high r ↦ absurd (omega (arith, r .number-told))
+      | faulty-sheet k l e c known r ↦ absurd (known .not-nine (omega (arith, r .number-told)))
       | long-report c net e h r ↦ (net, e, h)
       | full-report c net e h r ↦ absurd (omega (arith, r .number-told))
     ],
@@ -63,7 +63,7 @@ module _ (ed : Edition) (s b : List ℕ) where
       ↔ ((net : Network) × (readSheet ed s ≡ accepted net) × (length (report s net) ≤ length b))
   zero-is-told-exactly-for-a-full-report = (
     λ zero-told. elim demand-1 [
-      | faulty-sheet k l e c low high r ↦ absurd (omega (arith, r .number-told))
+      | faulty-sheet k l e c known r ↦ absurd (omega (arith, r .number-told))
       | long-report c net e h r ↦ absurd (omega (arith, r .number-told))
       | full-report c net e h r ↦ (net, e, h)
     ],

@@ -30,7 +30,7 @@ use Rattle.demands.specs.Records.{refusal-line, refusal-fields, refusal-
 use Rattle.demands.specs.ReadBack.{planSays, report-read-back}
 use Rattle.demands.specs.Sets.{owners-tell-the-cuts, told-sets-are-owned, told-sizes-sum-to-the-terminals}
 use Rattle.demands.specs.Sets.{an-owner-is-told-for-each-site, owners-are-told-or-dashes, a-dash-tells-no-owner, a-dash-tells-that-no-cut-holds-the-site}
-use Rattle.demands.specs.Refusals.{sheets-are-refused-with-1-to-8, sheets-are-refused-at-a-line-within-the-limit}
+use Rattle.demands.specs.Refusals.{sheets-are-refused-with-a-sheet-number, sheets-are-refused-at-a-line-within-the-limit}
 use Rattle.demands.specs.Outcomes.{sheet-refused, report-too-long, report-delivered}
 use Rattle.demands.specs.Outcomes.{fronted, the-front-is-printed, report-answered, refusal-answered, a-refusal-is-small}
 
@@ -43,8 +43,7 @@ accepted-without-cause ed s net read k l c = contradiction (cc (read, a-sheet-is
 module _ (ed : Edition) (s b : List ℕ) where
   pub a-refused-sheet-meets-demand-1 : (k l : ℕ) → readSheet ed s ≡ refused k l → Demand1 ed s b
   a-refused-sheet-meets-demand-1 k l e =
-      let c = sheets-are-refused-with-1-to-8 ed s k l e in
-      faulty-sheet k l e (a-sheet-is-refused-for-its-cause ed s k l .0 e) (c .0) (c .1)
+      faulty-sheet k l e (a-sheet-is-refused-for-its-cause ed s k l .0 e) (sheets-are-refused-with-a-sheet-number ed s k l e)
       (rw (sheet-refused ed s b k l e) (record { number-told = refl; line-told = refl; length-told = refl; buffer-kept = refl }))
 
   module _ (net : Network) (read : readSheet ed s ≡ accepted net) where
@@ -140,15 +139,14 @@ the-report-is-full ed s net read =
 
 the-line-is-a-refusal : (ed : Edition) (s : List ℕ) (k l : ℕ) → readSheet ed s ≡ refused k l → IsRefusal ed s (refusalLine k l)
 the-line-is-a-refusal ed s k l e =
-    let told = sheets-are-refused-with-1-to-8 ed s k l e in
+    let told = sheets-are-refused-with-a-sheet-number ed s k l e in
     let cause = a-sheet-is-refused-for-its-cause ed s k l .0 e in
     record {
       one-line = ap length (refusal-line k l);
       three-fields = ap length (refusal-fields k l);
       heading = ap (λ f. field f 0) (refusal-fields k l);
       cause = rw (refusal-number k l, refusal-at k l) cause;
-      at-least-1 = rw (refusal-number k l) (told .0);
-      at-most-8 = rw (refusal-number k l) (told .1);
+      of-the-table = rw (refusal-number k l) told;
       whole = rw (refusal-number k l, refusal-at k l);
     }
 
@@ -167,8 +165,8 @@ module _ (s b : List ℕ) (room : REPORT ≤ length b) where
     where
       by : (r : Read) → readSheet edition1 s ≡ r → Said (answered edition1 s b)
       by (refused k l) e =
-          let number = sheets-are-refused-with-1-to-8 edition1 s k l e in
-          let small = a-refusal-is-small k l (number .1) (sheets-are-refused-at-a-line-within-the-limit edition1 s k l e) in
+          let number = sheets-are-refused-with-a-sheet-number edition1 s k l e in
+          let small = a-refusal-is-small k l (number .known) (sheets-are-refused-at-a-line-within-the-limit edition1 s k l e) in
           rw (refusal-answered edition1 s b k l e (omega arith)) (front-said (refusalLine k l) (a-refusal (the-line-is-a-refusal edition1 s k l e)))
       by (accepted net) e =
           let small = a-report-is-small (an-accepted-sheet-is-a-tree edition1 s net e) in

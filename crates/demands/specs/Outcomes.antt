@@ -69,12 +69,12 @@ module _ (ed : Edition) (s b : List ℕ) where
       rw (sheet-refused k l e, stored)
 
 -- the line of a refusal is shorter than a report may be
-pub a-refusal-is-small : (k l : ℕ) → k ≤ 8 → l ≤ BYTES → length (refusalLine k l) ≤ REPORT
+pub a-refusal-is-small : (k l : ℕ) → k ≤ 12 → l ≤ BYTES → length (refusalLine k l) ≤ REPORT
 unfolding refusalLine line
 a-refusal-is-small k l few low = omega (
   arith,
   length-append (decimal k) (9 ∷ (decimal l ++ (10 ∷ []))),
   length-append (decimal l) (10 ∷ []),
-  decimal-within 0 k (omega arith),
+  decimal-within 1 k (omega arith),
   decimal-length l (omega arith),
 )

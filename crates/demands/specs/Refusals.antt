@@ -1,20 +1,16 @@
--- The numbers of a sheet's refusals are 1 to 8: never 0, which is success, nor 9, which is the buffer's; and the line is within the limit of bytes.
--- Since each comes for a cause of the table, on a line of the sheet.
+-- The numbers of a sheet's refusals are those of the table, 1 to 8 and 10 to 12 (`SheetNumber`): never 0, which is success, nor 9, which is the
+-- buffer's; and the line is within the limit of bytes. Since each comes for a cause of the table, on a line of the sheet.
 use mathlib.Core.Path.{_≡_}
 use mathlib.Core.List.{List}
 use Prim.Native.Nat.{ℕ, _≤_}
 use Rattle.model.specs.declared.Edition.{Edition}
 use Rattle.sheet.specs.Sheet.{refused, readSheet}
 use Rattle.sheet.specs.SheetTheorem.{a-sheet-is-refused-for-its-cause}
-use Rattle.sheet.specs.Answers.{refusals-have-numbers-1-to-8, a-line-at-fault-is-on-the-sheet}
-
--- a number of the table's causes 1 to 8
-abbrev pub Cause : ℕ → Type 0
-Cause k = (1 ≤ k) × (k ≤ 8)
+use Rattle.sheet.specs.Answers.{SheetNumber, refusals-have-sheet-numbers, a-line-at-fault-is-on-the-sheet}
 
 module _ (ed : Edition) (s : List ℕ) (k l : ℕ) (e : readSheet ed s ≡ refused k l) where
-  pub sheets-are-refused-with-1-to-8 : Cause k
-  sheets-are-refused-with-1-to-8 = refusals-have-numbers-1-to-8 ed s (a-sheet-is-refused-for-its-cause ed s k l .0 e)
+  pub sheets-are-refused-with-a-sheet-number : SheetNumber k
+  sheets-are-refused-with-a-sheet-number = refusals-have-sheet-numbers ed s (a-sheet-is-refused-for-its-cause ed s k l .0 e)
 
   pub sheets-are-refused-at-a-line-within-the-limit : l ≤ ed .bytes
   sheets-are-refused-at-a-line-within-the-limit = a-line-at-fault-is-on-the-sheet ed s (a-sheet-is-refused-for-its-cause ed s k l .0 e) .1

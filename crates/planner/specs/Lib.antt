@@ -7,3 +7,4 @@ pub mod Ready
 pub mod Taken
 pub mod Works
 pub mod Fits
+pub mod Renumbered

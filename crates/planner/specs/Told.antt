@@ -1,8 +1,8 @@
--- The sheet's own refusals, told by planning: a number from 1 to 8 at a line just for its cause, whatever the buffer.
--- Document 01, the table of causes. (Of 0 and 9 the demands tell: they depend on the report's length.)
+-- The sheet's own refusals, told by planning: any number but 0 and 9 at a line just for its cause, whatever the buffer.
+-- Document 01, the table of causes; 02, Card 1. (Of 0 and 9 the demands tell: they depend on the report's length.)
 use mathlib.Core.Path.{_≡_, refl}
 use mathlib.Core.Bool.{Bool, true, false, cond}
-use mathlib.Core.Logic.{_↔_, _⊎_, inl, inr}
+use mathlib.Core.Logic.{_↔_, _⊎_, inl, inr, _≢_}
 use mathlib.Core.List.{List}
 use Prim.Native.Nat.{ℕ, _≤_}
 use native.Mathlib.Omega.{arith}
@@ -26,15 +26,15 @@ zero-or-nine r b = by (leb (length r) (length b)) _ _ refl refl
     by false p q e f = inr f
 
 module _ (ed : Edition) (s b : List ℕ) where
-  pub a-number-of-the-sheet-is-told-just-for-its-cause : (k l : ℕ) → 1 ≤ k → k ≤ 8
+  pub a-number-of-the-sheet-is-told-just-for-its-cause : (k l : ℕ) → 1 ≤ k → k ≢ 9
       → ((number (planned ed s b .outcome) ≡ k) × (lineOf (planned ed s b .outcome) ≡ l)) ↔ Refusal ed s k l
   unfolding planned planRead
-  a-number-of-the-sheet-is-told-just-for-its-cause k l some few =
+  a-number-of-the-sheet-is-told-just-for-its-cause k l some other =
       let law = a-sheet-is-refused-for-its-cause ed s k l in (λ t. law .0 (by (readSheet ed s) t), λ c. rw (law .1 c) (refl, refl))
     where
       by : (r : Read) → (number (planRead s b r .outcome) ≡ k) × (lineOf (planRead s b r .outcome) ≡ l) → r ≡ refused k l
       by (refused n m) t = let e = t .0 in let f = t .1 in cc
       by (accepted net) t = elim (zero-or-nine (report s net) b) [
         | inl e ↦ absurd (omega (arith, t .0, e))
-        | inr e ↦ absurd (omega (arith, t .0, e))
+        | inr e ↦ absurd (other (omega (arith, t .0, e)))
       ]

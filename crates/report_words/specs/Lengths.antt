@@ -79,7 +79,10 @@ cause-length n =
     (λ d. pick-cases P n 7 _ _ (λ e. omega arith)
     (λ d. pick-cases P n 8 _ _ (λ e. omega arith)
     (λ d. pick-cases P n 9 _ _ (λ e. omega arith)
-    (λ d. omega arith)))))))))
+    (λ d. pick-cases P n 10 _ _ (λ e. omega arith)
+    (λ d. pick-cases P n 11 _ _ (λ e. omega arith)
+    (λ d. pick-cases P n 12 _ _ (λ e. omega arith)
+    (λ d. omega arith))))))))))))
 
 -- the line of any refusal
 pub words-are-short : (number l : ℕ) → l < 2 ^ 64 → length (words number l) ≤ 130

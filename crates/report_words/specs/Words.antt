@@ -1,5 +1,5 @@
 -- The refusals in words: the line that a program writes to standard error beside a refusal.
--- Document 01, the table of causes, in plain words; a further refusal is a further line of `cause`.
+-- Document 01, the table of causes, and 02, Card 1, in plain words; a further refusal is a further line of `cause`.
 use mathlib.Core.Bool.{cond}
 use mathlib.Core.List.{List, [], _∷_, _++_}
 use Prim.Native.Nat.{ℕ, _+_, _*_, _/_, _%_}
@@ -32,7 +32,7 @@ place l = pick l 0 (bytes "the sheet: ") (bytes "line " ++ (decimal l ++ bytes "
 unfoldable pub cause : ℕ → List ℕ
 cause n =
     pick n 1 (bytes "no bytes, or more than " ++ grouped BYTES)
-    (pick n 2 (bytes "wrong form (heading, letter, number of fields, name, number or line ending)")
+    (pick n 2 (bytes "wrong heading, letter or line ending")
     (pick n 3 (bytes "size above " ++ grouped SIZE)
     (pick n 4 (bytes "more sites than " ++ grouped SITES)
     (pick n 5 (bytes "name already given to a site")
@@ -40,7 +40,10 @@ cause n =
     (pick n 7 (bytes "link whose sites are already joined by links above, or are one site")
     (pick n 8 (bytes "fewer than two sites, or not all sites are joined")
     (pick n 9 (bytes "report longer than the buffer")
-    (bytes "a cause without words")))))))))
+    (pick n 10 (bytes "wrong number of fields")
+    (pick n 11 (bytes "a name is not 1 to 12 letters or digits")
+    (pick n 12 (bytes "a number is not written in decimal without a leading zero")
+    (bytes "a cause without words"))))))))))))
 
 -- the whole line
 unfoldable pub words : ℕ → ℕ → List ℕ

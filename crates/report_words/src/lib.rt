@@ -68,12 +68,7 @@ fn put_cause(buf: &mut [u8], at: usize, number: u64) -> usize
 {
     match number {
         1 => put_limit(buf, at, b"no bytes, or more than", BYTES as u64),
-        2 => put_bytes(
-            buf,
-            at,
-            b"wrong form (heading, letter, number of fields, name, number or line ending)",
-            b'\n',
-        ),
+        2 => put_bytes(buf, at, b"wrong heading, letter or line ending", b'\n'),
         3 => put_limit(buf, at, b"size above", SIZE),
         4 => put_limit(buf, at, b"more sites than", SITES as u64),
         5 => put_bytes(buf, at, b"name already given to a site", b'\n'),
@@ -91,6 +86,14 @@ fn put_cause(buf: &mut [u8], at: usize, number: u64) -> usize
             b'\n',
         ),
         9 => put_bytes(buf, at, b"report longer than the buffer", b'\n'),
+        10 => put_bytes(buf, at, b"wrong number of fields", b'\n'),
+        11 => put_bytes(buf, at, b"a name is not 1 to 12 letters or digits", b'\n'),
+        12 => put_bytes(
+            buf,
+            at,
+            b"a number is not written in decimal without a leading zero",
+            b'\n',
+        ),
         _ => put_bytes(buf, at, b"a cause without words", b'\n'),
     }
 }

@@ -1,5 +1,5 @@
--- What reading a sheet answers, in both directions: a number at a line just for its cause, 0 just without one. Numbers are 1 to 8, and a line at fault
--- is one of the sheet. Document 01, "The network sheet" (the table's columns "No." and "Returned"). By the causes, one by one.
+-- What reading a sheet answers, in both directions: a number at a line just for its cause, 0 just without one. Numbers are 1 to 8 or 10 to 12, and a
+-- line at fault is one of the sheet. Document 01, "The network sheet" (the table's columns "No." and "Returned"); 02, Card 1. By the causes, one by one.
 use mathlib.Core.List.{List}
 use mathlib.Core.Logic.{_↔_, _≢_}
 use mathlib.Core.Path.{_≡_, refl}
@@ -12,7 +12,8 @@ use Rattle.text_lines.specs.Lines.{hasLine}
 use Rattle.text_lines.specs.LineLaws.{after-line-is-later}
 use Rattle.sheet.specs.Sheet.{Network, empty, Read, refused, accepted, readSheet}
 use Rattle.sheet.specs.Reading.{lists, reading}
-use Rattle.sheet.specs.Causes.{Cause, unended, no-heading, second-heading, wrong-form, too-large, too-many, given, not-given, already-joined}
+use Rattle.sheet.specs.Causes.{Cause, unended, no-heading, second-heading, no-letter, wrong-count, bad-name, bad-number}
+use Rattle.sheet.specs.Causes.{too-large, too-many, given, not-given, already-joined}
 use Rattle.sheet.specs.Causes.{Reached, start, next, Refusal, by-length, by-line, by-whole}
 use Rattle.sheet.specs.SheetTheorem.{a-sheet-is-refused-for-its-cause}
 use Rattle.sheet.specs.declared.Answer.{Answer}
@@ -33,6 +34,12 @@ line (Refused n k) = k
 abbrev pub Tells : Read → ℕ → ℕ → Type 0
 Tells r n k = (number (reading r .answer) ≡ n) × (line (reading r .answer) ≡ k)
 
+-- a number with which a sheet is refused: 1 to 8, or 10 to 12; never 0, which is success, nor 9, which is the buffer's
+pub record SheetNumber (n : ℕ) : Type 0 where
+  pub some : 1 ≤ n
+  pub known : n ≤ 12
+  pub not-nine : n ≢ 9
+
 -- ---- how large they are
 
 module _ (ed : Edition) (s : List ℕ) where
@@ -42,21 +49,24 @@ module _ (ed : Edition) (s : List ℕ) where
   lines-are-bytes start = omega arith
   lines-are-bytes (next {at = at} r h e) = omega (arith, lines-are-bytes r, after-line-is-later s at (lt-ltb at (length s) h))
 
-  cause-is-2-to-7 : {net : Network} {k at n : ℕ} → Cause ed s net k at n → (2 ≤ n) × (n ≤ 7)
-  cause-is-2-to-7 (unended h) = omega arith
-  cause-is-2-to-7 (no-heading h e d) = omega arith
-  cause-is-2-to-7 (second-heading h d is) = omega arith
-  cause-is-2-to-7 (wrong-form h d is) = omega arith
-  cause-is-2-to-7 (too-large h d is) = omega arith
-  cause-is-2-to-7 (too-many h d is l) = omega arith
-  cause-is-2-to-7 (given h d is l v f) = omega arith
-  cause-is-2-to-7 (not-given h d is o) = omega arith
-  cause-is-2-to-7 (already-joined h d is v w p q j) = omega arith
+  cause-has-a-sheet-number : {net : Network} {k at n : ℕ} → Cause ed s net k at n → SheetNumber n
+  cause-has-a-sheet-number (unended h) = record { some = omega arith; known = omega arith; not-nine = λ e. omega arith }
+  cause-has-a-sheet-number (no-heading h e d) = record { some = omega arith; known = omega arith; not-nine = λ e. omega arith }
+  cause-has-a-sheet-number (second-heading h d is) = record { some = omega arith; known = omega arith; not-nine = λ e. omega arith }
+  cause-has-a-sheet-number (no-letter h d is) = record { some = omega arith; known = omega arith; not-nine = λ e. omega arith }
+  cause-has-a-sheet-number (wrong-count h d is) = record { some = omega arith; known = omega arith; not-nine = λ e. omega arith }
+  cause-has-a-sheet-number (bad-name h d is) = record { some = omega arith; known = omega arith; not-nine = λ e. omega arith }
+  cause-has-a-sheet-number (bad-number h d is) = record { some = omega arith; known = omega arith; not-nine = λ e. omega arith }
+  cause-has-a-sheet-number (too-large h d is) = record { some = omega arith; known = omega arith; not-nine = λ e. omega arith }
+  cause-has-a-sheet-number (too-many h d is l) = record { some = omega arith; known = omega arith; not-nine = λ e. omega arith }
+  cause-has-a-sheet-number (given h d is l v f) = record { some = omega arith; known = omega arith; not-nine = λ e. omega arith }
+  cause-has-a-sheet-number (not-given h d is o) = record { some = omega arith; known = omega arith; not-nine = λ e. omega arith }
+  cause-has-a-sheet-number (already-joined h d is v w p q j) = record { some = omega arith; known = omega arith; not-nine = λ e. omega arith }
 
-  pub refusals-have-numbers-1-to-8 : {n k : ℕ} → Refusal ed s n k → (1 ≤ n) × (n ≤ 8)
-  refusals-have-numbers-1-to-8 (by-length o) = omega arith
-  refusals-have-numbers-1-to-8 (by-line some few r h c) = omega (arith, cause-is-2-to-7 c)
-  refusals-have-numbers-1-to-8 (by-whole some few r h o) = omega arith
+  pub refusals-have-sheet-numbers : {n k : ℕ} → Refusal ed s n k → SheetNumber n
+  refusals-have-sheet-numbers (by-length o) = record { some = omega arith; known = omega arith; not-nine = λ e. omega arith }
+  refusals-have-sheet-numbers (by-line some few r h c) = cause-has-a-sheet-number c
+  refusals-have-sheet-numbers (by-whole some few r h o) = record { some = omega arith; known = omega arith; not-nine = λ e. omega arith }
 
   -- a line at fault is one of the sheet, which is within the limit; other refusals are at line 0
   pub a-line-at-fault-is-on-the-sheet : {n k : ℕ} → Refusal ed s n k → (k ≤ length s) × (k ≤ ed .bytes)
@@ -78,8 +88,8 @@ module _ (ed : Edition) (s : List ℕ) where
   pub zero-is-told-just-without-a-cause : (number (reading (readSheet ed s) .answer) ≡ 0) ↔ ((n k : ℕ) → ¬ (Refusal ed s n k))
   unfolding number reading
   zero-is-told-just-without-a-cause = (
-    λ e n k c. let t = a-number-is-told-just-for-its-cause n k (refusals-have-numbers-1-to-8 c .0) .1 c .0 in
-        absurd (omega (arith, e, t, refusals-have-numbers-1-to-8 c .0)),
+    λ e n k c. let t = a-number-is-told-just-for-its-cause n k (refusals-have-sheet-numbers c .some) .1 c .0 in
+        absurd (omega (arith, e, t, refusals-have-sheet-numbers c .some)),
     λ none. by (readSheet ed s) refl none,
   )
     where

@@ -16,7 +16,7 @@ use Rattle.theory_trees.specs.Labels.{joined-iff}
 use Rattle.text_lines.specs.Lines.{lineLength, lineAt}
 use Rattle.text_lines.specs.LineLaws.{length-of-line}
 use Rattle.sheet_kinds.specs.LineKinds.{field, IsSite, IsLink, kind}
-use Rattle.sheet_kinds.specs.FaultyLines.{fault-numbers, fault-2-is-the-wrong-form, fault-3-is-too-large}
+use Rattle.sheet_kinds.specs.FaultyLines as faulty
 use Rattle.sheet_kinds.specs.FormedLines.{site-is-formed, link-is-formed}
 use Rattle.sheet_kinds.specs.KindForms.{LinkWithin, Tells, a-kind-tells-its-form, a-heading-by-its-form, no-heading-by-its-form, a-site-by-its-form}
 use Rattle.sheet_kinds.specs.KindForms.{a-link-by-its-form, site-name-is-field-1, link-name-is-field-1, link-name-is-field-2}
@@ -28,8 +28,8 @@ use Rattle.sheet.specs.declared.stepping.Step.{Step}
 use Rattle.sheet.specs.declared.stepping.Step.the-variants.{Nothing, Site, Link, Refused}
 use Rattle.sheet_names.specs.LookupLaws.{Says, lookup-says}
 use Rattle.sheet.specs.Sound.{Sound, part-of-line}
-use Rattle.sheet.specs.Causes.{Named, NotGiven, Ended, Cause, unended, no-heading, second-heading, wrong-form, too-large, too-many, given, not-given}
-use Rattle.sheet.specs.Causes.{already-joined, fieldsAt}
+use Rattle.sheet.specs.Causes.{Named, NotGiven, Ended, Cause, unended, no-heading, second-heading, no-letter, wrong-count, bad-name, bad-number}
+use Rattle.sheet.specs.Causes.{too-large, too-many, given, not-given, already-joined, fieldsAt}
 use Rattle.sheet_names.specs.declared.Found.{Found}
 use Rattle.sheet_names.specs.declared.Found.the-variants.{At, Absent}
 
@@ -134,6 +134,13 @@ module _ (ed : Edition) (s : List ℕ) (net : Network) (k at : ℕ) where
         by (At v) p Absent q = (refl, not-given h d is (inr q))
         by (At v) p (At w) q = either v w p q (eqb (joined (net .links) v w) 1) refl
 
+    fault-right : (n : ℕ) → faulty.LineFault (ed .size) (lineAt s at) n → Cause ed s net k at n
+    fault-right n (faulty.no-letter f) = no-letter h d f
+    fault-right n (faulty.wrong-count f) = wrong-count h d f
+    fault-right n (faulty.bad-name f) = bad-name h d f
+    fault-right n (faulty.bad-number f) = bad-number h d f
+    fault-right n (faulty.too-large f) = too-large h d f
+
     record-right : (w : Line) → kind (ed .size) (lineAt s at) ≡ w → Tells (ed .size) (lineAt s at) w → Right (recordStep ed s net k at w)
     unfolding recordStep
     record-right line.Heading is form = (refl, second-heading h d form)
@@ -144,10 +151,7 @@ module _ (ed : Edition) (s : List ℕ) (net : Network) (k at : ℕ) where
         let g = form .1 .link in
         subst (λ w. Right (recordStep ed s net k at w)) (sym (form .2))
         (rw (a-link-is-looked-up-by-field-1 s at g, a-link-is-looked-up-by-field-2 s at g) (link-right (form .1) _))
-    record-right (line.Fault n) is form = ⊎-elim
-        (λ z. (refl, rw z (wrong-form h d (fault-2-is-the-wrong-form (ed .size) (lineAt s at) .0 (rw z at is)))))
-        (λ z. (refl, rw z (too-large h d (fault-3-is-too-large (ed .size) (lineAt s at) .0 (rw z at is)))))
-        (fault-numbers (ed .size) (lineAt s at) n is)
+    record-right (line.Fault n) is form = (refl, fault-right n (faulty.a-line-is-a-fault-just-for-its-cause (ed .size) (lineAt s at) n .0 is))
 
   heading-right : Ended s at → k ≡ 1 → (w : Line) → Tells (ed .size) (lineAt s at) w → Right (headingStep w)
   unfolding headingStep
@@ -200,6 +204,11 @@ module _ (ed : Edition) (s : List ℕ) (net : Network) (k at : ℕ) where
   later : Ended s at → k ≢ 1 → (w : Line) → kind (ed .size) (lineAt s at) ≡ w → stepOf ed s net k at ≡ recordStep ed s net k at w
   later h d w is = later-step ed s net k at h d ∙ ap (recordStep ed s net k at) is
 
+  -- a line at fault by itself
+  at-fault : Ended s at → k ≢ 1 → (n : ℕ) → faulty.LineFault (ed .size) (lineAt s at) n → stepOf ed s net k at ≡ Refused n k
+  unfolding recordStep
+  at-fault h d n f = later h d _ (faulty.a-line-is-a-fault-just-for-its-cause (ed .size) (lineAt s at) n .1 f)
+
   step-of-a-cause : Sound ed s net → (n : ℕ) → Cause ed s net k at n → stepOf ed s net k at ≡ Refused n k
   unfolding recordStep siteStep linkStep
   step-of-a-cause sound n (unended h) = unended-step ed s net k at (omega arith)
@@ -207,8 +216,11 @@ module _ (ed : Edition) (s : List ℕ) (net : Network) (k at : ℕ) where
       first-step ed s net k at h e ∙ other-first-line (kind (ed .size) (lineAt s at)) (no-heading-by-its-form (ed .size) (lineAt s at) other)
       ∙ ap (Refused 2) (sym e)
   step-of-a-cause sound n (second-heading h d is) = later h d _ (a-heading-by-its-form (ed .size) (lineAt s at) is)
-  step-of-a-cause sound n (wrong-form h d is) = later h d _ (fault-2-is-the-wrong-form (ed .size) (lineAt s at) .1 is)
-  step-of-a-cause sound n (too-large h d is) = later h d _ (fault-3-is-too-large (ed .size) (lineAt s at) .1 is)
+  step-of-a-cause sound n (no-letter h d f) = at-fault h d 2 (faulty.no-letter f)
+  step-of-a-cause sound n (wrong-count h d f) = at-fault h d 10 (faulty.wrong-count f)
+  step-of-a-cause sound n (bad-name h d f) = at-fault h d 11 (faulty.bad-name f)
+  step-of-a-cause sound n (bad-number h d f) = at-fault h d 12 (faulty.bad-number f)
+  step-of-a-cause sound n (too-large h d f) = at-fault h d 3 (faulty.too-large f)
   step-of-a-cause sound n (too-many h d is l) = later h d _ (a-site-by-its-form (ed .size) (lineAt s at) is) ∙ rw (le-leb _ _ l)
   step-of-a-cause sound n (given h d is l v f) =
       later h d _ (a-site-by-its-form (ed .size) (lineAt s at) is)

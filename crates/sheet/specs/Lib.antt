@@ -13,3 +13,4 @@ pub mod OwnLines
 pub mod SheetTheorem
 pub mod Answers
 pub mod NameLaws
+pub mod Renumbered

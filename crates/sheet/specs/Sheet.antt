@@ -67,7 +67,7 @@ recordStep ed s net k at (line.Link a e b f size) =
     linkStep k (net .links) size (lookup s (net .names) (part s (at + a, at + e))) (lookup s (net .names) (part s (at + b, at + f)))
 recordStep ed s net k at (line.Fault n) = Refused n k
 
--- a line that no byte 10 ends is of the wrong form, before any other fault
+-- 2 for a line that no byte 10 ends, before any other fault
 unfoldable pub stepOf : Edition → List ℕ → Network → ℕ → ℕ → Step
 stepOf ed s net k at =
     let line = kind (ed .size) (lineAt s at) in

@@ -1,109 +1,151 @@
--- When a line is a fault: 2 just where it has the form of no line, 3 just where it is a link whose size is above the limit.
--- By the first field: a line that starts with `L` is no site, any other is no link, and neither is a heading.
-use mathlib.Core.Bool.{Bool, true, false, cond}
+-- When a line is a fault, each number just for its cause: 2 no known letter, 10 wrong number of fields, 11 bad name, 12 badly written number, in this order;
+-- then 3, a link whose size is above the limit. Document 02, Card 1. By the first field: the letter chooses the form, and no heading has such a letter.
+use mathlib.Core.Bool.{Bool, true, false, cond, false≢true, and-false}
 use mathlib.Core.List.{List}
 use mathlib.Core.Logic.{_⊎_, inl, inr, ⊎-elim, _↔_, _≢_}
-use mathlib.Core.Path.{_≡_, refl, subst}
+use mathlib.Core.Path.{_≡_, refl, sym, subst, _∙_}
 use Prim.Native.Nat.{ℕ, _<_}
-use native.Mathlib.Omega.{arith}
 use lib.Dec.{leb}
-use lib.ListN.{length}
-use borrow.Author.Tests.{ne-eqb, leb-false, lt-leb}
+use borrow.Author.Tests.{leb-false, lt-leb}
 use Rattle.model.specs.Text.{bytes}
+use Rattle.text_fields.specs.FieldLaws.{not-same}
+use Rattle.text_grammar.specs.declared.Form.{Form}
 use Rattle.text_grammar.specs.declared.Check.{Check}
 use Rattle.text_grammar.specs.declared.Check.the-variants as check
-use Rattle.text_grammar.specs.FormLaws.{fault-of-the-wrong-form, another-letter}
-use Rattle.sheet_kinds.specs.LineKinds.{same, fields, field, value, isHeading, checked, faultOf, siteForm, linkForm, IsSite, IsLink, judged, siteLine}
+pub use Rattle.text_grammar.specs.Grammar.{WrongCount, BadName, BadNumber}
+use Rattle.text_grammar.specs.FormLaws.{another-letter}
+use Rattle.text_grammar.specs.RuleLaws as rule
+use Rattle.sheet_kinds.specs.LineKinds.{same, fields, field, value, isHeading, checked, faultOf, siteForm, linkForm, IsLink, judged, siteLine}
 use Rattle.sheet_kinds.specs.LineKinds.{sizedLink, linkLine, kindOf, kind}
 use Rattle.sheet_kinds.specs.LineKindLaws.{same-are-equal, equal-are-same, judged-cases, link-parts}
 use Rattle.sheet_kinds.specs.declared.Line.{Line}
 use Rattle.sheet_kinds.specs.declared.Line.the-variants.{Heading, Site, Link, Fault}
-use Rattle.lists.specs.Sums.{contradiction}
 
--- the line has the form of no line (01: line of the wrong form); what the forms are, `LineKindLaws` tells
-pub record WrongForm (l : List ℕ) : Type 0 where
+-- ---- the causes
+
+-- the first field is no known letter, and the line is no heading
+pub record NoLetter (l : List ℕ) : Type 0 where
   pub no-heading : isHeading (fields l) ≡ false
-  pub no-site : ¬ (IsSite (fields l))
-  pub no-link : ¬ (IsLink (fields l))
+  pub no-site : field (fields l) 0 ≢ bytes "N"
+  pub no-link : field (fields l) 0 ≢ bytes "L"
+
+-- the letter is that of a site or of a link, and a rule of that form is broken
+abbrev pub Broken : (Form → List (List ℕ) → Type 0) → List ℕ → Type 0
+Broken Rule l = Rule siteForm (fields l) ⊎ Rule linkForm (fields l)
 
 -- the line is a link whose size is above the limit (01: size above 1,000,000)
 pub record TooLarge (most : ℕ) (l : List ℕ) : Type 0 where
   pub link : IsLink (fields l)
   pub above : most < value (field (fields l) 3)
 
--- a line of another letter is not formed
-not-formed : {c : Check} → c ≡ check.Letter → c ≢ check.Formed
-not-formed e f = contradiction cc
-
--- a line that is not formed is fault 2
-wrong : (c : Check) (w : Line) → c ≢ check.Formed → judged c w ≡ Fault 2
-unfolding judged
-wrong c w d = rw (fault-of-the-wrong-form c d)
+-- why a line by itself is at fault, with its number; what the rules are, `Grammar` tells
+pub data LineFault (most : ℕ) (l : List ℕ) : ℕ → Type 0 where
+  no-letter : NoLetter l → LineFault most l 2
+  wrong-count : Broken WrongCount l → LineFault most l 10
+  bad-name : Broken BadName l → LineFault most l 11
+  bad-number : Broken BadNumber l → LineFault most l 12
+  too-large : TooLarge most l → LineFault most l 3
 
 module _ (most : ℕ) (l : List ℕ) where
-  abbrev Faulty : Line → Type 0
-  Faulty Heading = Unit {0}
-  Faulty (Site a e) = Unit {0}
-  Faulty (Link a e b f size) = Unit {0}
-  Faulty (Fault n) = ((n ≡ 2) × WrongForm l) ⊎ ((n ≡ 3) × TooLarge most l)
+  -- ---- the letter chooses the form
 
-  -- a line that starts with `L` is no site
-  no-site-with-L : same (field (fields l) 0) (bytes "L") ≡ true → ¬ (IsSite (fields l))
-  unfolding same
-  no-site-with-L e = not-formed (another-letter siteForm (fields l) (rw (same-are-equal (field (fields l) 0) (bytes "L") e)))
+  site-is-no-heading : field (fields l) 0 ≡ bytes "N" → isHeading (fields l) ≡ false
+  unfolding isHeading same
+  site-is-no-heading e = rw (e, and-false)
 
-  sized-faulty : IsLink (fields l) → Faulty (sizedLink most (fields l))
+  pub link-is-no-heading : field (fields l) 0 ≡ bytes "L" → isHeading (fields l) ≡ false
+  unfolding isHeading same
+  link-is-no-heading e = rw (e, and-false)
+
+  -- a line that starts with `N` is judged as a site, and one that starts with `L` as a link
+  pub kind-of-N : field (fields l) 0 ≡ bytes "N" → kind most l ≡ siteLine (fields l)
+  unfolding kind kindOf same
+  kind-of-N e = rw (site-is-no-heading e, e)
+
+  pub kind-of-L : field (fields l) 0 ≡ bytes "L" → kind most l ≡ linkLine most (fields l)
+  unfolding kind kindOf same
+  kind-of-L e = rw (link-is-no-heading e, e)
+
+  -- ---- a fault has its cause
+
+  abbrev Right : Line → Type 0
+  Right Heading = Unit {0}
+  Right (Site a e) = Unit {0}
+  Right (Link a e b f size) = Unit {0}
+  Right (Fault n) = LineFault most l n
+
+  sized-right : IsLink (fields l) → Right (sizedLink most (fields l))
   unfolding sizedLink
-  sized-faulty g = by (leb (value (field (fields l) 3)) most) refl (Link _ _ _ _ _) tt
+  sized-right g = by (leb (value (field (fields l) 3)) most) refl (Link _ _ _ _ _) tt
     where
-      by : (w : Bool) → leb (value (field (fields l) 3)) most ≡ w → (x : Line) → Faulty x → Faulty (cond w x (Fault 3))
+      by : (w : Bool) → leb (value (field (fields l) 3)) most ≡ w → (x : Line) → Right x → Right (cond w x (Fault 3))
       by true h x f = f
-      by false h x f = inr (refl, record { link = g; above = leb-false _ _ h })
+      by false h x f = too-large (record { link = g; above = leb-false _ _ h })
 
-  module _ (no : isHeading (fields l) ≡ false) where
-    as-link : same (field (fields l) 0) (bytes "L") ≡ true → Faulty (linkLine most (fields l))
-    unfolding linkLine
-    as-link e = judged-cases Faulty (checked linkForm (fields l)) _ sized-faulty
-        (λ d. inl (fault-of-the-wrong-form _ d, record { no-heading = no; no-site = no-site-with-L e; no-link = d }))
+  -- by the rule that is broken
+  link-right : same (field (fields l) 0) (bytes "L") ≡ true → (c : Check) → rule.Tells linkForm (fields l) c → c ≢ check.Formed
+      → LineFault most l (faultOf c)
+  unfolding faultOf
+  link-right e check.Formed h d = absurd (d refl)
+  link-right e check.Letter h d = absurd (h (same-are-equal _ _ e))
+  link-right e check.Count h d = wrong-count (inr h)
+  link-right e check.Name h d = bad-name (inr h)
+  link-right e check.Number h d = bad-number (inr h)
 
-    as-site : same (field (fields l) 0) (bytes "L") ≡ false → Faulty (siteLine (fields l))
-    unfolding siteLine
-    as-site e = judged-cases Faulty (checked siteForm (fields l)) _ (λ g. tt)
-        (λ d. inl (fault-of-the-wrong-form _ d, record { no-heading = no; no-site = d; no-link = not-formed (another-letter linkForm (fields l) e) }))
+  site-right : isHeading (fields l) ≡ false → same (field (fields l) 0) (bytes "L") ≡ false → (c : Check) → rule.Tells siteForm (fields l) c
+      → c ≢ check.Formed → LineFault most l (faultOf c)
+  unfolding faultOf
+  site-right other e check.Formed h d = absurd (d refl)
+  site-right other e check.Letter h d =
+      no-letter (record { no-heading = other; no-site = h; no-link = λ z. false≢true (sym e ∙ rw z (equal-are-same (bytes "L"))) })
+  site-right other e check.Count h d = wrong-count (inl h)
+  site-right other e check.Name h d = bad-name (inl h)
+  site-right other e check.Number h d = bad-number (inl h)
 
-  faulty : Faulty (kind most l)
-  unfolding kind kindOf
-  faulty = by (isHeading (fields l)) refl (same (field (fields l) 0) (bytes "L")) refl
+  right : Right (kind most l)
+  unfolding kind kindOf siteLine linkLine
+  right = by (isHeading (fields l)) refl (same (field (fields l) 0) (bytes "L")) refl
     where
       by : (t : Bool) → isHeading (fields l) ≡ t → (u : Bool) → same (field (fields l) 0) (bytes "L") ≡ u
-          → Faulty (cond t Heading (cond u (linkLine most (fields l)) (siteLine (fields l))))
-      by true e u f = tt
-      by false e true f = as-link e f
-      by false e false f = as-site e f
+          → Right (cond t Heading (cond u (linkLine most (fields l)) (siteLine (fields l))))
+      by true other u e = tt
+      by false other true e = judged-cases Right (checked linkForm (fields l)) _ sized-right
+          (link-right e (checked linkForm (fields l)) (rule.a-finding-tells-its-rule linkForm (fields l)))
+      by false other false e = judged-cases Right (checked siteForm (fields l)) _ (λ g. tt)
+          (site-right other e (checked siteForm (fields l)) (rule.a-finding-tells-its-rule siteForm (fields l)))
 
-  pub fault-numbers : (n : ℕ) → kind most l ≡ Fault n → (n ≡ 2) ⊎ (n ≡ 3)
-  fault-numbers n e = ⊎-elim (λ h. inl (h .0)) (λ h. inr (h .0)) (subst Faulty e faulty)
+  -- ---- a cause makes its fault
 
-  pub fault-2-is-the-wrong-form : (kind most l ≡ Fault 2) ↔ WrongForm l
-  unfolding kind kindOf linkLine siteLine
-  fault-2-is-the-wrong-form = (
-    λ e. ⊎-elim (λ h. h .1) (λ h. absurd (omega (arith, h .0))) (subst Faulty e faulty),
-    λ h. rw (h .no-heading, wrong (checked linkForm (fields l)) (sizedLink most (fields l)) (h .no-link), wrong (checked siteForm (fields l)) _ (h .no-site))
-        (either (same (field (fields l) 0) (bytes "L"))),
-  )
-    where
-      either : (t : Bool) → cond t (Fault 2) (Fault 2) ≡ Fault 2
-      either true = refl
-      either false = refl
+  site-fault : (c : Check) (n : ℕ) → field (fields l) 0 ≡ bytes "N" → checked siteForm (fields l) ≡ c → ((w : Line) → judged c w ≡ Fault n)
+      → kind most l ≡ Fault n
+  unfolding siteLine
+  site-fault c n e is f = kind-of-N e ∙ rw is (f _)
 
-  -- a link, having four fields, is no heading
-  pub link-is-no-heading : IsLink (fields l) → isHeading (fields l) ≡ false
-  unfolding isHeading
-  link-is-no-heading e = rw (ne-eqb (length (fields l)) 2 (λ z. omega (arith, link-parts (fields l) e .count)))
+  link-fault : (c : Check) (n : ℕ) → field (fields l) 0 ≡ bytes "L" → checked linkForm (fields l) ≡ c → ((w : Line) → judged c w ≡ Fault n)
+      → kind most l ≡ Fault n
+  unfolding linkLine
+  link-fault c n e is f = kind-of-L e ∙ rw is (f _)
 
-  pub fault-3-is-too-large : (kind most l ≡ Fault 3) ↔ TooLarge most l
-  unfolding kind kindOf linkLine judged faultOf sizedLink
-  fault-3-is-too-large = (
-    λ e. ⊎-elim (λ h. absurd (omega (arith, h .0))) (λ h. h .1) (subst Faulty e faulty),
-    λ h. rw (link-is-no-heading (h .link), link-parts (fields l) (h .link) .letter, equal-are-same (bytes "L"), h .link, lt-leb _ _ (h .above)),
-  )
+  large : TooLarge most l → kind most l ≡ Fault 3
+  unfolding linkLine judged faultOf sizedLink
+  large h = kind-of-L (link-parts (fields l) (h .link) .letter) ∙ rw (h .link, lt-leb _ _ (h .above))
+
+  fault-of : (n : ℕ) → LineFault most l n → kind most l ≡ Fault n
+  unfolding judged faultOf kind kindOf siteLine
+  fault-of n (no-letter h) =
+      rw (
+        h .no-heading,
+        not-same (field (fields l) 0) (bytes "L") (h .no-link),
+        another-letter siteForm (fields l) (not-same (field (fields l) 0) (bytes "N") (h .no-site)),
+      )
+  fault-of n (wrong-count (inl h)) = site-fault check.Count 10 (h .letter) (rule.a-wrong-count-is-found siteForm (fields l) h) (λ w. refl)
+  fault-of n (wrong-count (inr h)) = link-fault check.Count 10 (h .letter) (rule.a-wrong-count-is-found linkForm (fields l) h) (λ w. refl)
+  fault-of n (bad-name (inl h)) = site-fault check.Name 11 (h .counted .letter) (rule.a-bad-name-is-found siteForm (fields l) h) (λ w. refl)
+  fault-of n (bad-name (inr h)) = link-fault check.Name 11 (h .counted .letter) (rule.a-bad-name-is-found linkForm (fields l) h) (λ w. refl)
+  fault-of n (bad-number (inl h)) = site-fault check.Number 12 (h .counted .letter) (rule.a-bad-number-is-found siteForm (fields l) h) (λ w. refl)
+  fault-of n (bad-number (inr h)) = link-fault check.Number 12 (h .counted .letter) (rule.a-bad-number-is-found linkForm (fields l) h) (λ w. refl)
+  fault-of n (too-large h) = large h
+
+  -- each number just for its cause
+  pub a-line-is-a-fault-just-for-its-cause : (n : ℕ) → (kind most l ≡ Fault n) ↔ LineFault most l n
+  a-line-is-a-fault-just-for-its-cause n = (λ e. subst Right e right, fault-of n)

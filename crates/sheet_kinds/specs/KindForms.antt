@@ -12,9 +12,9 @@ use borrow.Author.Tests.{leb-true, le-leb}
 use Rattle.model.specs.Text.{bytes}
 use Rattle.sheet_kinds.specs.LineKinds.{same, fields, field, value, isHeading, checked, faultOf, siteForm, linkForm, IsSite, IsLink, judged, siteLine}
 use Rattle.sheet_kinds.specs.LineKinds.{sizedLink, linkLine, kindOf, kind}
-use Rattle.sheet_kinds.specs.LineKindLaws.{equal-are-same, judged-cases, site-parts, link-parts}
+use Rattle.sheet_kinds.specs.LineKindLaws.{judged-cases, site-parts, link-parts}
 use Rattle.sheet_kinds.specs.FormedLines.{part-of-field-1, part-of-field-2}
-use Rattle.sheet_kinds.specs.FaultyLines.{link-is-no-heading}
+use Rattle.sheet_kinds.specs.FaultyLines.{kind-of-N, kind-of-L}
 use Rattle.sheet_kinds.specs.declared.Line.{Line}
 use Rattle.sheet_kinds.specs.declared.Line.the-variants.{Heading, Site, Link, Fault}
 
@@ -89,16 +89,11 @@ module _ (most : ℕ) (l : List ℕ) where
   pub no-heading-by-its-form : isHeading (fields l) ≡ false → kind most l ≢ Heading
   no-heading-by-its-form e z = false≢true (sym e ∙ subst Tells z a-kind-tells-its-form)
 
-  site-is-no-heading : IsSite (fields l) → isHeading (fields l) ≡ false
-  unfolding isHeading same
-  site-is-no-heading e = let k = site-parts (fields l) e in rw (k .count, k .letter)
-
   pub a-site-by-its-form : IsSite (fields l) → kind most l ≡ Site 2 (2 + length (field (fields l) 1))
-  unfolding kind kindOf siteLine judged faultOf same
-  a-site-by-its-form e = rw (site-is-no-heading e, site-parts (fields l) e .letter, e)
+  unfolding siteLine judged faultOf
+  a-site-by-its-form e = kind-of-N most l (site-parts (fields l) e .letter) ∙ rw e
 
   pub a-link-by-its-form : LinkWithin most l → let a = length (field (fields l) 1) in let b = length (field (fields l) 2) in
       kind most l ≡ Link 2 (2 + a) (3 + a) (3 + a + b) (value (field (fields l) 3))
-  unfolding kind kindOf linkLine judged faultOf sizedLink
-  a-link-by-its-form h =
-      rw (link-is-no-heading most l (h .link), link-parts (fields l) (h .link) .letter, equal-are-same (bytes "L"), h .link, le-leb _ _ (h .within))
+  unfolding linkLine judged faultOf sizedLink
+  a-link-by-its-form h = kind-of-L most l (link-parts (fields l) (h .link) .letter) ∙ rw (h .link, le-leb _ _ (h .within))

@@ -3,3 +3,4 @@ pub mod LineKindLaws
 pub mod FormedLines
 pub mod FaultyLines
 pub mod KindForms
+pub mod Numbering

@@ -49,14 +49,6 @@ formed-or-faulty Count = inr (λ e. contradiction cc, refl)
 formed-or-faulty Name = inr (λ e. contradiction cc, refl)
 formed-or-faulty Number = inr (λ e. contradiction cc, refl)
 
-pub fault-of-the-wrong-form : (c : Check) → c ≢ Formed → faultOf c ≡ 2
-unfolding faultOf
-fault-of-the-wrong-form Formed d = absurd (d refl)
-fault-of-the-wrong-form Letter d = refl
-fault-of-the-wrong-form Count d = refl
-fault-of-the-wrong-form Name d = refl
-fault-of-the-wrong-form Number d = refl
-
 -- a line that is formed starts with the letter, and has neither too few fields nor too many
 module _ (form : Form) (fs : List (List ℕ)) where
   pub formed-parts : checked form fs ≡ Formed

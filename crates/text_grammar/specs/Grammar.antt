@@ -1,8 +1,10 @@
 -- The grammar of a line: its fields as places, and the first rule of a form that they break.
 -- Document 01, "The network sheet": a letter, then names, then numbers. Cards add forms, and numbers for the faults.
-use mathlib.Core.Bool.{Bool, cond, _&&_}
+use mathlib.Core.Bool.{Bool, true, false, cond, _&&_}
 use mathlib.Core.List.{List, [], _∷_}
-use Prim.Native.Nat.{ℕ, zero, suc, _+_, _≤_}
+use mathlib.Core.Logic.{_⊎_}
+use mathlib.Core.Path.{_≡_}
+use Prim.Native.Nat.{ℕ, zero, suc, _+_, _≤_, _<_}
 use lib.Dec.{leb}
 use lib.ListN.{length, drop, replicate}
 use lib.Seq.{sets}
@@ -54,13 +56,43 @@ checked form fs =
     (checkedFields (form .names) (drop 1 fs))
     Count) Letter
 
--- the number of the fault (01: line of the wrong form; letter, field count, name, number), and 0 for a line that is formed
+-- the number of the fault (Card 1: 2 no known letter, 10 wrong number of fields, 11 bad name, 12 badly written number), and 0 for a line that is formed
 unfoldable pub faultOf : Check → ℕ
 faultOf Formed = 0
 faultOf Letter = 2
-faultOf Count = 2
-faultOf Name = 2
-faultOf Number = 2
+faultOf Count = 10
+faultOf Name = 11
+faultOf Number = 12
+
+-- ---- the rules of a form, in their order: what holds of fields that break one of them
+
+-- the letter is that of the form, and the number of fields is not
+pub record WrongCount (form : Form) (fs : List (List ℕ)) : Type 0 where
+  pub letter : field fs 0 ≡ form .letter ∷ []
+  pub count : (length fs < 1 + form .names + form .least) ⊎ (1 + form .names + form .most < length fs)
+
+-- the letter and the number of fields are those of the form
+pub record RightCount (form : Form) (fs : List (List ℕ)) : Type 0 where
+  pub letter : field fs 0 ≡ form .letter ∷ []
+  pub enough : 1 + form .names + form .least ≤ length fs
+  pub no-more : length fs ≤ 1 + form .names + form .most
+
+-- the letter and the number of fields are right, and some name is no name
+pub record BadName (form : Form) (fs : List (List ℕ)) : Type 0 where
+  pub counted : RightCount form fs
+  pub at : ℕ
+  pub after-the-letter : 1 ≤ at
+  pub among-the-names : at ≤ form .names
+  pub bad : isName (field fs at) ≡ false
+
+-- the letter, the number of fields and the names are right, and some number is no number
+pub record BadNumber (form : Form) (fs : List (List ℕ)) : Type 0 where
+  pub counted : RightCount form fs
+  pub names-are-names : (k : ℕ) → 1 ≤ k → k ≤ form .names → isName (field fs k) ≡ true
+  pub at : ℕ
+  pub after-the-names : form .names < at
+  pub within : at < length fs
+  pub bad : isNumber (field fs at) ≡ false
 
 -- ---- numbers within a limit
 

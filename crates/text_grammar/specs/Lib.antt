@@ -2,3 +2,4 @@ pub mod Grammar
 pub mod SizeLaws
 pub mod SplitLaws
 pub mod FormLaws
+pub mod RuleLaws

@@ -137,9 +137,9 @@ pub fn fault(check: Check) -> u64
     match check {
         Check::Formed => 0,
         Check::Letter => 2,
-        Check::Count => 2,
-        Check::Name => 2,
-        Check::Number => 2,
+        Check::Count => 10,
+        Check::Name => 11,
+        Check::Number => 12,
     }
 }
 

@@ -1,0 +1,52 @@
+-- What Card 1 changed in planning: by the numbering from before, which gave 2 for each fault of form, outcome and buffer are today's for every sheet and every
+-- buffer, but that 2 stands for 10, 11 and 12. Document 02, Card 1. Since every sheet is read as before, and a report that is too long is told as 9.
+use mathlib.Core.Bool.{Bool, true, false, cond}
+use mathlib.Core.List.{List}
+use mathlib.Core.Path.{_≡_, refl}
+use Prim.Native.Nat.{ℕ}
+use lib.Dec.{leb}
+use lib.ListN.{length}
+use Rattle.model.specs.declared.Edition.{Edition}
+use Rattle.sheet.specs.Sheet.{Read, refused, accepted, readSheet}
+use Rattle.sheet.specs.Renumbered.{Check, faultOf, faultBefore, numberBefore, readBefore, readSheetBy}
+use Rattle.sheet.specs.Renumbered.{a-sheet-is-read-by-the-numbering, a-sheet-is-read-as-before}
+use Rattle.report.specs.Report.{report}
+use Rattle.planner.specs.Outcome.{Planned, deliver, planRead, planned}
+use Rattle.planner.specs.declared.Outcome.{Outcome}
+use Rattle.planner.specs.declared.Outcome.the-variants.{Report, Refused}
+
+-- planning by a numbering of the form faults: `planned` is that by `faultOf`
+unfoldable pub plannedBy : (Check → ℕ) → Edition → List ℕ → List ℕ → Planned
+plannedBy numbering ed s b = planRead s b (readSheetBy numbering ed s)
+
+-- the outcome before: 2 for 10, 11 and 12, at the same line; everything else stays, and so does the buffer
+abbrev pub outcomeBefore : Outcome → Outcome
+outcomeBefore (Report n) = Report n
+outcomeBefore (Refused k l) = Refused (numberBefore k) l
+
+abbrev pub plannedBefore : Planned → Planned
+plannedBefore p = record { outcome = outcomeBefore (p .outcome); buffer = p .buffer }
+
+module _ (ed : Edition) (s b : List ℕ) where
+  delivered-stays : (r : List ℕ) → deliver r b ≡ plannedBefore (deliver r b)
+  unfolding deliver numberBefore
+  delivered-stays r = by (leb (length r) (length b)) _ _ refl refl
+    where
+      by : (t : Bool) (p q : Planned) → p ≡ plannedBefore p → q ≡ plannedBefore q → cond t p q ≡ plannedBefore (cond t p q)
+      by true p q e f = e
+      by false p q e f = f
+
+  read-before : (r : Read) → planRead s b (readBefore r) ≡ plannedBefore (planRead s b r)
+  unfolding planRead
+  read-before (refused n k) = refl
+  read-before (accepted net) = delivered-stays (report s net)
+
+  -- today's planning is the one by today's numbering
+  pub a-sheet-is-planned-by-the-numbering : plannedBy faultOf ed s b ≡ planned ed s b
+  unfolding plannedBy planned
+  a-sheet-is-planned-by-the-numbering = rw (a-sheet-is-read-by-the-numbering ed s)
+
+  -- what was told as 2 before is told as one of 2, 10, 11, 12 now, at the same line; every other outcome, and the buffer, is as it was
+  pub a-sheet-is-planned-as-before : plannedBy faultBefore ed s b ≡ plannedBefore (planned ed s b)
+  unfolding plannedBy planned
+  a-sheet-is-planned-as-before = rw (a-sheet-is-read-as-before ed s) (read-before (readSheet ed s))

@@ -1,0 +1,172 @@
+-- Reading by another numbering of the form faults, and what Card 1 changed: by the numbering from before, which gave 2 for each of them, every sheet is
+-- read as today, but that 2 stands for 10, 11 and 12; the line, and everything else, is as it was. Document 02, Card 1. By the cases of a step.
+use mathlib.Core.Bool.{Bool, true, false, cond, _&&_}
+use mathlib.Core.List.{List}
+use mathlib.Core.Path.{_≡_, refl, sym, ap}
+use Prim.Native.Nat.{ℕ, zero, suc, _+_}
+use lib.Dec.{eqb, leb, ltb}
+use lib.ListN.{length, drop}
+use Rattle.model.specs.Flows.{sites, joined}
+use Rattle.model.specs.declared.Edition.{Edition}
+use Rattle.text_lines.specs.Lines.{lineLength, lineAt, afterLine, hasLine}
+use Rattle.sheet_kinds.specs.LineKinds.{kind}
+pub use Rattle.sheet_kinds.specs.LineKinds.{faultOf}
+pub use Rattle.sheet_kinds.specs.Numbering.{Check, faultBefore}
+unfoldable pub use Rattle.sheet_kinds.specs.Numbering.{numberBefore}
+use Rattle.sheet_kinds.specs.Numbering.{kindBy, lineBefore, kind-is-by-the-numbering, a-line-is-as-before}
+use Rattle.sheet_kinds.specs.declared.Line.{Line}
+use Rattle.sheet_kinds.specs.declared.Line.the-variants as line
+use Rattle.sheet_names.specs.declared.Found.{Found}
+use Rattle.sheet_names.specs.declared.Found.the-variants.{At, Absent}
+use Rattle.sheet.specs.Sheet.{Network, empty, Read, refused, accepted, siteStep, siteBy, linkStep, headingStep, recordStep, stepOf, added, readLine}
+use Rattle.sheet.specs.Sheet.{andThen, readLines, allJoined, finish, readSheet, part, lookup}
+use Rattle.sheet.specs.declared.stepping.Step.{Step}
+use Rattle.sheet.specs.declared.stepping.Step.the-variants.{Nothing, Site, Link, Refused}
+
+-- ---- reading by a numbering: `stepOf`, `readLines` and `readSheet` are those by `faultOf`
+
+module _ (numbering : Check → ℕ) (ed : Edition) (s : List ℕ) where
+  unfoldable pub stepBy : Network → ℕ → ℕ → Step
+  stepBy net k at =
+      let line = kindBy numbering (ed .size) (lineAt s at) in
+      cond (ltb (at + lineLength (drop at s)) (length s))
+      (cond (eqb k 1) (headingStep line) (recordStep ed s net k at line))
+      (Refused 2 k)
+
+  unfoldable pub readLinesBy : ℕ → ℕ → ℕ → Network → Read
+  readLinesBy zero k at net = accepted net
+  readLinesBy (suc fuel) k at net =
+      cond (hasLine s at)
+      (andThen (added net (stepBy net k at)) (λ next. readLinesBy fuel (suc k) (afterLine s at) next))
+      (accepted net)
+
+  unfoldable pub readSheetBy : Read
+  readSheetBy = cond (leb 1 (length s) && leb (length s) (ed .bytes)) (andThen (readLinesBy (length s) 1 0 empty) finish) (refused 1 0)
+
+-- what reading came to before: 2 for 10, 11 and 12, at the same line; everything else stays
+abbrev pub readBefore : Read → Read
+readBefore (refused n k) = refused (numberBefore n) k
+readBefore (accepted net) = accepted net
+
+abbrev stepBefore : Step → Step
+stepBefore Nothing = Nothing
+stepBefore (Site a e) = Site a e
+stepBefore (Link a b size) = Link a b size
+stepBefore (Refused n k) = Refused (numberBefore n) k
+
+-- ---- a step
+
+site-stays : (ed : Edition) (k n : ℕ) (r : ℕ × ℕ) (w : Found) → stepBefore (siteStep ed k n r w) ≡ siteStep ed k n r w
+unfolding siteStep numberBefore
+site-stays ed k n r w = by (leb (ed .sites) n) w
+  where
+    by : (t : Bool) (w : Found) → stepBefore (cond t (Refused 4 k) (siteBy k r w)) ≡ cond t (Refused 4 k) (siteBy k r w)
+    by true w = refl
+    by false (At v) = refl
+    by false Absent = refl
+
+module _ (k : ℕ) (net : Network) (size : ℕ) where
+  link-stays : (u w : Found) → stepBefore (linkStep k (net .links) size u w) ≡ linkStep k (net .links) size u w
+  unfolding linkStep numberBefore
+  link-stays Absent w = refl
+  link-stays (At a) Absent = refl
+  link-stays (At a) (At b) = by (eqb (joined (net .links) a b) 1)
+    where
+      by : (t : Bool) → stepBefore (cond t (Refused 7 k) (Link a b size)) ≡ cond t (Refused 7 k) (Link a b size)
+      by true = refl
+      by false = refl
+
+heading-before : (w : Line) → headingStep (lineBefore w) ≡ stepBefore (headingStep w)
+unfolding headingStep numberBefore
+heading-before line.Heading = refl
+heading-before (line.Site a e) = refl
+heading-before (line.Link a e b f size) = refl
+heading-before (line.Fault n) = refl
+
+module _ (ed : Edition) (s : List ℕ) where
+  module _ (net : Network) (k at : ℕ) where
+    record-before : (w : Line) → recordStep ed s net k at (lineBefore w) ≡ stepBefore (recordStep ed s net k at w)
+    unfolding recordStep numberBefore
+    record-before line.Heading = refl
+    record-before (line.Site a e) = sym (site-stays ed k (length (net .names)) _ (lookup s (net .names) (part s (at + a, at + e))))
+    record-before (line.Link a e b f size) = sym (link-stays k net size _ _)
+    record-before (line.Fault n) = refl
+
+    step-before : stepBy faultBefore ed s net k at ≡ stepBefore (stepOf ed s net k at)
+    unfolding stepBy stepOf numberBefore
+    step-before =
+        rw (a-line-is-as-before (ed .size) (lineAt s at))
+        (by (ltb (at + lineLength (drop at s)) (length s)) (eqb k 1) (kind (ed .size) (lineAt s at)))
+      where
+        by : (t u : Bool) (w : Line) → cond t (cond u (headingStep (lineBefore w)) (recordStep ed s net k at (lineBefore w))) (Refused 2 k)
+            ≡ stepBefore (cond t (cond u (headingStep w) (recordStep ed s net k at w)) (Refused 2 k))
+        by true true w = heading-before w
+        by true false w = record-before w
+        by false u w = refl
+
+    -- by today's numbering it is today's step
+    step-by-the-numbering : stepBy faultOf ed s net k at ≡ stepOf ed s net k at
+    unfolding stepBy stepOf
+    step-by-the-numbering = rw (kind-is-by-the-numbering (ed .size) (lineAt s at))
+
+  -- ---- the lines and the sheet
+
+  added-before : (net : Network) (w : Step) → added net (stepBefore w) ≡ readBefore (added net w)
+  added-before net Nothing = refl
+  added-before net (Site a e) = refl
+  added-before net (Link a b size) = refl
+  added-before net (Refused n k) = refl
+
+  then-before : (r : Read) (f g : Network → Read) → ((net : Network) → f net ≡ readBefore (g net)) → andThen (readBefore r) f ≡ readBefore (andThen r g)
+  unfolding andThen
+  then-before (refused n k) f g e = refl
+  then-before (accepted net) f g e = e net
+
+  then-alike : (r : Read) (f g : Network → Read) → ((net : Network) → f net ≡ g net) → andThen r f ≡ andThen r g
+  unfolding andThen
+  then-alike (refused n k) f g e = refl
+  then-alike (accepted net) f g e = e net
+
+  either : (t : Bool) (q r x : Read) → q ≡ readBefore r → x ≡ readBefore x → cond t q x ≡ readBefore (cond t r x)
+  either true q r x e f = e
+  either false q r x e f = f
+
+  lines-before : (fuel k at : ℕ) (net : Network) → readLinesBy faultBefore ed s fuel k at net ≡ readBefore (readLines ed s fuel k at net)
+  unfolding readLinesBy readLines readLine
+  lines-before zero k at net = refl
+  lines-before (suc fuel) k at net =
+      either (hasLine s at) _ (andThen (added net (stepOf ed s net k at)) (readLines ed s fuel (suc k) (afterLine s at))) (accepted net)
+      (rw (step-before net k at, added-before net (stepOf ed s net k at))
+      (then-before (added net (stepOf ed s net k at)) (readLinesBy faultBefore ed s fuel (suc k) (afterLine s at))
+      (readLines ed s fuel (suc k) (afterLine s at)) (λ next. lines-before fuel (suc k) (afterLine s at) next)))
+      refl
+
+  lines-by-the-numbering : (fuel k at : ℕ) (net : Network) → readLinesBy faultOf ed s fuel k at net ≡ readLines ed s fuel k at net
+  unfolding readLinesBy readLines readLine
+  lines-by-the-numbering zero k at net = refl
+  lines-by-the-numbering (suc fuel) k at net =
+      ap (λ r. cond (hasLine s at) r (accepted net))
+      (rw (step-by-the-numbering net k at)
+      (then-alike (added net (stepOf ed s net k at)) (readLinesBy faultOf ed s fuel (suc k) (afterLine s at))
+      (readLines ed s fuel (suc k) (afterLine s at)) (λ next. lines-by-the-numbering fuel (suc k) (afterLine s at) next)))
+
+  finish-stays : (net : Network) → finish net ≡ readBefore (finish net)
+  unfolding finish numberBefore
+  finish-stays net = by (leb 2 (length (net .names)) && allJoined (net .links) (sites (length (net .names))))
+    where
+      by : (t : Bool) → cond t (accepted net) (refused 8 0) ≡ readBefore (cond t (accepted net) (refused 8 0))
+      by true = refl
+      by false = refl
+
+  -- today's reading is the one by today's numbering
+  pub a-sheet-is-read-by-the-numbering : readSheetBy faultOf ed s ≡ readSheet ed s
+  unfolding readSheetBy readSheet
+  a-sheet-is-read-by-the-numbering = rw (lines-by-the-numbering (length s) 1 0 empty)
+
+  -- what was 2 before is one of 2, 10, 11, 12 now, at the same line, and everything else is as it was
+  pub a-sheet-is-read-as-before : readSheetBy faultBefore ed s ≡ readBefore (readSheet ed s)
+  unfolding readSheetBy readSheet numberBefore
+  a-sheet-is-read-as-before =
+      either (leb 1 (length s) && leb (length s) (ed .bytes)) _ (andThen (readLines ed s (length s) 1 0 empty) finish) (refused 1 0)
+      (rw (lines-before (length s) 1 0 empty) (then-before (readLines ed s (length s) 1 0 empty) finish finish finish-stays))
+      refl

@@ -1,0 +1,83 @@
+-- Lines by another numbering of the form faults, and the numbering from before Card 1: 2 for each of them.
+-- Document 02, Card 1 ("Refusal 2 covers too much"). What was 2 then is 2, 10, 11 or 12 now, and every other line is as it was: by the cases of a kind.
+use mathlib.Core.Bool.{Bool, true, false, cond}
+use mathlib.Core.List.{List}
+use mathlib.Core.Path.{_≡_, refl}
+use Prim.Native.Nat.{ℕ, _+_}
+use lib.Dec.{eqb, leb}
+use lib.ListN.{length}
+use Rattle.model.specs.Text.{bytes}
+pub use Rattle.text_grammar.specs.declared.Check.{Check}
+use Rattle.text_grammar.specs.declared.Check.the-variants.{Formed, Letter, Count, Name, Number}
+use Rattle.sheet_kinds.specs.LineKinds.{same, fields, field, value, isHeading, checked, faultOf, siteForm, linkForm, judged, siteLine}
+use Rattle.sheet_kinds.specs.LineKinds.{sizedLink, linkLine, kindOf, kind}
+use Rattle.sheet_kinds.specs.declared.Line.{Line}
+use Rattle.sheet_kinds.specs.declared.Line.the-variants.{Heading, Site, Link, Fault}
+
+-- ---- the definitions
+
+-- a line that is formed, or its fault, by a numbering
+unfoldable pub judgedBy : (Check → ℕ) → Check → Line → Line
+judgedBy number c line = cond (eqb (number c) 0) line (Fault (number c))
+
+-- what a line is, by a numbering: `kind` is that by `faultOf`
+unfoldable pub kindBy : (Check → ℕ) → ℕ → List ℕ → Line
+kindBy number most l =
+    let fs = fields l in
+    cond (isHeading fs) Heading
+    (cond (same (field fs 0) (bytes "L")) (judgedBy number (checked linkForm fs) (sizedLink most fs))
+    (judgedBy number (checked siteForm fs) (Site 2 (2 + length (field fs 1)))))
+
+-- the numbering from before Card 1 (01: 2, line of the wrong form)
+unfoldable pub faultBefore : Check → ℕ
+faultBefore Formed = 0
+faultBefore Letter = 2
+faultBefore Count = 2
+faultBefore Name = 2
+faultBefore Number = 2
+
+-- the number from before, by today's: 2 for 10, 11 and 12; every other stays
+unfoldable pub numberBefore : ℕ → ℕ
+numberBefore n = cond (eqb n 10) 2 (cond (eqb n 11) 2 (cond (eqb n 12) 2 n))
+
+abbrev pub lineBefore : Line → Line
+lineBefore Heading = Heading
+lineBefore (Site a e) = Site a e
+lineBefore (Link a e b f size) = Link a e b f size
+lineBefore (Fault n) = Fault (numberBefore n)
+
+-- ---- the laws
+
+pub kind-is-by-the-numbering : (most : ℕ) (l : List ℕ) → kindBy faultOf most l ≡ kind most l
+unfolding kindBy judgedBy kind kindOf linkLine siteLine judged
+kind-is-by-the-numbering most l = refl
+
+-- a line that is no fault of its form
+judged-before : (c : Check) (w : Line) → lineBefore w ≡ w → judgedBy faultBefore c w ≡ lineBefore (judged c w)
+unfolding judgedBy judged faultOf faultBefore numberBefore
+judged-before Formed w e = rw e
+judged-before Letter w e = refl
+judged-before Count w e = refl
+judged-before Name w e = refl
+judged-before Number w e = refl
+
+sized-stays : (most : ℕ) (fs : List (List ℕ)) → lineBefore (sizedLink most fs) ≡ sizedLink most fs
+unfolding sizedLink numberBefore
+sized-stays most fs = by (leb (value (field fs 3)) most) (Link _ _ _ _ _) refl
+  where
+    by : (t : Bool) (w : Line) → lineBefore w ≡ w → lineBefore (cond t w (Fault 3)) ≡ cond t w (Fault 3)
+    by true w e = e
+    by false w e = refl
+
+pub a-line-is-as-before : (most : ℕ) (l : List ℕ) → kindBy faultBefore most l ≡ lineBefore (kind most l)
+unfolding kindBy kind kindOf linkLine siteLine
+a-line-is-as-before most l =
+    by (isHeading (fields l)) (same (field (fields l) 0) (bytes "L"))
+    _ _ (judged-before (checked linkForm (fields l)) (sizedLink most (fields l)) (sized-stays most (fields l)))
+    _ _ (judged-before (checked siteForm (fields l)) (Site 2 (2 + length (field (fields l) 1))) refl)
+  where
+    by : (t u : Bool) (v w : Line) → v ≡ lineBefore w → (x y : Line) → x ≡ lineBefore y
+        → cond t Heading (cond u v x) ≡ lineBefore (cond t Heading (cond u w y))
+    by true u v w e x y f = refl
+    by false true v w e x y f = e
+    by false false v w e x y f = f
