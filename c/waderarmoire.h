@@ -51,7 +51,7 @@ uint64_t waderarmoire_plan(const uint8_t *sheet, size_t sheet_len, uint8_t *repo
 /*
  * The number of the refusal, or 0 for success:
  *   1  no bytes, or more than 16,384
- *   2  wrong form (heading, letter, number of fields, name, number or line ending)
+ *   2  wrong heading, letter or line ending
  *   3  size above 1,000,000
  *   4  more sites than 256
  *   5  name already given to a site
@@ -59,6 +59,11 @@ uint64_t waderarmoire_plan(const uint8_t *sheet, size_t sheet_len, uint8_t *repo
  *   7  link whose sites are already joined by links above, or are one site
  *   8  fewer than two sites, or not all sites are joined
  *   9  report longer than the buffer
+ *  10  wrong number of fields
+ *  11  a name is not 1 to 12 letters or digits
+ *  12  a number is not written in decimal without a leading zero
+ * The lowest line with a fault decides; within a line the order is 2, 10, 11, 12, then 4, 5 for a
+ * site and 3, 6, 7 for a link.
  */
 static inline unsigned waderarmoire_number(uint64_t answer)
 {

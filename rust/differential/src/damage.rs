@@ -23,7 +23,7 @@ pub fn damaged(random: &mut Random) -> Damaged {
 }
 
 fn any_damage(random: &mut Random) -> Damaged {
-    match random.below(20) {
+    match random.below(48) {
         0 => wrong_length(random),
         1 => near_the_limit(random),
         2 => too_many_sites(random),
@@ -31,9 +31,10 @@ fn any_damage(random: &mut Random) -> Damaged {
         5 => random_bytes(random),
         6 => edited(random),
         7 => cut_off(random),
-        8 => with_carriage_returns(random),
-        9 => rearranged(random),
-        10 => not_joined(random),
+        8 => unended(random),
+        9 => with_carriage_returns(random),
+        10 => rearranged(random),
+        11 => not_joined(random),
         _ => {
             let (mut lines, number, line) = with_faulty_line(random);
             // The lowest faulty line decides, so what comes after it does not matter.
@@ -81,9 +82,11 @@ fn near_the_limit(random: &mut Random) -> Damaged {
     let line = lines.len() as u32 + 1;
     let room = length - join_lines(&lines).len();
     let name = lines[1][2..].to_vec();
-    let (mut text, mut number) = match random.below(4) {
+    let (mut text, mut number) = match random.below(6) {
         0 => (vec![], 2),
-        1 => (b"N\t".to_vec(), 2),
+        1 => ([b"N", name.as_slice(), b""].join(&b'\t'), 10),
+        2 => (b"N\t".to_vec(), 11),
+        3 => ([b"L", name.as_slice(), &name, b"0"].join(&b'\t'), 12),
         _ => ([b"L", name.as_slice(), &name, b""].join(&b'\t'), 3),
     };
     text.resize(room - 1, b'7');
@@ -112,7 +115,7 @@ fn too_many_sites(random: &mut Random) -> Damaged {
     let place = random.between(last_site + 1, lines.len());
     let (text, number) = match random.below(4) {
         0 => (lines[last_site].clone(), 4),
-        1 => (wrong_form(&lines[last_site], random), 2),
+        1 => wrong_form(&lines[last_site], random),
         _ => (
             [b"N", unknown_name(&network.names, random).as_slice()].join(&b'\t'),
             4,
@@ -127,7 +130,7 @@ fn too_many_sites(random: &mut Random) -> Damaged {
 
 /// Pieces of lines put together at random.
 fn sheet_of_pieces(random: &mut Random) -> Damaged {
-    const PIECES: [&[u8]; 28] = [
+    const PIECES: [&[u8]; 32] = [
         b"N\ta\n",
         b"N\tb\n",
         b"N\tc\n",
@@ -141,6 +144,10 @@ fn sheet_of_pieces(random: &mut Random) -> Damaged {
         b"L\ta\tb\t1000000\n",
         b"L\ta\tb\t1000001\n",
         b"L\ta\tb\t01\n",
+        b"L\ta\tb\n",
+        b"N\tc\tc\n",
+        b"N\tc c\n",
+        b" ",
         b"L\t",
         b"N\t",
         b"a",
@@ -234,6 +241,25 @@ fn cut_off(random: &mut Random) -> Damaged {
     Damaged { sheet, refusal }
 }
 
+/// A last line without byte 10, of the right form or not.
+fn unended(random: &mut Random) -> Damaged {
+    let mut lines = small_lines(random);
+    if random.once_in(2) {
+        let line = random.pick(&lines[1..]).clone();
+        let (mut line, _) = wrong_form(&line, random);
+        if line.is_empty() {
+            line.push(*random.pick(b"NL"));
+        }
+        lines.push(line);
+    }
+    let mut sheet = join_lines(&lines);
+    sheet.pop();
+    Damaged {
+        sheet,
+        refusal: Some((2, lines.len() as u32)),
+    }
+}
+
 /// Byte 13 before the byte 10 of all lines or of one.
 fn with_carriage_returns(random: &mut Random) -> Damaged {
     let mut lines = small_lines(random);
@@ -243,6 +269,12 @@ fn with_carriage_returns(random: &mut Random) -> Damaged {
         random.below(lines.len())
     };
     let only_first = random.once_in(2);
+    // It becomes part of the line's last field.
+    let number = match lines[first][0] {
+        b'N' => 11,
+        b'L' => 12,
+        _ => 2,
+    };
     for (place, line) in lines.iter_mut().enumerate() {
         if place == first || (place > first && !only_first) {
             line.push(b'\r');
@@ -250,7 +282,7 @@ fn with_carriage_returns(random: &mut Random) -> Damaged {
     }
     Damaged {
         sheet: join_lines(&lines),
-        refusal: Some((2, first as u32 + 1)),
+        refusal: Some((number, first as u32 + 1)),
     }
 }
 
@@ -345,47 +377,149 @@ fn too_large(random: &mut Random) -> Vec<u8> {
     number.to_string().into_bytes()
 }
 
-/// Another form of a line that no line may have.
-fn wrong_form(line: &[u8], random: &mut Random) -> Vec<u8> {
-    let mut line = line.to_vec();
-    let is_link = line.starts_with(b"L\t");
-    let tabs: Vec<usize> = (0..line.len()).filter(|&at| line[at] == b'\t').collect();
-    let tab = *random.pick(&tabs);
-    match random.below(13) {
-        0 => line.clear(),
-        1 => line.push(*random.pick(b"\r \t\0-")),
-        2 => line.insert(0, *random.pick(b"\r \tN")),
-        3 if random.once_in(2) => line[0] ^= 0x20,
-        3 => line[0] = *random.pick(b"PX#\x80"),
-        4 => _ = line.remove(tab),
-        5 => line.insert(tab, b'\t'),
-        6 => line[tab] = b' ',
-        7 => line.extend_from_slice(b"\tx"),
-        8 => line.truncate(tab + 1),
-        9 => {
+/// The fields of a line.
+fn fields(line: &[u8]) -> Lines {
+    line.split(|&byte| byte == b'\t')
+        .map(<[u8]>::to_vec)
+        .collect()
+}
+
+/// A line of the wrong form made from a site line or a link line, and its number: 2, 10, 11 or 12.
+fn wrong_form(line: &[u8], random: &mut Random) -> (Vec<u8>, u8) {
+    let mut fields = fields(line);
+    let number = *random.pick(&[2, 10, 10, 10, 11, 11, 11, 12, 12, 12]);
+    if number == 12 && fields[0] == b"N" {
+        let name = fields[1].clone();
+        fields = vec![b"L".to_vec(), name.clone(), name, b"1".to_vec()];
+    }
+    let is_link = fields[0] == b"L";
+    // Faults that come later in the order are put in or not: they do not matter.
+    let mut has = |fault| number == fault || (number < fault && random.once_in(3));
+    let [bad_number, bad_name, wrong_count] = [12, 11, 10].map(&mut has);
+    if bad_number && is_link {
+        fields[3] = badly_written(&fields[3], random);
+    }
+    if bad_name {
+        let names = if is_link { 1..=2 } else { 1..=1 };
+        let one = random.between(*names.start(), *names.end());
+        let both = random.once_in(3);
+        for place in names {
+            if both || place == one {
+                fields[place] = bad_name_like(&fields[place], random);
+            }
+        }
+    }
+    if wrong_count {
+        count_wrongly(&mut fields, random);
+    }
+    if number == 2 {
+        spoil_letter(&mut fields, random);
+    }
+    (fields.join(&b'\t'), number)
+}
+
+/// No number: empty, with a leading zero, or with a byte that is no digit.
+fn badly_written(size: &[u8], random: &mut Random) -> Vec<u8> {
+    const SIZES: [&[u8]; 10] = [
+        b"", b"00", b"01", b"-1", b"+1", b"1.", b"1e2", b"0x1", b"1,000", b"one",
+    ];
+    let mut size = size.to_vec();
+    match random.below(5) {
+        0 => size.insert(0, b'0'),
+        1 => size = [b"0", too_large(random).as_slice()].concat(),
+        2 => {
+            let place = random.between(0, size.len());
+            size.insert(place, *random.pick(b"/: -ax\0\r\xb0\xb9"));
+        }
+        3 => size.clear(),
+        _ => size = random.pick(&SIZES).to_vec(),
+    }
+    size
+}
+
+/// No name: empty, too long, or with a byte that is no letter and no digit.
+fn bad_name_like(name: &[u8], random: &mut Random) -> Vec<u8> {
+    let mut name = name.to_vec();
+    match random.below(4) {
+        0 => name.clear(),
+        1 => {
             let most = *random.pick(&[13, 16, 17, 40, 6_000]);
             let length = random.between(13, most);
-            let start = tab + 1;
-            line.splice(start..start, vec![b'n'; length]);
-        }
-        10 => line.insert(tab + 1, *random.pick(b"/:@[`{_.\x00\xb0\xe1\xff")),
-        11 if is_link => {
-            let size = *random.pick(&[
-                &b"00"[..],
-                b"01",
-                b"-1",
-                b"+1",
-                b"1.",
-                b"1e2",
-                b"0x1",
-                b"1,000",
-            ]);
-            line.splice(tabs[2] + 1.., size.iter().copied());
+            name.resize(length, b'n');
         }
         _ => {
-            let size = too_large(random);
-            line = [b"L\ta\tb\t0", size.as_slice()].concat();
+            let place = random.between(0, name.len());
+            name.insert(place, *random.pick(b"/:@[`{_.- \0\r\x7f\xb0\xe1\xff"));
         }
+    }
+    name
+}
+
+/// Another number of fields than a site or a link has; the first stays.
+fn count_wrongly(fields: &mut Lines, random: &mut Random) {
+    let right = fields.len();
+    let count = loop {
+        let most = *random.pick(&[3, 5, 5, 40]);
+        let count = random.between(1, most);
+        if count != right {
+            break count;
+        }
+    };
+    if random.once_in(2) {
+        // As of a space typed for a tab.
+        while fields.len() > count.max(2) {
+            let place = random.between(1, fields.len() - 2);
+            let next = fields.remove(place + 1);
+            fields[place] = [fields[place].as_slice(), &next].join(&b' ');
+        }
+    }
+    fields.truncate(count);
+    while fields.len() < count {
+        let field = *random.pick(&[&b""[..], b"", b"x", b"1", b"07", b"-"]);
+        fields.insert(random.between(1, fields.len()), field.to_vec());
+    }
+}
+
+/// Another first field than the letter of a site or a link.
+fn spoil_letter(fields: &mut Lines, random: &mut Random) {
+    match random.below(8) {
+        0 => *fields = vec![Vec::new()],
+        1 => *fields = vec![b"network".to_vec(), b"1".to_vec()],
+        2 => fields[0][0] ^= 0x20,
+        3 => fields[0][0] = *random.pick(b"PX#\x80"),
+        4 => fields[0].insert(0, *random.pick(b"\r N")),
+        5 => fields.insert(0, Vec::new()),
+        6 => fields[0].push(*random.pick(b"N1 \r\0a")),
+        _ => {
+            // A space typed for the first tab.
+            fields[0].push(b' ');
+            if fields.len() > 1 {
+                let next = fields.remove(1);
+                fields[0].extend(next);
+            }
+        }
+    }
+}
+
+/// A first line that is no heading.
+fn wrong_heading(lines: &[Vec<u8>], random: &mut Random) -> Vec<u8> {
+    let mut line = HEADING.to_vec();
+    let place = random.below(line.len());
+    match random.below(8) {
+        0 => line.push(*random.pick(b"\r \t\x000")),
+        1 => line.insert(0, *random.pick(b"\r \tN\xef")),
+        2 => line[place] ^= 0x20,
+        3 => _ = line.remove(place),
+        4 => line.truncate(place),
+        5 => line = [b"network ", &b"\t"[random.below(2)..], b"1"].concat(),
+        6 => line.clone_from(random.pick(&lines[1..])),
+        _ => {
+            let copied = random.between(1, lines.len() - 1);
+            (line, _) = wrong_form(&lines[copied], random);
+        }
+    }
+    if line == HEADING {
+        line.clear();
     }
     line
 }
@@ -396,31 +530,32 @@ fn with_faulty_line(random: &mut Random) -> (Lines, u8, usize) {
     let mut lines = network.lines(Layout::any(random), random);
     let sites = places(&lines, b'N');
     let links = places(&lines, b'L');
-    match random.below(8) {
+    match random.below(20) {
         0 => {
-            let place = random.below(lines.len());
-            lines[place] = wrong_form(&lines[place], random);
-            (lines, 2, place + 1)
+            lines[0] = wrong_heading(&lines, random);
+            (lines, 2, 1)
         }
-        1 => {
+        1..=6 => {
+            let place = random.between(1, lines.len() - 1);
+            let (line, number) = wrong_form(&lines[place], random);
+            lines[place] = line;
+            (lines, number, place + 1)
+        }
+        7..=12 => {
             let place = random.between(1, lines.len());
-            let copied = random.below(lines.len());
-            let line = if copied == 0 {
-                HEADING.to_vec()
-            } else {
-                wrong_form(&lines[copied], random)
-            };
+            let copied = random.between(1, lines.len() - 1);
+            let (line, number) = wrong_form(&lines[copied], random);
             lines.insert(place, line);
-            (lines, 2, place + 1)
+            (lines, number, place + 1)
         }
-        2 => {
+        13 => {
             // A name already given, after its line.
             let given = *random.pick(&sites);
             let place = random.between(given + 1, lines.len());
             lines.insert(place, lines[given].clone());
             (lines, 5, place + 1)
         }
-        3 => {
+        14 => {
             // A link put before one of its sites.
             let link = *random.pick(&links);
             let line = lines.remove(link);
@@ -439,22 +574,19 @@ fn with_faulty_line(random: &mut Random) -> (Lines, u8, usize) {
     }
 }
 
-/// A sheet with a link line that has one or more of the faults 2, 3, 6 and 7.
+/// A sheet with a link line that has one or more of the faults 3, 6, 7 and those of form.
 fn with_faulty_link(
     network: &Network,
     mut lines: Lines,
     links: &[usize],
     random: &mut Random,
 ) -> (Lines, u8, usize) {
-    let [is_wrong, is_large, is_unknown] = [6, 3, 3].map(|times| random.once_in(times));
+    let [is_wrong, is_large, is_unknown] = [2, 3, 3].map(|times| random.once_in(times));
     // A copy of a link after it, turned round or not, joins what is already joined; so does a
     // link from a site to itself.
     let link = *random.pick(links);
     let place = random.between(link + 1, lines.len());
-    let mut fields: Lines = lines[link]
-        .split(|&byte| byte == b'\t')
-        .map(<[u8]>::to_vec)
-        .collect();
+    let mut fields = fields(&lines[link]);
     match random.below(3) {
         0 => fields.swap(1, 2),
         1 => {
@@ -469,17 +601,17 @@ fn with_faulty_link(
     if is_large {
         fields[3] = too_large(random);
     }
-    let mut line = fields.join(&b'\t');
-    if is_wrong {
-        line = wrong_form(&line, random);
-    }
-    lines.insert(place, line);
-    let number = match (is_wrong, is_large, is_unknown) {
-        (true, _, _) => 2,
-        (_, true, _) => 3,
-        (_, _, true) => 6,
-        _ => 7,
+    let line = fields.join(&b'\t');
+    let (line, number) = if is_wrong {
+        wrong_form(&line, random)
+    } else if is_large {
+        (line, 3)
+    } else if is_unknown {
+        (line, 6)
+    } else {
+        (line, 7)
     };
+    lines.insert(place, line);
     (lines, number, place + 1)
 }
 
@@ -488,7 +620,7 @@ fn spoil_after(lines: &mut Lines, line: usize, random: &mut Random) {
     for text in &mut lines[line..] {
         if random.once_in(3) {
             *text = if random.once_in(2) {
-                wrong_form(HEADING, random)
+                wrong_form(text, random).0
             } else {
                 Vec::new()
             };

@@ -16,6 +16,11 @@ const THREADS: usize = 2;
 const BLOCK: u64 = 64;
 /// At least one in this many sheets must have each outcome, so that no kind of sheet is missing.
 const LEAST_SHARE: u64 = 2_000;
+/// The refusals for the form of a line, and the share that each of them must have.
+const FORM: [usize; 4] = [2, 10, 11, 12];
+const LEAST_FORM_SHARE: u64 = 10;
+/// With fewer sheets the shares are left to chance.
+const ENOUGH_FOR_SHARES: u64 = 100_000;
 
 thread_local! {
     /// The index of the sheet a thread compares.
@@ -25,7 +30,7 @@ thread_local! {
 /// How many sheets had each outcome: at 0 the accepted ones, else by the number of the refusal.
 #[derive(Default)]
 pub struct Tally {
-    outcomes: [u64; 10],
+    outcomes: [u64; 13],
     solved: u64,
 }
 
@@ -56,7 +61,7 @@ impl Case {
     fn new(seed: u64, index: u64) -> Self {
         let start = Random::new(seed).bits() ^ index.wrapping_mul(0xd134_2543_de82_ef95);
         let mut random = Random::new(start);
-        let (sheet, kind) = if random.once_in(2) {
+        let (sheet, kind) = if random.below(5) < 2 {
             let most = *random.pick(&[7, 7, 16, 16, 32, 64, 128, 256]);
             let network = Network::any(most, &mut random);
             let sheet = network.sheet(Layout::any(&mut random), &mut random);
@@ -213,16 +218,20 @@ pub fn compare_all(seed: u64, count: u64) -> Result<(), Failure> {
         count as f64 / seconds
     );
     println!(
-        "  {} accepted, {} solved; refused 1 to 9: {:?}",
+        "  {} accepted, {} solved; refused 1 to 12: {:?}",
         tally.outcomes[0],
         tally.solved,
         &tally.outcomes[1..]
     );
-    if tally
-        .outcomes
-        .iter()
-        .any(|&outcomes| outcomes < count / LEAST_SHARE)
-    {
+    let has_share = |(number, &sheets): (usize, &u64)| {
+        let share = if FORM.contains(&number) {
+            LEAST_FORM_SHARE
+        } else {
+            LEAST_SHARE
+        };
+        sheets >= count / share
+    };
+    if count >= ENOUGH_FOR_SHARES && !tally.outcomes.iter().enumerate().all(has_share) {
         return Err(Failure {
             sheet: None,
             index: None,

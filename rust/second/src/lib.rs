@@ -1,15 +1,16 @@
 //! A second tree circuit planner.
 //!
 //! It reads a network sheet and writes the report headed `plan`, or tells why the sheet is
-//! refused. It was written from the scope document alone and shares nothing with the proved
-//! planner, so that comparing the two byte for byte can find a mistake in either.
+//! refused. It was written from the scope document and the cards alone and shares nothing
+//! with the proved planner, so that comparing the two byte for byte can find a mistake in either.
 //!
 //! Every step takes time linear in the sheet, or as good as linear: finding out whether two sites
 //! are joined already, and names that collide in their hash table, may add a little.
 //!
 //! | module | step |
 //! |---|---|
-//! | `network` | reads the sheet: sites, links, refusals 1 to 8 |
+//! | `network` | reads the sheet: sites, links, refusals 1 to 8 and 10 to 12 |
+//! | `form` | tells what is off in a line of the wrong form: refusals 2, 10, 11, 12 |
 //! | `names` | finds a site by its name |
 //! | `tree` | roots the tree by taking off its leaves |
 //! | `trim` | trims the capacities in two passes |
@@ -22,6 +23,7 @@
 #![forbid(unsafe_code)]
 
 mod cuts;
+mod form;
 mod names;
 mod network;
 mod pairs;
@@ -53,7 +55,7 @@ pub enum Outcome {
     },
     /// There is no report, and the buffer is as it was.
     Refused {
-        /// The number of the cause, 1 to 9.
+        /// The number of the cause, 1 to 12.
         number: u8,
         /// The line at fault, from 1, or 0 when no line is.
         line: u32,

@@ -7,7 +7,7 @@
 pub struct Name(u128);
 
 /// The most bytes a name may have.
-const NAME_BYTES: usize = 12;
+pub const NAME_BYTES: usize = 12;
 
 const EVERY_BYTE: u128 = u128::MAX / 0xff;
 const HIGH_BITS: u128 = EVERY_BYTE * 0x80;

@@ -1,5 +1,6 @@
-//! Reading a network sheet: sites, links, and refusals 1 to 8.
+//! Reading a network sheet: sites, links, and its refusals.
 
+use crate::form;
 use crate::names::{Found, Name, NameTable};
 use crate::planted::{Error, planted};
 use crate::{CAPACITY, Refusal, SHEET_BYTES, SITES};
@@ -36,15 +37,30 @@ pub struct Network<'sheet> {
     folds: [Fold; SITES],
 }
 
-/// A fault of one line: the number of its cause.
-struct Fault(u8);
+/// A fault of one line.
+enum Fault {
+    /// The form is wrong; `form` tells how. All faults of form come before the others.
+    Form,
+    /// The number of another cause.
+    Cause(u8),
+}
 
-const WRONG_FORM: Fault = Fault(2);
-const TOO_LARGE: Fault = Fault(3);
-const TOO_MANY_SITES: Fault = Fault(4);
-const NAME_TAKEN: Fault = Fault(5);
-const UNKNOWN_NAME: Fault = Fault(6);
-const ALREADY_JOINED: Fault = Fault(7);
+const TOO_LARGE: Fault = Fault::Cause(3);
+const TOO_MANY_SITES: Fault = Fault::Cause(4);
+const NAME_TAKEN: Fault = Fault::Cause(5);
+const UNKNOWN_NAME: Fault = Fault::Cause(6);
+const ALREADY_JOINED: Fault = Fault::Cause(7);
+
+impl Fault {
+    /// The number of the fault of the line at the start of `rest`.
+    #[cold]
+    fn number(self, rest: &[u8]) -> u8 {
+        match self {
+            Fault::Form => form::fault(rest),
+            Fault::Cause(number) => number,
+        }
+    }
+}
 
 impl<'sheet> Network<'sheet> {
     /// A network without sites over `sheet`.
@@ -82,11 +98,14 @@ impl<'sheet> Network<'sheet> {
             let read = match load::<2>(self.sheet, position) {
                 [b'N', b'\t'] => self.read_site(position, &mut table),
                 [b'L', b'\t'] => self.read_link(position, &table, &mut joined),
-                _ => Err(WRONG_FORM),
+                _ => Err(Fault::Form),
             };
             match read {
                 Ok(next) => position = next,
-                Err(Fault(number)) => return Err(Refusal { number, line }),
+                Err(fault) => {
+                    let number = fault.number(&self.sheet[position..]);
+                    return Err(Refusal { number, line });
+                }
             }
         }
         if self.site_count < 2 || self.link_count + 1 < self.site_count {
@@ -221,11 +240,11 @@ fn load_tail<const COUNT: usize>(sheet: &[u8], position: usize) -> [u8; COUNT] {
 #[inline(always)]
 fn read_name(sheet: &[u8], position: usize, after: u8) -> Result<(Name, usize), Fault> {
     let bytes = load::<16>(sheet, position);
-    let (name, length) = Name::at_start(bytes).ok_or(WRONG_FORM)?;
+    let (name, length) = Name::at_start(bytes).ok_or(Fault::Form)?;
     if bytes[length] == after {
         Ok((name, position + length + 1))
     } else {
-        Err(WRONG_FORM)
+        Err(Fault::Form)
     }
 }
 
@@ -241,14 +260,17 @@ fn read_capacity(sheet: &[u8], position: usize) -> Result<(u32, usize), Fault> {
         | (((word & (EVERY_BYTE * 0x7f)).wrapping_add(EVERY_BYTE * 6) & (EVERY_BYTE * 0xf0))
             ^ (EVERY_BYTE * 0x30));
     let digits = (other.trailing_zeros() / 8) as usize;
+    if planted(Error::EmptySize) && bytes[0] == b'\n' {
+        return Ok((0, position + 1));
+    }
     if digits == 0 || (bytes[0] == b'0' && digits > 1) {
-        return Err(WRONG_FORM);
+        return Err(Fault::Form);
     }
     if digits == 8 {
         return read_long_number(sheet, position + 8);
     }
     if bytes[digits] != b'\n' {
-        return Err(WRONG_FORM);
+        return Err(Fault::Form);
     }
     // The digits moved to the end of eight, then added up in pairs, fours and eights.
     let digit = (word << (64 - 8 * digits)) & (EVERY_BYTE * 0x0f);
@@ -264,7 +286,7 @@ fn read_long_number(sheet: &[u8], position: usize) -> Result<(u32, usize), Fault
     let rest = &sheet[position..];
     match rest.iter().position(|byte| !byte.is_ascii_digit()) {
         Some(length) if rest[length] == b'\n' => Ok((u32::MAX, position + length + 1)),
-        _ => Err(WRONG_FORM),
+        _ => Err(Fault::Form),
     }
 }
 

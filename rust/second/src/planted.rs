@@ -1,6 +1,6 @@
 //! Errors planted on purpose.
 //!
-//! With the feature `planted` one of five errors can be switched on, to show that the comparison
+//! With the feature `planted` one of eleven errors can be switched on, to show that the comparison
 //! of the planners finds it. Without the feature none of this reaches the compiled planner.
 
 /// An error that can be planted, numbered from 1.
@@ -16,15 +16,33 @@ pub enum Error {
     UnknownFirst = 4,
     /// A report just as long as the buffer is refused.
     FullBuffer = 5,
+    /// The number of fields is looked at before the letter.
+    CountBeforeLetter = 6,
+    /// Names are looked at before the number of fields.
+    NamesBeforeCount = 7,
+    /// A bad second name is told as a badly written number.
+    SecondNameAsNumber = 8,
+    /// A leading zero is told as a size that is too large.
+    LeadingZeroAsLarge = 9,
+    /// The number of fields of a line without byte 10 is told.
+    UnendedAsCount = 10,
+    /// An empty size is read as 0.
+    EmptySize = 11,
 }
 
 /// All errors, in the order of their numbers.
-pub const ERRORS: [Error; 5] = [
+pub const ERRORS: [Error; 11] = [
     Error::RoundedHalf,
     Error::HighestRoot,
     Error::UpwardSets,
     Error::UnknownFirst,
     Error::FullBuffer,
+    Error::CountBeforeLetter,
+    Error::NamesBeforeCount,
+    Error::SecondNameAsNumber,
+    Error::LeadingZeroAsLarge,
+    Error::UnendedAsCount,
+    Error::EmptySize,
 ];
 
 #[cfg(feature = "planted")]

@@ -1,6 +1,6 @@
 //! The sheets to try of the scope document and a few more, with answers written out by hand.
 //!
-//! Texts are written here with a space where a tab stands in them.
+//! Texts are written here with a space where a tab stands in them, and `~` where a space does.
 
 use crate::{HEADING, SHEET_BYTES, SITES};
 
@@ -39,7 +39,7 @@ pub struct Refused {
 }
 
 fn tabbed(text: &str) -> Vec<u8> {
-    text.replace(' ', "\t").into_bytes()
+    text.replace(' ', "\t").replace('~', " ").into_bytes()
 }
 
 /// The accepted sheets.
@@ -387,9 +387,15 @@ pub fn refused() -> Vec<Refused> {
             line: 513,
         },
         Refused {
-            title: "a 257th site of the wrong form",
+            title: "a 257th site with a bad name",
             sheet: [star(SITES), tabbed("N a-b\n")].concat(),
-            number: 2,
+            number: 11,
+            line: 513,
+        },
+        Refused {
+            title: "a 257th site with a third field and a bad name",
+            sheet: [star(SITES), tabbed("N a-b c\n")].concat(),
+            number: 10,
             line: 513,
         },
         Refused {
@@ -399,7 +405,7 @@ pub fn refused() -> Vec<Refused> {
             line: 513,
         },
     ];
-    for (title, sheet, number, line) in REFUSED {
+    for &(title, sheet, number, line) in REFUSED.iter().chain(FORMS) {
         list.push(Refused {
             title,
             sheet: tabbed(sheet),
@@ -422,7 +428,7 @@ pub fn refused() -> Vec<Refused> {
     list.push(Refused {
         title: "a size of 16,000 digits and a letter",
         sheet: long_number(16_000, "x\n"),
-        number: 2,
+        number: 12,
         line: 4,
     });
     list
@@ -437,7 +443,7 @@ fn long_number(digits: usize, ending: &str) -> Vec<u8> {
 }
 
 /// Title, sheet, number and line.
-const REFUSED: [(&str, &str, u8, u32); 66] = [
+const REFUSED: &[(&str, &str, u8, u32)] = &[
     ("heading alone", "network 1\n", 8, 0),
     ("one site", "network 1\nN a\n", 8, 0),
     ("two sites, no link", "network 1\nN a\nN b\n", 8, 0),
@@ -454,7 +460,7 @@ const REFUSED: [(&str, &str, u8, u32); 66] = [
         0,
     ),
     ("heading without byte 10", "network 1", 2, 1),
-    ("heading with a space", "network 1 \n", 2, 1),
+    ("heading with an empty third field", "network 1 \n", 2, 1),
     ("heading with a third field", "network 1 1\n", 2, 1),
     ("another edition", "network 2\n", 2, 1),
     ("edition with a leading zero", "network 01\n", 2, 1),
@@ -484,65 +490,65 @@ const REFUSED: [(&str, &str, u8, u32); 66] = [
         2,
         5,
     ),
-    ("letter alone", "network 1\nN\n", 2, 2),
+    ("letter alone", "network 1\nN\n", 10, 2),
     ("letter alone at the end", "network 1\nN", 2, 2),
     ("small letter", "network 1\nn a\n", 2, 2),
     ("unknown letter", "network 1\nP a\n", 2, 2),
-    ("empty name", "network 1\nN \n", 2, 2),
-    ("name of 13 bytes", "network 1\nN abcdefghijklm\n", 2, 2),
-    ("name with a sign", "network 1\nN a_b\n", 2, 2),
-    ("name with byte 13", "network 1\nN a\r\n", 2, 2),
-    ("site with a third field", "network 1\nN a b\n", 2, 2),
-    ("site with an empty third field", "network 1\nN a \n", 2, 2),
+    ("empty name", "network 1\nN \n", 11, 2),
+    ("name of 13 bytes", "network 1\nN abcdefghijklm\n", 11, 2),
+    ("name with a sign", "network 1\nN a_b\n", 11, 2),
+    ("name with byte 13", "network 1\nN a\r\n", 11, 2),
+    ("site with a third field", "network 1\nN a b\n", 10, 2),
+    ("site with an empty third field", "network 1\nN a \n", 10, 2),
     (
         "link with three fields",
         "network 1\nN a\nN b\nL a b\n",
-        2,
+        10,
         4,
     ),
     (
         "link with five fields",
         "network 1\nN a\nN b\nL a b 1 1\n",
-        2,
+        10,
         4,
     ),
     (
         "link with an empty name",
         "network 1\nN a\nN b\nL  b 1\n",
-        2,
+        11,
         4,
     ),
     (
         "link with two tabs",
         "network 1\nN a\nN b\nL a  b 1\n",
-        2,
+        10,
         4,
     ),
     (
         "link with a name of 13 bytes",
         "network 1\nN a\nN b\nL a abcdefghijklm 1\n",
-        2,
+        11,
         4,
     ),
-    ("empty size", "network 1\nN a\nN b\nL a b \n", 2, 4),
-    ("size 00", "network 1\nN a\nN b\nL a b 00\n", 2, 4),
-    ("size 07", "network 1\nN a\nN b\nL a b 07\n", 2, 4),
+    ("empty size", "network 1\nN a\nN b\nL a b \n", 12, 4),
+    ("size 00", "network 1\nN a\nN b\nL a b 00\n", 12, 4),
+    ("size 07", "network 1\nN a\nN b\nL a b 07\n", 12, 4),
     (
         "size 01000001",
         "network 1\nN a\nN b\nL a b 01000001\n",
-        2,
+        12,
         4,
     ),
     (
         "size 000000000000",
         "network 1\nN a\nN b\nL a b 000000000000\n",
-        2,
+        12,
         4,
     ),
-    ("size +1", "network 1\nN a\nN b\nL a b +1\n", 2, 4),
-    ("size -1", "network 1\nN a\nN b\nL a b -1\n", 2, 4),
-    ("size 1.0", "network 1\nN a\nN b\nL a b 1.0\n", 2, 4),
-    ("size 1e3", "network 1\nN a\nN b\nL a b 1e3\n", 2, 4),
+    ("size +1", "network 1\nN a\nN b\nL a b +1\n", 12, 4),
+    ("size -1", "network 1\nN a\nN b\nL a b -1\n", 12, 4),
+    ("size 1.0", "network 1\nN a\nN b\nL a b 1.0\n", 12, 4),
+    ("size 1e3", "network 1\nN a\nN b\nL a b 1e3\n", 12, 4),
     (
         "size 1,000,001",
         "network 1\nN a\nN b\nL a b 1000001\n",
@@ -571,7 +577,7 @@ const REFUSED: [(&str, &str, u8, u32); 66] = [
     (
         "size too large, then byte 13",
         "network 1\nN a\nN b\nL a b 10000000\r\n",
-        2,
+        12,
         4,
     ),
     (
@@ -631,7 +637,378 @@ const REFUSED: [(&str, &str, u8, u32); 66] = [
     (
         "a tab before the size",
         "network 1\nN a\nN b\nL a b  1\n",
+        10,
+        4,
+    ),
+];
+
+/// The faults of form and their order within a line: 2 (line ending, heading, letter), 10 (number
+/// of fields), 11 (names), 12 (numbers), then the other causes. Title, sheet, number and line.
+const FORMS: &[(&str, &str, u8, u32)] = &[
+    ("site with a space for the tab", "network 1\nN~hub\n", 2, 2),
+    (
+        "site with a space for the tab, then a tab",
+        "network 1\nN~hub a\n",
+        2,
+        2,
+    ),
+    (
+        "link with spaces for the tabs",
+        "network 1\nN a\nN b\nL~a~b~1\n",
         2,
         4,
     ),
+    (
+        "link with a space for its first tab",
+        "network 1\nN a\nN b\nL~a b 1\n",
+        2,
+        4,
+    ),
+    ("heading with a space for the tab", "network~1\nN a\n", 2, 1),
+    ("heading with a space behind", "network 1~\nN a\n", 2, 1),
+    ("heading without its second field", "network\nN a\n", 2, 1),
+    (
+        "heading with a byte order mark",
+        "\u{feff}network 1\nN a\n",
+        2,
+        1,
+    ),
+    ("tab before the letter", "network 1\n N a\n", 2, 2),
+    ("space before the letter", "network 1\n~N a\n", 2, 2),
+    ("two letters", "network 1\nNL a\n", 2, 2),
+    ("small l", "network 1\nN a\nN b\nl a b 1\n", 2, 4),
+    ("a line of tabs", "network 1\n   \n", 2, 2),
+    ("byte 13 alone", "network 1\n\r\n", 2, 2),
+    ("letter, then byte 13", "network 1\nN\r\n", 2, 2),
+    ("second heading, of one field", "network 1\nnetwork\n", 2, 2),
+    (
+        "second heading, of three fields",
+        "network 1\nnetwork 1 1\n",
+        2,
+        2,
+    ),
+    ("unknown letter T", "network 1\nT a\n", 2, 2),
+    ("unknown letter alone", "network 1\nP\n", 2, 2),
+    ("unknown letter and a bad name", "network 1\nP a-b\n", 2, 2),
+    (
+        "unknown letter and too many fields",
+        "network 1\nN a\nN b\nM a b 07 1 1\n",
+        2,
+        4,
+    ),
+    (
+        "unknown letter and a bad number",
+        "network 1\nN a\nN b\nM a b 07\n",
+        2,
+        4,
+    ),
+    (
+        "unknown letter and a size too large",
+        "network 1\nN a\nN b\nl a b 1000001\n",
+        2,
+        4,
+    ),
+    ("too many fields without byte 10", "network 1\nN a b", 2, 2),
+    (
+        "too few fields without byte 10",
+        "network 1\nN a\nN b\nL a b",
+        2,
+        4,
+    ),
+    ("bad name without byte 10", "network 1\nN a-b", 2, 2),
+    ("empty name without byte 10", "network 1\nN ", 2, 2),
+    (
+        "bad number without byte 10",
+        "network 1\nN a\nN b\nL a b 07",
+        2,
+        4,
+    ),
+    (
+        "empty size without byte 10",
+        "network 1\nN a\nN b\nL a b ",
+        2,
+        4,
+    ),
+    (
+        "size too large without byte 10",
+        "network 1\nN a\nN b\nL a b 1000001",
+        2,
+        4,
+    ),
+    (
+        "name given twice, without byte 10",
+        "network 1\nN a\nN a",
+        2,
+        3,
+    ),
+    (
+        "unknown name without byte 10",
+        "network 1\nN a\nL a q 1",
+        2,
+        3,
+    ),
+    (
+        "ring without byte 10",
+        "network 1\nN a\nN b\nL a b 1\nL b a 1",
+        2,
+        5,
+    ),
+    ("link letter alone", "network 1\nN a\nN b\nL\n", 10, 4),
+    ("link with two fields", "network 1\nN a\nN b\nL a\n", 10, 4),
+    (
+        "link with an empty second field alone",
+        "network 1\nN a\nN b\nL \n",
+        10,
+        4,
+    ),
+    (
+        "link with a space for its last tab",
+        "network 1\nN a\nN b\nL a b~1\n",
+        10,
+        4,
+    ),
+    (
+        "link with a space for its second tab",
+        "network 1\nN a\nN b\nL a~b 1\n",
+        10,
+        4,
+    ),
+    (
+        "link with an empty fifth field",
+        "network 1\nN a\nN b\nL a b 1 \n",
+        10,
+        4,
+    ),
+    (
+        "site with the fields of a link",
+        "network 1\nN a\nN b\nN a b 1\n",
+        10,
+        4,
+    ),
+    (
+        "link with the fields of a site",
+        "network 1\nN a\nL a\n",
+        10,
+        3,
+    ),
+    ("three fields and a bad name", "network 1\nN a-b c\n", 10, 2),
+    ("three fields, two of them empty", "network 1\nN  \n", 10, 2),
+    (
+        "three fields, a link's names bad",
+        "network 1\nN a\nN b\nL a-b c-d\n",
+        10,
+        4,
+    ),
+    (
+        "five fields and a bad name",
+        "network 1\nN a\nN b\nL a-b b 1 1\n",
+        10,
+        4,
+    ),
+    (
+        "five fields and an empty name",
+        "network 1\nN a\nN b\nL  b 1 1\n",
+        10,
+        4,
+    ),
+    (
+        "three fields, a leading zero",
+        "network 1\nN a\nN b\nL a 07\n",
+        10,
+        4,
+    ),
+    (
+        "five fields, a leading zero",
+        "network 1\nN a\nN b\nL a b 07 1\n",
+        10,
+        4,
+    ),
+    (
+        "five fields, all wrong",
+        "network 1\nN a\nN b\nL - - 07 07\n",
+        10,
+        4,
+    ),
+    (
+        "five fields, a size too large",
+        "network 1\nN a\nN b\nL a b 1000001 1\n",
+        10,
+        4,
+    ),
+    (
+        "five fields, a name unknown",
+        "network 1\nN a\nN b\nL a q 1 1\n",
+        10,
+        4,
+    ),
+    (
+        "five fields, one site",
+        "network 1\nN a\nN b\nL a a 1 1\n",
+        10,
+        4,
+    ),
+    (
+        "three fields, a name given twice",
+        "network 1\nN a\nN a a\n",
+        10,
+        3,
+    ),
+    ("name with a space", "network 1\nN a~b\n", 11, 2),
+    ("name with a space behind", "network 1\nN hub~\n", 11, 2),
+    ("name with a zero byte", "network 1\nN a\0\n", 11, 2),
+    (
+        "name with a letter that is not ASCII",
+        "network 1\nN \u{e9}\n",
+        11,
+        2,
+    ),
+    ("first name bad", "network 1\nN a\nN b\nL a-b b 1\n", 11, 4),
+    ("second name bad", "network 1\nN a\nN b\nL a b-c 1\n", 11, 4),
+    (
+        "first name of 13 bytes",
+        "network 1\nN a\nN b\nL abcdefghijklm b 1\n",
+        11,
+        4,
+    ),
+    ("second name empty", "network 1\nN a\nN b\nL a  1\n", 11, 4),
+    (
+        "second name with byte 13",
+        "network 1\nN a\nN b\nL a b\r 1\n",
+        11,
+        4,
+    ),
+    (
+        "first name bad, a leading zero",
+        "network 1\nN a\nN b\nL a-b b 07\n",
+        11,
+        4,
+    ),
+    (
+        "second name bad, a leading zero",
+        "network 1\nN a\nN b\nL a b-c 07\n",
+        11,
+        4,
+    ),
+    (
+        "second name bad, an empty size",
+        "network 1\nN a\nN b\nL a b-c \n",
+        11,
+        4,
+    ),
+    (
+        "four fields, three of them empty",
+        "network 1\nN a\nN b\nL   \n",
+        11,
+        4,
+    ),
+    (
+        "second name bad, a size too large",
+        "network 1\nN a\nN b\nL a b-c 1000001\n",
+        11,
+        4,
+    ),
+    (
+        "first name unknown, second name bad",
+        "network 1\nN a\nN b\nL q b-c 1\n",
+        11,
+        4,
+    ),
+    (
+        "first name bad, second name unknown",
+        "network 1\nN a\nN b\nL a-b q 1\n",
+        11,
+        4,
+    ),
+    (
+        "size with a space before",
+        "network 1\nN a\nN b\nL a b ~1\n",
+        12,
+        4,
+    ),
+    (
+        "size with a space behind",
+        "network 1\nN a\nN b\nL a b 1~\n",
+        12,
+        4,
+    ),
+    (
+        "size with byte 13",
+        "network 1\nN a\nN b\nL a b 1\r\n",
+        12,
+        4,
+    ),
+    ("size in words", "network 1\nN a\nN b\nL a b two\n", 12, 4),
+    (
+        "size with a comma",
+        "network 1\nN a\nN b\nL a b 1,000\n",
+        12,
+        4,
+    ),
+    (
+        "size of eight digits and a letter",
+        "network 1\nN a\nN b\nL a b 12345678x\n",
+        12,
+        4,
+    ),
+    (
+        "leading zero, first name unknown",
+        "network 1\nN a\nN b\nL q b 07\n",
+        12,
+        4,
+    ),
+    (
+        "leading zero, second name unknown",
+        "network 1\nN a\nN b\nL a q 07\n",
+        12,
+        4,
+    ),
+    (
+        "leading zero, one site",
+        "network 1\nN a\nN b\nL a a 07\n",
+        12,
+        4,
+    ),
+    (
+        "empty size, already joined",
+        "network 1\nN a\nN b\nL a b 1\nL b a \n",
+        12,
+        5,
+    ),
+    (
+        "too large but for a sign",
+        "network 1\nN a\nN b\nL a b -1000001\n",
+        12,
+        4,
+    ),
+    (
+        "lowest line decides: 10 before 2",
+        "network 1\nN\nP\n",
+        10,
+        2,
+    ),
+    (
+        "lowest line decides: 11 before 10",
+        "network 1\nN a-b\nN\n",
+        11,
+        2,
+    ),
+    (
+        "lowest line decides: 12 before 11",
+        "network 1\nN a\nN b\nL a b 07\nN a-b\n",
+        12,
+        4,
+    ),
+    (
+        "lowest line decides: 5 before 12",
+        "network 1\nN a\nN a\nL a a 07\n",
+        5,
+        3,
+    ),
+    (
+        "lowest line decides: 12 before no byte 10",
+        "network 1\nN a\nN b\nL a b 07\nN c",
+        12,
+        4,
+    ),
+    ("heading decides", "network 2\nN\nN a-b\n", 2, 1),
 ];

@@ -69,7 +69,7 @@ pub struct Refusal {
     /// The number of the cause:
     ///
     /// 1. no bytes, or more than 16,384
-    /// 2. wrong form (heading, letter, number of fields, name, number or line ending)
+    /// 2. wrong heading, letter or line ending
     /// 3. size above 1,000,000
     /// 4. more sites than 256
     /// 5. name already given to a site
@@ -77,6 +77,12 @@ pub struct Refusal {
     /// 7. link whose sites are already joined by links above, or are one site
     /// 8. fewer than two sites, or not all sites are joined
     /// 9. report longer than the buffer
+    /// 10. wrong number of fields
+    /// 11. a name is not 1 to 12 letters or digits
+    /// 12. a number is not written in decimal without a leading zero
+    ///
+    /// The lowest line with a fault decides; within a line the order is 2, 10, 11, 12, then 4, 5
+    /// for a site and 3, 6, 7 for a link.
     pub number: u8,
     /// The line at fault, counted from 1, or 0 when no line is.
     pub line: u32,
@@ -88,7 +94,7 @@ impl Refusal {
     pub fn cause(&self) -> &'static str {
         match self.number {
             1 => "no bytes, or more than 16,384",
-            2 => "wrong form (heading, letter, number of fields, name, number or line ending)",
+            2 => "wrong heading, letter or line ending",
             3 => "size above 1,000,000",
             4 => "more sites than 256",
             5 => "name already given to a site",
@@ -96,6 +102,9 @@ impl Refusal {
             7 => "link whose sites are already joined by links above, or are one site",
             8 => "fewer than two sites, or not all sites are joined",
             9 => "report longer than the buffer",
+            10 => "wrong number of fields",
+            11 => "a name is not 1 to 12 letters or digits",
+            12 => "a number is not written in decimal without a leading zero",
             _ => "a cause without words",
         }
     }

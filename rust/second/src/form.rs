@@ -1,0 +1,173 @@
+//! What is off in a line of the wrong form.
+//!
+//! Lines are read by `network` as if they were right. One that is not is looked at here once
+//! more, slowly, to tell the first of its faults in the order 2, 10, 11, 12.
+
+use crate::names::NAME_BYTES;
+use crate::planted::{Error, planted};
+
+const LETTER_OR_ENDING: u8 = 2;
+const FIELD_COUNT: u8 = 10;
+const BAD_NAME: u8 = 11;
+const BAD_NUMBER: u8 = 12;
+
+/// Where the names of a line with a letter stand among its fields, and how many fields it has.
+fn layout(letter: &[u8]) -> Option<(std::ops::Range<usize>, usize)> {
+    match letter {
+        b"N" => Some((1..2, 2)),
+        b"L" => Some((1..3, 4)),
+        _ => None,
+    }
+}
+
+/// The number of the fault of form in the line at the start of `rest`, which must have one.
+#[cold]
+pub fn fault(rest: &[u8]) -> u8 {
+    let Some(length) = rest.iter().position(|&byte| byte == b'\n') else {
+        return unended(rest);
+    };
+    let fields: Vec<&[u8]> = rest[..length].split(|&byte| byte == b'\t').collect();
+    let Some((names, count)) = layout(fields[0]) else {
+        let is_planted = planted(Error::CountBeforeLetter) && ![2, 4].contains(&fields.len());
+        return if is_planted {
+            FIELD_COUNT
+        } else {
+            LETTER_OR_ENDING
+        };
+    };
+    if planted(Error::NamesBeforeCount) {
+        let mut names = fields.iter().take(names.end).skip(names.start);
+        if !names.all(|name| is_name(name)) {
+            return BAD_NAME;
+        }
+    }
+    if fields.len() != count {
+        return FIELD_COUNT;
+    }
+    if !fields[names.clone()].iter().all(|name| is_name(name)) {
+        let is_planted = planted(Error::SecondNameAsNumber) && is_name(fields[1]);
+        return if is_planted { BAD_NUMBER } else { BAD_NAME };
+    }
+    // No other fault of form is left.
+    let size = fields[count - 1];
+    if planted(Error::LeadingZeroAsLarge) && size.starts_with(b"0") {
+        return 3;
+    }
+    BAD_NUMBER
+}
+
+/// The fault of a line that no byte 10 ends, whatever else is wrong with it.
+fn unended(line: &[u8]) -> u8 {
+    let fields: Vec<&[u8]> = line.split(|&byte| byte == b'\t').collect();
+    match layout(fields[0]) {
+        Some((_, count)) if planted(Error::UnendedAsCount) && fields.len() != count => FIELD_COUNT,
+        _ => LETTER_OR_ENDING,
+    }
+}
+
+fn is_name(field: &[u8]) -> bool {
+    (1..=NAME_BYTES).contains(&field.len()) && field.iter().all(u8::is_ascii_alphanumeric)
+}
+
+#[cfg(test)]
+mod tests {
+    use crate::{Outcome, plan};
+
+    /// The fault of form of a line that byte 10 ends, by the words of the card; none has 0.
+    fn fault_by_the_card(line: &str) -> u8 {
+        let is_name = |name: &str| {
+            !name.is_empty()
+                && name.len() <= 12
+                && name.chars().all(|it| it.is_ascii_alphanumeric())
+        };
+        let is_number = |number: &str| {
+            let is_decimal = !number.is_empty() && number.chars().all(|it| it.is_ascii_digit());
+            is_decimal && (number == "0" || !number.starts_with('0'))
+        };
+        match line.split('\t').collect::<Vec<_>>()[..] {
+            ["N", name] if !is_name(name) => 11,
+            ["L", first, second, _] if !is_name(first) || !is_name(second) => 11,
+            ["L", _, _, number] if !is_number(number) => 12,
+            ["N", _] | ["L", _, _, _] => 0,
+            ["N" | "L", ..] => 10,
+            _ => 2,
+        }
+    }
+
+    /// Compares the planner on one line, ended and not, with what the card says.
+    fn check(line: &str) {
+        let answer = |ending: &str| {
+            let sheet = format!("network\t1\n{line}{ending}");
+            match plan(sheet.as_bytes(), &mut []) {
+                Outcome::Refused { number, line } => (number, line),
+                Outcome::Report { .. } => panic!("one line makes no tree"),
+            }
+        };
+        let due = match fault_by_the_card(line) {
+            // A site alone is not enough, a size may be too large, and no name is given above.
+            0 if line.starts_with('N') => (8, 0),
+            0 if line.len() > 12 && line.ends_with("0000000") => (3, 2),
+            0 => (6, 2),
+            number => (number, 2),
+        };
+        assert_eq!(answer("\n"), due, "{line:?}");
+        if !line.is_empty() {
+            assert_eq!(answer(""), (2, 2), "{line:?} without byte 10");
+        }
+    }
+
+    /// Calls `see` with every text of at most `most` of the pieces, put behind `text`.
+    fn every_text(text: &mut String, pieces: &[&str], most: usize, see: &mut impl FnMut(&str)) {
+        see(text);
+        if most > 0 {
+            for piece in pieces {
+                let length = text.len();
+                text.push_str(piece);
+                every_text(text, pieces, most - 1, see);
+                text.truncate(length);
+            }
+        }
+    }
+
+    #[test]
+    fn every_short_line() {
+        every_text(
+            &mut String::new(),
+            &["N", "L", "\t", "0", "7", "a", "-", " "],
+            5,
+            &mut check,
+        );
+    }
+
+    #[test]
+    fn every_line_of_fields() {
+        let fields = [
+            "",
+            "N",
+            "L",
+            "n",
+            "a",
+            "0",
+            "07",
+            "7",
+            "10000000",
+            "a b",
+            "a\r",
+            "7\0",
+            "é",
+            "abcdefghijkl",
+            "abcdefghijklm",
+            "00000000",
+            "0000000000000",
+            "network",
+        ];
+        let pieces = fields.map(|field| format!("\t{field}"));
+        let pieces: Vec<&str> = pieces.iter().map(String::as_str).collect();
+        for letter in ["N", "L"] {
+            every_text(&mut letter.to_string(), &pieces, 4, &mut check);
+        }
+        for letter in ["", "n", " N", "N ", "NN", "network", "é"] {
+            every_text(&mut letter.to_string(), &pieces, 3, &mut check);
+        }
+    }
+}
