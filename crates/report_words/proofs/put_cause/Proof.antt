@@ -193,9 +193,10 @@ same-length-13 c = search needs
 returns-13 : tie.Need-returns-13
 returns-13 c =
     let at-match = c .before .before .before .before .before in
+    let n = at-match .before .before .args .number in
     let late = at-match .match .rest in
     let early = late .0 .0 .0 .0 .0 .0 in
-    let none = no-cause (at-match .before .before .args .number) (early .0 .0 .0 .0 .0 .1) (early .0 .0 .0 .0 .1) (early .0 .0 .0 .1) (early .0 .0 .1) (early .0 .1) (early .1)
+    let none = no-cause n (early .0 .0 .0 .0 .0 .1) (early .0 .0 .0 .0 .1) (early .0 .0 .0 .1) (early .0 .0 .1) (early .0 .1) (early .1)
     (late .0 .0 .0 .0 .0 .1) (late .0 .0 .0 .0 .1) (late .0 .0 .0 .1) (late .0 .0 .1) (late .0 .1) (late .1) in
     rw none (c .before .before .put-bytes10 .ensures)
 
