@@ -5,4 +5,6 @@ pub mod Flows
 pub mod Trimming
 pub mod Cuts
 pub mod Pairing
+pub mod Whole
+pub mod WholeLoads
 pub mod Examples
