@@ -3,10 +3,10 @@
 use mathlib.Core.Path.{_≡_}
 use mathlib.Core.Logic.{_≢_, _⊎_}
 use mathlib.Core.List.{List}
-use Prim.Native.Nat.{ℕ, _*_, _%_}
+use Prim.Native.Nat.{ℕ, _+_, _*_, _%_, _≤_}
 use lib.ListN.{length}
 use Rattle.lists.specs.Numbers.{pick, is, differ, sum, over, Each}
-use Rattle.model.specs.Flows.{Links, Site, Multiflow, Below, Fits, sites, one, two, sumAt, label}
+use Rattle.model.specs.Flows.{Links, Site, Multiflow, Below, Fits, sites, one, two, sumAt, label, total, atTerminals}
 use Rattle.model.specs.Trimming.{Balanced}
 use Rattle.model.specs.Cuts.{kept}
 use Rattle.model.specs.declared.Pair.{Pair}
@@ -70,3 +70,13 @@ setSizes ls n terminal c owner = over (sites n) (λ a. is (terminal a) 1 * setSi
 -- the number of odd pieces, each counted at the site that tells it (02: odd if the links leaving it sum to an odd number)
 unfoldable pub oddPieces : Links → ℕ → (ℕ → ℕ) → (ℕ → ℕ) → ℕ
 oddPieces ls n c owner = over (sites n) (λ p. inPiece ls c owner p p * (leavingPiece ls c owner p % 2))
+
+-- ---- what Card 2 asks
+
+-- loads x and sets of which all that the card says holds: the loads are those of whole plans, no plan in whole circuits that fits has a greater total than
+-- they bring to the terminals, the sets are end sets, and set sizes less odd pieces equal that total (004, theorem 2)
+pub record LargestWhole (ls : Links) (n : ℕ) (terminal c x owner : ℕ → ℕ) : Type 0 where
+  pub loads : WholeLoads ls n terminal c x
+  pub largest : (es : List Pair) → WholePlan ls n terminal c es → total es ≤ atTerminals ls n terminal x
+  pub sets : EndSets n terminal owner
+  pub sizes : setSizes ls n terminal c owner ≡ atTerminals ls n terminal x + oddPieces ls n c owner

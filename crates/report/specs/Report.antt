@@ -7,6 +7,8 @@ use Rattle.model.specs.Flows.{sites, ends, total}
 use Rattle.model.specs.Trimming.{balanced}
 use Rattle.model.specs.Cuts.{cutSize, cutCount, owner}
 use Rattle.model.specs.Pairing.{pairList}
+use Rattle.model.specs.Whole.{setSize, setCount, oddPieces}
+use Rattle.model.specs.WholeLoads.{wholeLoads, wholeOwner}
 use Rattle.model.specs.Text.{bytes}
 use Rattle.model.specs.declared.Pair.{Pair}
 use Rattle.sheet.specs.Sheet.{Network, part}
@@ -60,13 +62,43 @@ planOf s net =
       pairs = pairList ls n (look trimmed) terminal;
     }
 
+-- the line `Q`: the count of odd pieces (02, Card 2)
+unfoldable pub oddLine : ℕ → List ℕ
+oddLine k = line (bytes "Q" ∷ decimal k ∷ [])
+
+-- the plan of a network in whole circuits (02, Card 2): it shows the loads in the place of the trimmed sizes, the sets that go with them, one line `Q`
+-- before the pairs, and the pair list of the loads
+unfoldable pub wholeOf : List ℕ → Network → Plan
+wholeOf s net =
+    let n = length (net .names) in
+    let ls = net .links in
+    let c = look (net .capacities) in
+    let terminal = look (ends ls n) in
+    let loads = wholeLoads ls n terminal c in
+    let owner = wholeOwner ls n terminal c in
+    record {
+      word = bytes "whole";
+      names = λ v. part s (getD (net .names) (v - 1) (0, 0));
+      size = n;
+      ones = map (λ l. l .0) ls;
+      twos = map (λ l. l .1) ls;
+      capacities = net .capacities;
+      shown = loads;
+      ends = ends ls n;
+      owners = map owner (sites n);
+      cutSizes = map (setSize ls c owner) (sites n);
+      cutCounts = map (setCount n owner) (sites n);
+      before = oddLine (oddPieces ls n c owner);
+      pairs = pairList ls n (look loads) terminal;
+    }
+
 -- ---- its lines
 
--- the heading, `plan`: total in halves, number of pairs
+-- the heading, `plan` or `whole`: total in halves, number of pairs
 unfoldable pub headRecord : List ℕ → ℕ → ℕ → List ℕ
 headRecord word halves pairs = line (word ∷ decimal halves ∷ decimal pairs ∷ [])
 
--- `L`: names, given size, the size shown (trimmed size)
+-- `L`: names, given size, the size shown (trimmed size, or load)
 unfoldable pub linkRecord : (ℕ → List ℕ) → ℕ → ℕ → ℕ → ℕ → List ℕ
 linkRecord name a b capacity shown = line (bytes "L" ∷ name a ∷ name b ∷ decimal capacity ∷ decimal shown ∷ [])
 
@@ -109,6 +141,10 @@ reportOf p =
 -- the report of a network whose names stand in the sheet s
 unfoldable pub report : List ℕ → Network → List ℕ
 report s net = reportOf (planOf s net)
+
+-- the report of a network in whole circuits (02: a second report, headed `whole`)
+unfoldable pub wholeReport : List ℕ → Network → List ℕ
+wholeReport s net = reportOf (wholeOf s net)
 
 -- the line that the program prints for a refusal: `refused`, number, line
 unfoldable pub refusalLine : ℕ → ℕ → List ℕ
