@@ -1,4 +1,4 @@
--- What the program prints: a report lies within the buffer, and a refusal's line stands at its front.
+-- What the program prints: a report lies within the buffer, and a refusal's line stands at its front. For any report.
 use mathlib.Core.Path.{_≡_, refl, ap}
 use mathlib.Core.Bool.{Bool, true, false, cond}
 use mathlib.Core.List.{List, _++_}
@@ -9,9 +9,9 @@ use lib.ListN.{length, drop, length-append}
 use lib.Seq.{length-sets}
 use Rattle.model.specs.Edition.{edition1}
 use Rattle.sheet.specs.Sheet.{Read, refused, accepted, readSheet}
-use Rattle.report.specs.Report.{report, refusalLine}
+use Rattle.report.specs.Report.{refusalLine}
 use Rattle.text_writers.specs.Wrote.{Wrote}
-use Rattle.planner.specs.Outcome.{Planned, deliver, planRead, planned, spelt, answered}
+use Rattle.planner.specs.Outcome.{Planned, Reporter, deliver, planRead, plannedBy, spelt, answeredBy}
 use Rattle.planner.specs.declared.Outcome.the-variants.{Report, Refused}
 use Rattle.lists.specs.Sums.{contradiction}
 
@@ -29,51 +29,52 @@ delivered-within r b n e = by (leb (length r) (length b)) e
     by true q = let z : length r ≡ n = cc in omega (arith, length-append r (drop (length r) b))
     by false q = contradiction cc
 
-pub a-report-is-within-the-buffer : (s b : List ℕ) (n : ℕ) → planned edition1 s b .outcome ≡ Report n → n ≤ length (planned edition1 s b .buffer)
-unfolding planned planRead
-a-report-is-within-the-buffer s b n e = by (readSheet edition1 s) e
-  where
-    by : (r : Read) → planRead s b r .outcome ≡ Report n → n ≤ length (planRead s b r .buffer)
-    by (refused k l) q = contradiction cc
-    by (accepted net) q = delivered-within (report s net) b n q
+module _ (text : Reporter) (s b : List ℕ) where
+  pub a-report-is-within-the-buffer : (n : ℕ) → plannedBy text edition1 s b .outcome ≡ Report n → n ≤ length (plannedBy text edition1 s b .buffer)
+  unfolding plannedBy planRead
+  a-report-is-within-the-buffer n e = by (readSheet edition1 s) e
+    where
+      by : (r : Read) → planRead text s b r .outcome ≡ Report n → n ≤ length (planRead text s b r .buffer)
+      by (refused k l) q = contradiction cc
+      by (accepted net) q = delivered-within (text s net) b n q
 
--- a refusal leaves the buffer
-refused-stays : (s b : List ℕ) (k l : ℕ) → planned edition1 s b .outcome ≡ Refused k l → planned edition1 s b .buffer ≡ b
-unfolding planned planRead deliver
-refused-stays s b k l e = by (readSheet edition1 s) e
-  where
-    within : (r : List ℕ) (t : Bool)
-        → (cond {A = Planned} t (record { outcome = Report (length r); buffer = r ++ drop (length r) b })
-        (record { outcome = Refused 9 0; buffer = b })) .outcome ≡ Refused k l
-        → (cond {A = Planned} t (record { outcome = Report (length r); buffer = r ++ drop (length r) b })
-        (record { outcome = Refused 9 0; buffer = b })) .buffer ≡ b
-    within r true q = contradiction cc
-    within r false q = refl
+  -- a refusal leaves the buffer
+  refused-stays : (k l : ℕ) → plannedBy text edition1 s b .outcome ≡ Refused k l → plannedBy text edition1 s b .buffer ≡ b
+  unfolding plannedBy planRead deliver
+  refused-stays k l e = by (readSheet edition1 s) e
+    where
+      within : (r : List ℕ) (t : Bool)
+          → (cond {A = Planned} t (record { outcome = Report (length r); buffer = r ++ drop (length r) b })
+          (record { outcome = Refused 9 0; buffer = b })) .outcome ≡ Refused k l
+          → (cond {A = Planned} t (record { outcome = Report (length r); buffer = r ++ drop (length r) b })
+          (record { outcome = Refused 9 0; buffer = b })) .buffer ≡ b
+      within r true q = contradiction cc
+      within r false q = refl
 
-    by : (r : Read) → planRead s b r .outcome ≡ Refused k l → planRead s b r .buffer ≡ b
-    by (refused n m) q = refl
-    by (accepted net) q = within (report s net) (leb (length (report s net)) (length b)) q
+      by : (r : Read) → planRead text s b r .outcome ≡ Refused k l → planRead text s b r .buffer ≡ b
+      by (refused n m) q = refl
+      by (accepted net) q = within (text s net) (leb (length (text s net)) (length b)) q
 
--- a report is printed as it stands
-pub a-report-is-printed : (s b : List ℕ) (n : ℕ) → planned edition1 s b .outcome ≡ Report n
-    → answered edition1 s b ≡ record { length = n; buffer = planned edition1 s b .buffer }
-unfolding answered spelt
-a-report-is-printed s b n e = rw e
+  -- a report is printed as it stands
+  pub a-report-is-printed : (n : ℕ) → plannedBy text edition1 s b .outcome ≡ Report n
+      → answeredBy text edition1 s b ≡ record { length = n; buffer = plannedBy text edition1 s b .buffer }
+  unfolding answeredBy spelt
+  a-report-is-printed n e = rw e
 
--- a refusal is printed as its line
-pub a-refusal-is-printed : (s b : List ℕ) (k l : ℕ) → planned edition1 s b .outcome ≡ Refused k l → (after : List ℕ) (r : ℕ)
-    → Wrote (planned edition1 s b .buffer) 0 (refusalLine k l) after r → answered edition1 s b ≡ record { length = r; buffer = after }
-unfolding answered spelt
-a-refusal-is-printed s b k l e after r w =
-    let z : length (refusalLine k l) ≡ r = omega (arith, w .next) in
-    rw (e, z, w .stored)
+  module _ (k l : ℕ) (e : plannedBy text edition1 s b .outcome ≡ Refused k l)
+      (after : List ℕ) (r : ℕ) (w : Wrote (plannedBy text edition1 s b .buffer) 0 (refusalLine k l) after r) where
+    -- a refusal is printed as its line
+    pub a-refusal-is-printed : answeredBy text edition1 s b ≡ record { length = r; buffer = after }
+    unfolding answeredBy spelt
+    a-refusal-is-printed =
+        let z : length (refusalLine k l) ≡ r = omega (arith, w .next) in
+        rw (e, z, w .stored)
 
--- and the line lies within a buffer of 50 bytes
-pub a-refusal-is-within-the-buffer : (s b : List ℕ) (k l : ℕ) → planned edition1 s b .outcome ≡ Refused k l → (after : List ℕ) (r : ℕ)
-    → Wrote (planned edition1 s b .buffer) 0 (refusalLine k l) after r → r ≤ 50 → 50 ≤ length b → r ≤ length after
-a-refusal-is-within-the-buffer s b k l e after r w small h = omega (
-  arith,
-  ap length (w .stored),
-  length-sets (planned edition1 s b .buffer) 0 (refusalLine k l),
-  ap length (refused-stays s b k l e),
-)
+    -- and the line lies within a buffer of 50 bytes
+    pub a-refusal-is-within-the-buffer : r ≤ 50 → 50 ≤ length b → r ≤ length after
+    a-refusal-is-within-the-buffer small h = omega (
+      arith,
+      ap length (w .stored),
+      length-sets (plannedBy text edition1 s b .buffer) 0 (refusalLine k l),
+      ap length (refused-stays k l e),
+    )

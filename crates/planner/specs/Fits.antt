@@ -13,9 +13,9 @@ use Rattle.model.specs.Limits.{REPORT}
 use Rattle.model.specs.Edition.{edition1}
 use Rattle.model.specs.declared.Pairs.{Pairs}
 use Rattle.text_writers.specs.Wrote.{Wrote}
-use Rattle.report.specs.Report.{Plan, reportOf, report}
-use Rattle.planner.specs.Outcome.{deliver, planRead, planned}
-use Rattle.planner.specs.Ready.{Ready}
+use Rattle.report.specs.Report.{Plan, reportOf}
+use Rattle.planner.specs.Outcome.{Reporter, deliver, planRead, plannedBy}
+use Rattle.planner.specs.Ready.{ReadyBy}
 use Rattle.planner.specs.declared.Outcome.the-variants.{Report, Refused}
 use Rattle.lists.specs.Sums.{contradiction}
 
@@ -39,21 +39,20 @@ room-enough p room e l = by (leb REPORT room) refl e
     by true q r = omega (arith, leb-true REPORT room q)
     by false q r = leb-true _ _ r
 
-module _ {s starting stopping : List ℕ} {p : Plan} {pairs : Pairs} (r : Ready s starting stopping p pairs) where
+module _ {text : Reporter} {s starting stopping : List ℕ} {p : Plan} {pairs : Pairs} (r : ReadyBy text s starting stopping p pairs) where
   -- a report that is longer than the buffer
-  pub too-long : (b : List ℕ) → length b < length (reportOf p) → planned edition1 s b ≡ record { outcome = Refused 9 0; buffer = b }
-  unfolding planned planRead deliver
-  too-long b h = rw (r .read, lt-leb (length (report s (r .net))) (length b) (rw (r .shows) at h))
+  pub too-long : (b : List ℕ) → length b < length (reportOf p) → plannedBy text edition1 s b ≡ record { outcome = Refused 9 0; buffer = b }
+  unfolding plannedBy planRead deliver
+  too-long b h = rw (r .read, lt-leb (length (text s (r .net))) (length b) (rw (r .shows) at h))
 
   -- a report that is written into a buffer long enough
   pub long-enough : (b after : List ℕ) (k : ℕ) → length (reportOf p) ≤ length b → Wrote b 0 (reportOf p) after k
-      → planned edition1 s b ≡ record { outcome = Report k; buffer = after }
-  unfolding planned planRead deliver
+      → plannedBy text edition1 s b ≡ record { outcome = Report k; buffer = after }
+  unfolding plannedBy planRead deliver
   long-enough b after k h v =
-      let text = report s (r .net) in
-      let enough : length text ≤ length b = rw (r .shows) at h in
-      let w : Wrote b 0 text after k = rw (r .shows) at v in
-      let e : k ≡ length text = omega (arith, w .next) in
-      let a : after ≡ text ++ drop (length text) b =
-      w .stored ∙ sets-eq text b 0 (omega arith) ∙ ap (λ i. text ++ drop i b) (zero-add (length text)) in
-      rw (r .read, le-leb (length text) (length b) enough, e, a)
+      let t = text s (r .net) in
+      let enough : length t ≤ length b = rw (r .shows) at h in
+      let w : Wrote b 0 t after k = rw (r .shows) at v in
+      let e : k ≡ length t = omega (arith, w .next) in
+      let a : after ≡ t ++ drop (length t) b = w .stored ∙ sets-eq t b 0 (omega arith) ∙ ap (λ i. t ++ drop i b) (zero-add (length t)) in
+      rw (r .read, le-leb (length t) (length b) enough, e, a)

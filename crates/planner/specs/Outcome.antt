@@ -1,5 +1,5 @@
--- The outcome of planning, for every sheet and every buffer: number, line, length, and the buffer after.
--- Document 01, the table of causes and the lines below it.
+-- The outcome of planning, for either report, every sheet and every buffer: number, line, length, and the buffer after.
+-- Document 01, the table of causes and the lines below it; 02, Card 2 (a second report).
 use mathlib.Core.Bool.{cond}
 use mathlib.Core.List.{List, _++_}
 use Prim.Native.Nat.{ℕ}
@@ -7,8 +7,8 @@ use lib.Dec.{leb}
 use lib.ListN.{length, drop}
 use lib.Seq.{sets}
 use Rattle.model.specs.declared.Edition.{Edition}
-use Rattle.sheet.specs.Sheet.{Read, refused, accepted, readSheet}
-use Rattle.report.specs.Report.{report, refusalLine}
+use Rattle.sheet.specs.Sheet.{Network, Read, refused, accepted, readSheet}
+use Rattle.report.specs.Report.{report, wholeReport, refusalLine}
 use Rattle.planner.specs.declared.Outcome.{Outcome}
 use Rattle.planner.specs.declared.Outcome.the-variants.{Report, Refused}
 
@@ -37,14 +37,25 @@ deliver r b =
     (record { outcome = Report (length r); buffer = r ++ drop (length r) b })
     (record { outcome = Refused 9 0; buffer = b })
 
+-- what gives the text of a report, from a sheet and its network: `report` or `wholeReport`
+abbrev pub Reporter : Type 0
+Reporter = List ℕ → Network → List ℕ
+
 -- a sheet that is read, planned
-unfoldable pub planRead : List ℕ → List ℕ → Read → Planned
-planRead s b (refused n k) = record { outcome = Refused n k; buffer = b }
-planRead s b (accepted net) = deliver (report s net) b
+unfoldable pub planRead : Reporter → List ℕ → List ℕ → Read → Planned
+planRead text s b (refused n k) = record { outcome = Refused n k; buffer = b }
+planRead text s b (accepted net) = deliver (text s net) b
 
 -- the outcome of planning the sheet s into the buffer b
-unfoldable pub planned : Edition → List ℕ → List ℕ → Planned
-planned ed s b = planRead s b (readSheet ed s)
+unfoldable pub plannedBy : Reporter → Edition → List ℕ → List ℕ → Planned
+plannedBy text ed s b = planRead text s b (readSheet ed s)
+
+-- with the report in halves, headed `plan`; with that in whole circuits, headed `whole` (02, Card 2)
+abbrev pub planned : Edition → List ℕ → List ℕ → Planned
+planned = plannedBy report
+
+abbrev pub plannedWhole : Edition → List ℕ → List ℕ → Planned
+plannedWhole = plannedBy wholeReport
 
 -- ---- what the program prints
 
@@ -59,5 +70,11 @@ spelt (Report n) b = record { length = n; buffer = b }
 spelt (Refused k l) b = record { length = length (refusalLine k l); buffer = sets b 0 (refusalLine k l) }
 
 -- the answer to the sheet s, in the buffer b
-unfoldable pub answered : Edition → List ℕ → List ℕ → Answer
-answered ed s b = spelt (planned ed s b .outcome) (planned ed s b .buffer)
+unfoldable pub answeredBy : Reporter → Edition → List ℕ → List ℕ → Answer
+answeredBy text ed s b = spelt (plannedBy text ed s b .outcome) (plannedBy text ed s b .buffer)
+
+abbrev pub answered : Edition → List ℕ → List ℕ → Answer
+answered = answeredBy report
+
+abbrev pub answeredWhole : Edition → List ℕ → List ℕ → Answer
+answeredWhole = answeredBy wholeReport

@@ -14,6 +14,7 @@ use Rattle.tree_links.specs.Chains.{Chained}
 use Rattle.sheet.specs.Sheet.{Network, accepted, readSheet}
 use Rattle.report.specs.Report.{Plan, reportOf, report}
 use Rattle.report.specs.Shown.{CanWrite}
+use Rattle.planner.specs.Outcome.{Reporter}
 use Rattle.planner.specs.Shows.{starts, stops}
 
 -- the lists of the network of an accepted sheet: where its names start and stop, its number of sites, its links and their capacities
@@ -34,8 +35,11 @@ pub record Charted (n : ℕ) (one two order marks last before : List ℕ) : Type
   pub chained : Chained one two last before
 
 -- the report of the plan p is that of an accepted sheet, and can be written
-pub record Ready (s starting stopping : List ℕ) (p : Plan) (pairs : Pairs) : Type 0 where
+pub record ReadyBy (text : Reporter) (s starting stopping : List ℕ) (p : Plan) (pairs : Pairs) : Type 0 where
   pub net : Network
   pub read : readSheet edition1 s ≡ accepted net
-  pub shows : reportOf p ≡ report s net
+  pub shows : reportOf p ≡ text s net
   pub writable : CanWrite s starting stopping p pairs
+
+abbrev pub Ready : List ℕ → List ℕ → List ℕ → Plan → Pairs → Type 0
+Ready = ReadyBy report

@@ -1,4 +1,4 @@
--- What Card 1 changed in planning: by the numbering from before, which gave 2 for each fault of form, outcome and buffer are today's for every sheet and every
+-- What Card 1 changed in planning, with either report: by the numbering from before, which gave 2 for each fault of form, outcome and buffer are today's for every sheet and every
 -- buffer, but that 2 stands for 10, 11 and 12. Document 02, Card 1. Since every sheet is read as before, and a report that is too long is told as 9.
 use mathlib.Core.Bool.{Bool, true, false, cond}
 use mathlib.Core.List.{List}
@@ -10,14 +10,13 @@ use Rattle.model.specs.declared.Edition.{Edition}
 use Rattle.sheet.specs.Sheet.{Read, refused, accepted, readSheet}
 use Rattle.sheet.specs.Renumbered.{Check, faultOf, faultBefore, numberBefore, readBefore, readSheetBy}
 use Rattle.sheet.specs.Renumbered.{a-sheet-is-read-by-the-numbering, a-sheet-is-read-as-before}
-use Rattle.report.specs.Report.{report}
-use Rattle.planner.specs.Outcome.{Planned, deliver, planRead, planned}
+use Rattle.planner.specs.Outcome.{Planned, Reporter, deliver, planRead, plannedBy}
 use Rattle.planner.specs.declared.Outcome.{Outcome}
 use Rattle.planner.specs.declared.Outcome.the-variants.{Report, Refused}
 
--- planning by a numbering of the form faults: `planned` is that by `faultOf`
-unfoldable pub plannedBy : (Check → ℕ) → Edition → List ℕ → List ℕ → Planned
-plannedBy numbering ed s b = planRead s b (readSheetBy numbering ed s)
+-- planning by a numbering of the form faults: `plannedBy` is that by `faultOf`
+unfoldable pub plannedNumbering : (Check → ℕ) → Reporter → Edition → List ℕ → List ℕ → Planned
+plannedNumbering numbering text ed s b = planRead text s b (readSheetBy numbering ed s)
 
 -- the outcome before: 2 for 10, 11 and 12, at the same line; everything else stays, and so does the buffer
 abbrev pub outcomeBefore : Outcome → Outcome
@@ -27,7 +26,7 @@ outcomeBefore (Refused k l) = Refused (numberBefore k) l
 abbrev pub plannedBefore : Planned → Planned
 plannedBefore p = record { outcome = outcomeBefore (p .outcome); buffer = p .buffer }
 
-module _ (ed : Edition) (s b : List ℕ) where
+module _ (text : Reporter) (ed : Edition) (s b : List ℕ) where
   delivered-stays : (r : List ℕ) → deliver r b ≡ plannedBefore (deliver r b)
   unfolding deliver numberBefore
   delivered-stays r = by (leb (length r) (length b)) _ _ refl refl
@@ -36,17 +35,17 @@ module _ (ed : Edition) (s b : List ℕ) where
       by true p q e f = e
       by false p q e f = f
 
-  read-before : (r : Read) → planRead s b (readBefore r) ≡ plannedBefore (planRead s b r)
+  read-before : (r : Read) → planRead text s b (readBefore r) ≡ plannedBefore (planRead text s b r)
   unfolding planRead
   read-before (refused n k) = refl
-  read-before (accepted net) = delivered-stays (report s net)
+  read-before (accepted net) = delivered-stays (text s net)
 
   -- today's planning is the one by today's numbering
-  pub a-sheet-is-planned-by-the-numbering : plannedBy faultOf ed s b ≡ planned ed s b
-  unfolding plannedBy planned
+  pub a-sheet-is-planned-by-the-numbering : plannedNumbering faultOf text ed s b ≡ plannedBy text ed s b
+  unfolding plannedNumbering plannedBy
   a-sheet-is-planned-by-the-numbering = rw (a-sheet-is-read-by-the-numbering ed s)
 
   -- what was told as 2 before is told as one of 2, 10, 11, 12 now, at the same line; every other outcome, and the buffer, is as it was
-  pub a-sheet-is-planned-as-before : plannedBy faultBefore ed s b ≡ plannedBefore (planned ed s b)
-  unfolding plannedBy planned
+  pub a-sheet-is-planned-as-before : plannedNumbering faultBefore text ed s b ≡ plannedBefore (plannedBy text ed s b)
+  unfolding plannedNumbering plannedBy
   a-sheet-is-planned-as-before = rw (a-sheet-is-read-as-before ed s) (read-before (readSheet ed s))

@@ -16,7 +16,7 @@ use Rattle.sheet.specs.Reading.{padded, lists, reading}
 use Rattle.sheet.specs.SheetTheorem.{IsNetwork, an-accepted-sheet-is-a-tree}
 use Rattle.sheet.specs.declared.Answer.the-variants as answered
 use Rattle.sheet.specs.declared.Lists.{Lists}
-use Rattle.planner.specs.Outcome.{planRead, planned}
+use Rattle.planner.specs.Outcome.{Reporter, planRead, plannedBy}
 use Rattle.planner.specs.Ready.{TakenApart}
 use Rattle.planner.specs.declared.Outcome.the-variants.{Refused}
 use Rattle.lists.specs.Sums.{contradiction}
@@ -49,12 +49,12 @@ accepted-is-listed s e = by (readSheet edition1 s) refl e
     by (accepted net) q e = record { net = net; read = q; listed = refl }
 
 -- a refused sheet is refused with the same number and line, and the buffer stays
-pub refused-is-told : (s b : List ℕ) (n k : ℕ) → reading (readSheet edition1 s) .answer ≡ answered.Refused n k
-    → planned edition1 s b ≡ record { outcome = Refused n k; buffer = b }
-unfolding reading planned planRead
-refused-is-told s b n k e = by (readSheet edition1 s) e
+pub refused-is-told : (text : Reporter) (s b : List ℕ) (n k : ℕ) → reading (readSheet edition1 s) .answer ≡ answered.Refused n k
+    → plannedBy text edition1 s b ≡ record { outcome = Refused n k; buffer = b }
+unfolding reading plannedBy planRead
+refused-is-told text s b n k e = by (readSheet edition1 s) e
   where
-    by : (r : Read) → reading r .answer ≡ answered.Refused n k → planRead s b r ≡ record { outcome = Refused n k; buffer = b }
+    by : (r : Read) → reading r .answer ≡ answered.Refused n k → planRead text s b r ≡ record { outcome = Refused n k; buffer = b }
     by (refused m l) e = let p : m ≡ n = cc in let q : l ≡ k = cc in rw (p, q)
     by (accepted net) e = contradiction cc
 

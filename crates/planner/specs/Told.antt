@@ -1,4 +1,4 @@
--- The sheet's own refusals, told by planning: any number but 0 and 9 at a line just for its cause, whatever the buffer.
+-- The sheet's own refusals, told by planning, with either report: any number but 0 and 9 at a line just for its cause, whatever the buffer.
 -- Document 01, the table of causes; 02, Card 1. (Of 0 and 9 the demands tell: they depend on the report's length.)
 use mathlib.Core.Path.{_≡_, refl}
 use mathlib.Core.Bool.{Bool, true, false, cond}
@@ -12,8 +12,7 @@ use Rattle.model.specs.declared.Edition.{Edition}
 use Rattle.sheet.specs.Sheet.{Read, refused, accepted, readSheet}
 use Rattle.sheet.specs.Causes.{Refusal}
 use Rattle.sheet.specs.SheetTheorem.{a-sheet-is-refused-for-its-cause}
-use Rattle.report.specs.Report.{report}
-use Rattle.planner.specs.Outcome.{Planned, number, lineOf, deliver, planRead, planned}
+use Rattle.planner.specs.Outcome.{Planned, number, lineOf, Reporter, deliver, planRead, plannedBy}
 
 -- a report delivered is told as 0 or 9
 zero-or-nine : (r b : List ℕ) → (number (deliver r b .outcome) ≡ 0) ⊎ (number (deliver r b .outcome) ≡ 9)
@@ -25,16 +24,16 @@ zero-or-nine r b = by (leb (length r) (length b)) _ _ refl refl
     by true p q e f = inl e
     by false p q e f = inr f
 
-module _ (ed : Edition) (s b : List ℕ) where
+module _ (text : Reporter) (ed : Edition) (s b : List ℕ) where
   pub a-number-of-the-sheet-is-told-just-for-its-cause : (k l : ℕ) → 1 ≤ k → k ≢ 9
-      → ((number (planned ed s b .outcome) ≡ k) × (lineOf (planned ed s b .outcome) ≡ l)) ↔ Refusal ed s k l
-  unfolding planned planRead
+      → ((number (plannedBy text ed s b .outcome) ≡ k) × (lineOf (plannedBy text ed s b .outcome) ≡ l)) ↔ Refusal ed s k l
+  unfolding plannedBy planRead
   a-number-of-the-sheet-is-told-just-for-its-cause k l some other =
       let law = a-sheet-is-refused-for-its-cause ed s k l in (λ t. law .0 (by (readSheet ed s) t), λ c. rw (law .1 c) (refl, refl))
     where
-      by : (r : Read) → (number (planRead s b r .outcome) ≡ k) × (lineOf (planRead s b r .outcome) ≡ l) → r ≡ refused k l
+      by : (r : Read) → (number (planRead text s b r .outcome) ≡ k) × (lineOf (planRead text s b r .outcome) ≡ l) → r ≡ refused k l
       by (refused n m) t = let e = t .0 in let f = t .1 in cc
-      by (accepted net) t = elim (zero-or-nine (report s net) b) [
+      by (accepted net) t = elim (zero-or-nine (text s net) b) [
         | inl e ↦ absurd (omega (arith, t .0, e))
         | inr e ↦ absurd (other (omega (arith, t .0, e)))
       ]

@@ -13,7 +13,7 @@ use Rattle.model.specs.declared.Pair.{Pair}
 use Rattle.lists.specs.Sums.{pick-cases}
 use Rattle.text_writers.specs.Decimal.{decimal-within}
 use Rattle.report.specs.Report.{decimal, line, lines, Plan, reportOf, headRecord, linkRecord, linkLine, ownerName, siteRecord, siteLine, cutRecord}
-use Rattle.report.specs.Report.{cutLine, pairLine}
+use Rattle.report.specs.Report.{cutLine, pairLine, oddLine}
 
 -- ---- lines
 
@@ -44,6 +44,18 @@ lines-of : {A : Type 0} (f : A → List ℕ) (P : A → Type 0) (m : ℕ) → ((
 unfolding lines
 lines-of f P m h [] e = omega arith
 lines-of f P m h (a ∷ l) e = omega (arith, h a (e .0), length-append (f a) (lines f l), lines-of f P m h l (e .1))
+
+-- a line `Q`, or none: at most 16 bytes
+pub odd-lines-are-short : (ks : List ℕ) → length ks ≤ 1 → Each (λ k. k ≤ SITES) ks → length (lines oddLine ks) ≤ 16
+unfolding lines oddLine widths
+odd-lines-are-short [] one few = omega arith
+odd-lines-are-short (k ∷ []) one few = omega (
+  arith,
+  length-append (line (bytes "Q" ∷ decimal k ∷ [])) [],
+  line-length (bytes "Q" ∷ decimal k ∷ []),
+  decimal-within 6 k (omega (arith, few .0)),
+)
+odd-lines-are-short (k ∷ j ∷ ks) one few = absurd (omega arith)
 
 -- ---- the report of a plan within the limits
 

@@ -1,5 +1,6 @@
 -- `answer` meets its contract: a report as it stands, or the line of the refusal.
 use mathlib.Core.Path.{sym, ap, _∙_}
+use Rattle.report.specs.Report.{report}
 use Rattle.planner.specs.Answers.{a-report-is-within-the-buffer, a-report-is-printed, a-refusal-is-printed, a-refusal-is-within-the-buffer}
 use borrow.Author.Needs.{needs}
 use Rattle.planner.proofs.answer.Statement.{statement}
@@ -25,9 +26,9 @@ returns c =
     let s = c .before .before .before .before .before .before .before .before .before .args in
     let p = c .before .before .before .before .before .plan .ensures in
     let e = sym (p .0) ∙ c .before .outcome .given .1 in
-    let a = a-report-is-printed (s .sheet .now) (s .buf .now) _ e in (
+    let a = a-report-is-printed report (s .sheet .now) (s .buf .now) _ e in (
       sym (ap (λ x. x .length) a),
-      (p .1 ∙ sym (ap (λ x. x .buffer) a), λ h. rw (p .1) (a-report-is-within-the-buffer (s .sheet .now) (s .buf .now) _ e)),
+      (p .1 ∙ sym (ap (λ x. x .buffer) a), λ h. rw (p .1) (a-report-is-within-the-buffer report (s .sheet .now) (s .buf .now) _ e)),
     )
 
 same-length-2 : tie.Need-same-length-2
@@ -43,8 +44,8 @@ returns-2 c =
     let w = c .before .before .write-refusal .ensures in
     let e = sym (p .0) ∙ at-outcome2 .outcome2 .given .1 in
     let v = rw (p .1) at (w .0) in
-    let a = a-refusal-is-printed (s .sheet .now) (s .buf .now) _ _ e _ _ v in
-    (sym (ap (λ x. x .length) a), (sym (ap (λ x. x .buffer) a), a-refusal-is-within-the-buffer (s .sheet .now) (s .buf .now) _ _ e _ _ v (w .1)))
+    let a = a-refusal-is-printed report (s .sheet .now) (s .buf .now) _ _ e _ _ v in
+    (sym (ap (λ x. x .length) a), (sym (ap (λ x. x .buffer) a), a-refusal-is-within-the-buffer report (s .sheet .now) (s .buf .now) _ _ e _ _ v (w .1)))
 
 pub answer-spec : {M : Type 1} → statement M
 answer-spec =

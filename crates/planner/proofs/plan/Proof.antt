@@ -1,5 +1,6 @@
 -- `plan` meets its contract: a refusal of the reading is passed on, and an accepted sheet's network is planned.
 use mathlib.Core.Path.{sym, ap, _∙_}
+use Rattle.report.specs.Report.{report}
 use Rattle.planner.specs.Taken.{accepted-is-listed, refused-is-told}
 use borrow.Author.Needs.{needs}
 use Rattle.planner.proofs.plan.Statement.{statement}
@@ -25,7 +26,7 @@ returns : tie.Need-returns
 returns c =
     let s = c .before .before .before .before .before .before .args in
     let r = c .before .before .before .read .ensures in
-    let e = refused-is-told (s .sheet .now) (s .report .now) _ _ (sym (ap (λ x. x .answer) r) ∙ c .before .answer .given .1) in
+    let e = refused-is-told report (s .sheet .now) (s .report .now) _ _ (sym (ap (λ x. x .answer) r) ∙ c .before .answer .given .1) in
     (sym (ap (λ p. p .outcome) e), sym (ap (λ p. p .buffer) e))
 
 same-length : tie.Need-same-length
