@@ -287,6 +287,17 @@ module _ (par c term : ℕ → ℕ) where
         part : (w : ℕ) → s .high w ≤ M → is (par w) p * s .high w ≤ M * 1
         part w l = same? (par w) p (λ e. rw (is-same e) (omega arith)) (λ d. rw (is-other d) (omega arith))
 
+  -- however many sites are taken, `most` has grown by at most the greatest capacity for each
+  pub most-is-small : (M : ℕ) → ((v : ℕ) → c v ≤ M) → (vs : List ℕ) (s : Intervals) (p : ℕ) → takeAll par c term vs s .most p ≤ s .most p + M * length vs
+  unfolding takeAll
+  most-is-small M h [] s p = omega arith
+  most-is-small M h (v ∷ vs) s p = omega (arith, most-is-small M h vs (take par c term s v) p, grown)
+    where
+      grown : take par c term s v .most p ≤ s .most p + M
+      grown = unfold take in let hi = highest (leastAt par c term s v) (s .most v) (c v) in same? p (par v)
+          (λ e. rw e (omega (arith, put-same (s .most) (par v) (s .most (par v) + hi), high-le (leastAt par c term s v) (s .most v) (c v), h v)))
+          (λ d. omega (arith, put-other (s .most) (s .most (par v) + hi) d))
+
 module _ {us : List ℕ} {par c term : ℕ → ℕ} (H : Plain us par c term) where
   R : Rooted us par (place us)
   R = rooted par us (H .taken)

@@ -14,6 +14,7 @@ use Rattle.model.specs.Flows.{Links, one, two, at, sumAt}
 use Rattle.model.specs.Trimming.{unvisited, Inward}
 use Rattle.model.specs.WholeLoads.{from, upward, beyond, parentOf}
 use Rattle.theory_trees.specs.Trees.{at-le, at-end, at-first, at-second}
+use Rattle.theory_trees.specs.Sites.{sumAt-none}
 use Rattle.theory_whole.specs.Sums.{over-none, sum-zero}
 use Rattle.theory_whole.specs.Rooted.{children}
 use Rattle.theory_whole.specs.Order.{Taken, taken-home}
@@ -29,6 +30,14 @@ module _ (ls : Links) where
   upward-tail : {u v : ℕ} (us : List ℕ) → u ≢ v → (f : ℕ → ℕ) → upward ls (u ∷ us) v f ≡ upward ls us v f
   unfolding upward from
   upward-tail {u} {v} us d f = rw (if-neg (ℕ-discrete u v) d) refl
+
+  -- a site that is not in the list has no parent link
+  pub upward-out : (us : List ℕ) (v : ℕ) → count us v ≡ 0 → (f : ℕ → ℕ) → upward ls us v f ≡ 0
+  unfolding count
+  upward-out [] v z f = unfold upward from unvisited count in sumAt-none ls v (λ j. 0 * 0 * f j) (λ j l a. omega arith)
+  upward-out (u ∷ us) v z f =
+      let d : u ≢ v = λ e. omega (arith, is-same e) in
+      upward-tail us d f ∙ upward-out us v (omega arith) f
 
   -- ---- the two sites of a link
 
