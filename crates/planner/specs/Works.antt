@@ -17,10 +17,8 @@ use Rattle.model.specs.Pairing.{pairList, ordered}
 use Rattle.model.specs.Text.{bytes}
 use Rattle.model.specs.declared.Pair.{Pair}
 use Rattle.model.specs.declared.Pairs.{Pairs}
-use Rattle.theory_trees.specs.Owners.{owner-or-none}
 use Rattle.theory_trees.specs.Leaves.{Outer}
 use Rattle.theory_trees.specs.Ends.{ends-are-outer}
-use Rattle.theory_trees.specs.Greatest.{balanced-has-each-link}
 use Rattle.tree.specs.Offer.{links}
 use Rattle.tree.specs.Accepted.{TreeWithin}
 use Rattle.trimming.specs.Outcome.{capacities}
@@ -32,32 +30,26 @@ use Rattle.pairing_walk.specs.Visits.{Walkable, Listing}
 use Rattle.pairing_order.specs.Laws.{ordering-keeps-length}
 use Rattle.sheet.specs.Sheet.{Network, accepted, readSheet}
 use Rattle.sheet.specs.SheetTheorem.{IsNetwork}
+use Rattle.report.specs.Report.{lines, reportOf}
 use Rattle.report.specs.Shown.{Named, AllNamed, Links as Linked, Owners, Paired, no-pair, shownBy}
-use Rattle.planner.specs.Small.{pairs-are-sound, few-links, total-within, a-report-is-small}
-use Rattle.planner.specs.Shows.{starts, stops, ranges, trimmed, Works, planBy, the-lists-show-the-plan}
+use Rattle.planner.specs.Outcome.{Reporter}
+use Rattle.planner.specs.Figures.{Figures, Showable, terminal, halves, pairsBy, planShowing, halves-can-be-shown, the-report-shows-halves}
+use Rattle.planner.specs.Small.{few-links, pairs-shown-are-sound, total-shown-within, figures-are-small}
+use Rattle.planner.specs.Shows.{starts, stops, ranges, Works, planBy, the-lists-show-the-figures}
 use Rattle.planner.specs.Taken.{padded-length, the-network-is-given, the-links-are-the-networks}
-use Rattle.planner.specs.Ready.{TakenApart, Charted, Ready}
+use Rattle.planner.specs.Ready.{TakenApart, Charted, ReadyBy, Ready}
 
-module _ {s : List ℕ} {net : Network} (N : IsNetwork edition1 s net) where
+module _ {s : List ℕ} {net : Network} (N : IsNetwork edition1 s net) (f : Figures) (h : Showable net f) (short : length (f .word) ≤ 5) where
   abbrev size : ℕ
   size = length (net .names)
 
   abbrev ls : Links
   ls = net .links
 
-  abbrev c : ℕ → ℕ
-  c = look (net .capacities)
-
-  abbrev terminal : ℕ → ℕ
-  terminal = look (ends ls size)
-
-  abbrev t : ℕ → ℕ
-  t = look (trimmed net)
-
   -- ---- names
 
   sites-are-named : AllNamed s (starts net) (stops net) size
-  sites-are-named v l h =
+  sites-are-named v l k =
       let i = v - 1 in
       let range = N .names i (omega arith) in
       let e = ranges net i in
@@ -77,13 +69,13 @@ module _ {s : List ℕ} {net : Network} (N : IsNetwork edition1 s net) where
 
   -- ---- links
 
-  links-join-named-sites : Linked s (starts net) (stops net) (map (λ l. l .0) ls) (map (λ l. l .1) ls) (net .capacities) (trimmed net)
+  links-join-named-sites : Linked s (starts net) (stops net) (map (λ l. l .0) ls) (map (λ l. l .1) ls) (net .capacities) (f .shown)
   links-join-named-sites =
       let o = length-map ls (λ l. l .0) in
       record {
         twos-length = length-map ls (λ l. l .1) ∙ sym o;
         capacities-length = N .capacities ∙ sym o;
-        shown-length = balanced-has-each-link (N .tree) terminal (net .capacities) ∙ sym o;
+        shown-length = h .each-link ∙ sym o;
         named = λ j l. let k : j < length ls = omega arith in
             rw (List·getD-map (λ l. l .0) ls j (0, 0), List·getD-map (λ l. l .1) ls j (0, 0))
             (named-site (one ls j) (N .tree .ends j k .0), named-site (two ls j) (N .tree .ends j k .1));
@@ -91,7 +83,7 @@ module _ {s : List ℕ} {net : Network} (N : IsNetwork edition1 s net) where
 
   -- ---- pairs
 
-  pairs-join-named-sites : (es : List Pair) → Each (Route ls size terminal) es → (i : ℕ) → i < length es
+  pairs-join-named-sites : (es : List Pair) → Each (Route ls size (terminal net)) es → (i : ℕ) → i < length es
       → Named s (starts net) (stops net) (getD es i no-pair .first) × Named s (starts net) (stops net) (getD es i no-pair .second)
   pairs-join-named-sites [] r i l = absurd (omega arith)
   pairs-join-named-sites (e ∷ es) r zero l = (named-site (e .first) (r .0 .first-site), named-site (e .second) (r .0 .second-site))
@@ -99,36 +91,17 @@ module _ {s : List ℕ} {net : Network} (N : IsNetwork edition1 s net) where
 
   -- ---- all of it
 
-  module _ (marks : List ℕ) (cuts : Owned) (ps : Pairs)
-      (marked : look marks ≡ terminal)
-      (cut : cuts ≡ owned ls size terminal c t)
-      (listed : take (ps .count) (ps .list) ≡ pairList ls size t terminal)
+  module _ {marks owners sizes counts before : List ℕ} (ps : Pairs) (w : Works net f marks owners sizes counts before (take (ps .count) (ps .list)))
+      (places : (SITES ≤ length owners) × (SITES ≤ length sizes) × (SITES ≤ length counts))
       (held : ps .count ≤ length (ps .list)) where
-    place : (f : ℕ → ℕ) (i : ℕ) → i < size → look (places size f) i ≡ f (1 + i)
-    place f i l = look-places f size i l ∙ ap f (sym (one-add i))
-
-    terminal-place : (f : ℕ → ℕ) (i : ℕ) → i < size → terminal (1 + i) ≡ 1 → look (places size (ofTerminal terminal f)) i ≡ f (1 + i)
-    terminal-place f i l e = place (ofTerminal terminal f) i l ∙ of-terminal terminal f (1 + i) e
-
-    works : Works net marks (cuts .owner) (cuts .size) (cuts .count) (take (ps .count) (ps .list))
-    unfolding owned
-    works = record {
-      marked = marked;
-      own = λ i l. rw cut (place (owner ls c t terminal size) i l);
-      cut = λ i l e. rw cut (terminal-place (cutSize ls c t) i l e);
-      members = λ i l e. rw cut (terminal-place (cutCount ls c t size) i l e);
-      paired = listed;
-    }
-
     pairs-are-few : ps .count ≤ length ls
-    pairs-are-few = omega (arith, pairs-are-sound N .few, ap length listed, length-take-le (ps .count) (ps .list) held)
+    pairs-are-few = omega (arith, pairs-shown-are-sound N f h .few, ap length (w .paired), length-take-le (ps .count) (ps .list) held)
 
-    owners-are-named : Owners s (starts net) (stops net) (cuts .owner) size
-    unfolding owned
+    owners-are-named : Owners s (starts net) (stops net) owners size
     owners-are-named = record {
-      held = rw cut (omega (arith, length-places (owner ls c t terminal size) size (N .few), N .few));
-      named = λ i l d. rw (works .own i l) (elim (owner-or-none ls c t terminal (1 + i) size) [
-        | inl r ↦ absurd (d (works .own i l ∙ r .0))
+      held = omega (arith, places .0, N .few);
+      named = λ i l d. rw (w .own i l) (elim (h .owned (1 + i) (omega arith, omega arith)) [
+        | inl r ↦ absurd (d (w .own i l ∙ r))
         | inr r ↦ named-site _ (r .0)
       ]);
     }
@@ -138,34 +111,74 @@ module _ {s : List ℕ} {net : Network} (N : IsNetwork edition1 s net) where
       few = omega (arith, pairs-are-few, few-links N);
       held = held;
       named = λ i l.
-          let named = pairs-join-named-sites (pairList ls size t terminal) (pairs-are-sound N .routes) i
-          (omega (arith, ap length listed, length-take-le (ps .count) (ps .list) held)) in
-          rw (← listed, getD-take (ps .count) (ps .list) i no-pair l) at named;
+          let named = pairs-join-named-sites (pairsBy net f) (pairs-shown-are-sound N f h .routes) i
+          (omega (arith, ap length (w .paired), length-take-le (ps .count) (ps .list) held)) in
+          rw (← (w .paired), getD-take (ps .count) (ps .list) i no-pair l) at named;
     }
 
-    the-report-is-ready : readSheet edition1 s ≡ accepted net
-        → Ready s (starts net) (stops net) (planBy net s marks (cuts .owner) (cuts .size) (cuts .count) ps) ps
-    unfolding owned
-    the-report-is-ready read =
-        let shows = the-lists-show-the-plan net s ps works in
+    figures-are-ready : {text : Reporter} → text s net ≡ reportOf (planShowing net s f) → readSheet edition1 s ≡ accepted net
+        → ReadyBy text s (starts net) (stops net) (planBy net f s marks owners sizes counts before ps) ps
+    figures-are-ready told read =
+        let shows = the-lists-show-the-figures net f s ps w in
         record {
           net = net;
           read = read;
-          shows = shows;
+          shows = shows ∙ sym told;
           writable = record {
             few = N .few;
             named = sites-are-named;
             linked = links-join-named-sites;
             owned = owners-are-named;
-            sized = rw cut (omega (arith, length-places (ofTerminal terminal (cutSize ls c t)) size (N .few), N .few));
-            counted = rw cut (omega (arith, length-places (ofTerminal terminal (cutCount ls c t size)) size (N .few), N .few));
+            sized = omega (arith, places .1, N .few);
+            counted = omega (arith, places .2, N .few);
             paired = pairs-can-be-written;
-            small = rw listed (total-within N);
-            room = rw shows (omega (arith, a-report-is-small N));
+            small = rw (w .paired) (total-shown-within N f h);
+            room = rw shows (omega (arith, figures-are-small N f h short));
           };
         }
 
--- the lists of an accepted sheet, and what is worked out of them
+-- ---- in halves
+
+module _ {s : List ℕ} {net : Network} (N : IsNetwork edition1 s net) where
+  abbrev count : ℕ
+  count = length (net .names)
+
+  abbrev c : ℕ → ℕ
+  c = look (net .capacities)
+
+  abbrev t : ℕ → ℕ
+  t = look (halves net .shown)
+
+  place : (g : ℕ → ℕ) (i : ℕ) → i < count → look (places count g) i ≡ g (1 + i)
+  place g i l = look-places g count i l ∙ ap g (sym (one-add i))
+
+  terminal-place : (g : ℕ → ℕ) (i : ℕ) → i < count → terminal net (1 + i) ≡ 1 → look (places count (ofTerminal (terminal net) g)) i ≡ g (1 + i)
+  terminal-place g i l e = place (ofTerminal (terminal net) g) i l ∙ of-terminal (terminal net) g (1 + i) e
+
+  halves-are-worked-out : (marks : List ℕ) (cuts : Owned) (ps : List Pair) → look marks ≡ terminal net
+      → cuts ≡ owned (net .links) count (terminal net) c t → ps ≡ pairsBy net (halves net)
+      → Works net (halves net) marks (cuts .owner) (cuts .size) (cuts .count) [] ps
+  unfolding owned lines
+  halves-are-worked-out marks cuts ps marked cut listed = record {
+    marked = marked;
+    own = λ i l. rw cut (place (owner (net .links) c t (terminal net) count) i l);
+    cut = λ i l e. rw cut (terminal-place (cutSize (net .links) c t) i l e);
+    members = λ i l e. rw cut (terminal-place (cutCount (net .links) c t count) i l e);
+    lined = refl;
+    paired = listed;
+  }
+
+-- there is a place for each site in the lists of cuts
+owned-has-places : (ls : Links) (n : ℕ) (terminal c t : ℕ → ℕ) → n ≤ SITES → (cuts : Owned) → cuts ≡ owned ls n terminal c t
+    → (SITES ≤ length (cuts .owner)) × (SITES ≤ length (cuts .size)) × (SITES ≤ length (cuts .count))
+unfolding owned
+owned-has-places ls n terminal c t few cuts e = rw e (
+  omega (arith, length-places (owner ls c t terminal n) n few),
+  omega (arith, length-places (ofTerminal terminal (cutSize ls c t)) n few),
+  omega (arith, length-places (ofTerminal terminal (cutCount ls c t n)) n few),
+)
+
+-- the lists of an accepted sheet, and what is worked out of them in halves
 pub what-is-worked-out-is-ready : {s starting stopping : List ℕ} {n : ℕ} {one two c : List ℕ} → TakenApart s starting stopping n one two c
     → (shown marks : List ℕ) (cuts : Owned) (ps : Pairs)
     → look marks ≡ look (ends (links one two) n)
@@ -176,9 +189,13 @@ pub what-is-worked-out-is-ready : {s starting stopping : List ℕ} {n : ℕ} {on
     → Ready s starting stopping (shownBy (bytes "plan") [] s starting stopping n one two c shown marks (cuts .owner) (cuts .size) (cuts .count) ps) ps
 what-is-worked-out-is-ready {s} {starting} {stopping} {n} {one} {two} {c} a shown marks cuts ps marked =
     let ls = the-links-are-the-networks a in
-    let told : look marks ≡ look (ends (a .net .links) (length (a .net .names))) = rw (ls, a .counted) at marked in
+    let N = the-network-is-given a in
+    let told : look marks ≡ terminal (a .net) = rw (ls, a .counted) at marked in
     rw (ls, told, a .counted, a .sizes, a .started, a .stopped, a .firsts, a .seconds) (λ e. rw e (λ cut listed held.
-    the-report-is-ready (the-network-is-given a) marks cuts ps told cut listed held (a .read)))
+    figures-are-ready N (halves (a .net)) (halves-can-be-shown (a .net) (N .tree)) (omega arith) ps
+    (halves-are-worked-out N marks cuts (take (ps .count) (ps .list)) told cut listed)
+    (owned-has-places (a .net .links) (length (a .net .names)) (terminal (a .net)) (look (a .net .capacities)) (look (halves (a .net) .shown)) (N .few) cuts cut)
+    held (the-report-shows-halves (a .net) s) (a .read)))
 
 -- ---- from what the inner functions promise
 
