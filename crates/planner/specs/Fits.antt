@@ -39,20 +39,21 @@ room-enough p room e l = by (leb REPORT room) refl e
     by true q r = omega (arith, leb-true REPORT room q)
     by false q r = leb-true _ _ r
 
-module _ {text : Reporter} {s starting stopping : List ℕ} {p : Plan} {pairs : Pairs} (r : ReadyBy text s starting stopping p pairs) where
-  -- a report that is longer than the buffer
-  pub too-long : (b : List ℕ) → length b < length (reportOf p) → plannedBy text edition1 s b ≡ record { outcome = Refused 9 0; buffer = b }
-  unfolding plannedBy planRead deliver
-  too-long b h = rw (r .read, lt-leb (length (text s (r .net))) (length b) (rw (r .shows) at h))
+-- a report that is longer than the buffer
+pub too-long : (r b : List ℕ) → length b < length r → deliver r b ≡ record { outcome = Refused 9 0; buffer = b }
+unfolding deliver
+too-long r b h = rw (lt-leb (length r) (length b) h)
 
-  -- a report that is written into a buffer long enough
-  pub long-enough : (b after : List ℕ) (k : ℕ) → length (reportOf p) ≤ length b → Wrote b 0 (reportOf p) after k
-      → plannedBy text edition1 s b ≡ record { outcome = Report k; buffer = after }
-  unfolding plannedBy planRead deliver
-  long-enough b after k h v =
-      let t = text s (r .net) in
-      let enough : length t ≤ length b = rw (r .shows) at h in
-      let w : Wrote b 0 t after k = rw (r .shows) at v in
-      let e : k ≡ length t = omega (arith, w .next) in
-      let a : after ≡ t ++ drop (length t) b = w .stored ∙ sets-eq t b 0 (omega arith) ∙ ap (λ i. t ++ drop i b) (zero-add (length t)) in
-      rw (r .read, le-leb (length t) (length b) enough, e, a)
+-- a report that is written into a buffer long enough
+pub long-enough : (r b after : List ℕ) (k : ℕ) → length r ≤ length b → Wrote b 0 r after k → deliver r b ≡ record { outcome = Report k; buffer = after }
+unfolding deliver
+long-enough r b after k h w =
+    let e : k ≡ length r = omega (arith, w .next) in
+    let a : after ≡ r ++ drop (length r) b = w .stored ∙ sets-eq r b 0 (omega arith) ∙ ap (λ i. r ++ drop i b) (zero-add (length r)) in
+    rw (le-leb (length r) (length b) h, e, a)
+
+-- a report that stands ready is delivered
+pub ready-is-delivered : {text : Reporter} {s starting stopping : List ℕ} {p : Plan} {pairs : Pairs} → ReadyBy text s starting stopping p pairs → (b : List ℕ)
+    → deliver (reportOf p) b ≡ plannedBy text edition1 s b
+unfolding plannedBy planRead
+ready-is-delivered r b = rw (r .read, r .shows) refl

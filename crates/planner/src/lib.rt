@@ -1,13 +1,12 @@
 // Planning a sheet.
 ghost use mathlib.Core.Path.{_≡_};
-ghost use mathlib.Core.List.{[]};
 ghost use Prim.Native.Nat.{_≤_};
 ghost use lib.ListN.{length};
 ghost use Rattle.model.specs.Edition.{edition1};
-ghost use Rattle.model.specs.Text.{bytes};
-ghost use Rattle.report.specs.Shown.{shownBy};
-ghost use Rattle.planner.specs.Outcome.{planned, answered};
-ghost use Rattle.planner.specs.Ready.{TakenApart, Charted, Ready};
+ghost use Rattle.report.specs.Report.{reportOf};
+ghost use Rattle.report.specs.Shown.{shownBy, CanWrite};
+ghost use Rattle.planner.specs.Outcome.{deliver, planned, answered};
+ghost use Rattle.planner.specs.Ready.{TakenApart, Charted};
 ghost use Rattle.planner.specs.Taken.{Listed};
 ghost use Rattle.planner.specs.Fits.{fits};
 use model::CHAINS;
@@ -26,6 +25,8 @@ pub enum Outcome {
 
 // Whether the report of lists goes into so many bytes. Its length is measured only where there are fewer than the longest report has.
 fn fits(
+    word: &[u8],
+    before: &[u8],
     sheet: &[u8],
     start: &[usize],
     end: &[usize],
@@ -33,7 +34,7 @@ fn fits(
     one: &[usize],
     two: &[usize],
     capacity: &[u64],
-    trimmed: &[u64],
+    shown: &[u64],
     ends: &[u8; PLACES],
     owner: &[usize],
     size: &[u64],
@@ -41,20 +42,20 @@ fn fits(
     pairs: Pairs,
     room: usize,
 ) -> bool
-    requires { ⌜ Ready (now sheet) (now start) (now end)
-        (shownBy (bytes "plan") [] (now sheet) (now start) (now end) n (now one) (now two) (now capacity) (now trimmed) (now ends) (now owner) (now size)
+    requires { ⌜ CanWrite (now sheet) (now start) (now end)
+        (shownBy (now word) (now before) (now sheet) (now start) (now end) n (now one) (now two) (now capacity) (now shown) (now ends) (now owner) (now size)
         (now count) pairs) pairs ⌝ }
-    ensures { λ r. ⌜ r ≡ fits (shownBy (bytes "plan") [] (now (sheet .entry)) (now (start .entry)) (now (end .entry)) n
-        (now (one .entry)) (now (two .entry)) (now (capacity .entry)) (now (trimmed .entry)) (now (ends .entry)) (now (owner .entry)) (now (size .entry))
-        (now (count .entry)) pairs) room ⌝ }
+    ensures { λ r. ⌜ r ≡ fits
+        (shownBy (now (word .entry)) (now (before .entry)) (now (sheet .entry)) (now (start .entry)) (now (end .entry)) n (now (one .entry)) (now (two .entry))
+        (now (capacity .entry)) (now (shown .entry)) (now (ends .entry)) (now (owner .entry)) (now (size .entry)) (now (count .entry)) pairs) room ⌝ }
 {
     if REPORT <= room {
         return true;
     }
     let mut none = [0u8; 1];
     let length = report::write(
-        b"plan",
-        b"",
+        word,
+        before,
         sheet,
         start,
         end,
@@ -62,7 +63,7 @@ fn fits(
         one,
         two,
         capacity,
-        trimmed,
+        shown,
         ends,
         owner,
         size,
@@ -75,6 +76,8 @@ fn fits(
 
 // The report of lists into the buffer; a buffer too short for it keeps its bytes.
 fn deliver(
+    word: &[u8],
+    before: &[u8],
     sheet: &[u8],
     start: &[usize],
     end: &[usize],
@@ -82,7 +85,7 @@ fn deliver(
     one: &[usize],
     two: &[usize],
     capacity: &[u64],
-    trimmed: &[u64],
+    shown: &[u64],
     ends: &[u8; PLACES],
     owner: &[usize],
     size: &[u64],
@@ -90,14 +93,20 @@ fn deliver(
     pairs: Pairs,
     report: &mut [u8],
 ) -> Outcome
-    requires { ⌜ Ready (now sheet) (now start) (now end)
-        (shownBy (bytes "plan") [] (now sheet) (now start) (now end) n (now one) (now two) (now capacity) (now trimmed) (now ends) (now owner) (now size)
+    requires { ⌜ CanWrite (now sheet) (now start) (now end)
+        (shownBy (now word) (now before) (now sheet) (now start) (now end) n (now one) (now two) (now capacity) (now shown) (now ends) (now owner) (now size)
         (now count) pairs) pairs ⌝ }
-    ensures told { λ r. ⌜ r ≡ planned edition1 (now (sheet .entry)) (now (report .entry)) .outcome ⌝ }
-    ensures left { λ r. ⌜ now (report .exit) ≡ planned edition1 (now (sheet .entry)) (now (report .entry)) .buffer ⌝ }
+    ensures told { λ r. ⌜ r ≡ deliver (reportOf
+        (shownBy (now (word .entry)) (now (before .entry)) (now (sheet .entry)) (now (start .entry)) (now (end .entry)) n (now (one .entry)) (now (two .entry))
+        (now (capacity .entry)) (now (shown .entry)) (now (ends .entry)) (now (owner .entry)) (now (size .entry)) (now (count .entry)) pairs)) (now (report .entry)) .outcome ⌝ }
+    ensures left { λ r. ⌜ now (report .exit) ≡ deliver (reportOf
+        (shownBy (now (word .entry)) (now (before .entry)) (now (sheet .entry)) (now (start .entry)) (now (end .entry)) n (now (one .entry)) (now (two .entry))
+        (now (capacity .entry)) (now (shown .entry)) (now (ends .entry)) (now (owner .entry)) (now (size .entry)) (now (count .entry)) pairs)) (now (report .entry)) .buffer ⌝ }
 {
     let room = report.len();
     if fits(
+        word,
+        before,
         sheet,
         start,
         end,
@@ -105,7 +114,7 @@ fn deliver(
         one,
         two,
         capacity,
-        trimmed,
+        shown,
         ends,
         owner,
         size,
@@ -114,8 +123,8 @@ fn deliver(
         room,
     ) {
         let length = report::write(
-            b"plan",
-            b"",
+            word,
+            before,
             sheet,
             start,
             end,
@@ -123,7 +132,7 @@ fn deliver(
             one,
             two,
             capacity,
-            trimmed,
+            shown,
             ends,
             owner,
             size,
@@ -167,6 +176,8 @@ fn plan_charted(
     let made = pairing_walk::decompose(n, ends, last, before, one, two, trimmed);
     let pairs = pairing_order::ordered(made);
     deliver(
+        b"plan",
+        b"",
         sheet,
         start,
         end,

@@ -1,5 +1,6 @@
 -- `plan_charted` meets its contract: the balanced capacities keep the promise of trimming, so they can be walked, and what is worked out is ready.
 use mathlib.Core.Path.{_≡_, sym, ap, _∙_}
+use mathlib.Core.List.{[]}
 use Prim.Native.Nat.{ℕ}
 use native.Mathlib.Omega.{arith}
 use lib.ListN.{length, take, length-replicate}
@@ -8,11 +9,15 @@ use Rattle.model.specs.Limits.{SITES}
 use Rattle.lists.specs.Numbers.{look}
 use Rattle.model.specs.Trimming.{balanced}
 use Rattle.model.specs.Pairing.{pairList}
+use Rattle.model.specs.Text.{bytes}
 use Rattle.tree.specs.Offer.{links}
 use Rattle.trimming.specs.Promise.{Promise}
 use Rattle.cuts_groups.specs.Places.{length-places}
 use Rattle.cuts_groups.specs.Steps.{owned}
 use Rattle.tree_links.specs.Chains.{offer-placed, offer-limited}
+use Rattle.report.specs.Shown.{shownBy}
+use Rattle.planner.specs.Fits.{ready-is-delivered}
+use Rattle.planner.specs.Ready.{Ready}
 use Rattle.planner.specs.Taken.{the-network-is-a-tree-within}
 use Rattle.planner.specs.Works.{the-front-keeps-the-promise, the-promised-can-be-walked, pairs-in-order, what-is-worked-out-is-ready}
 use Rattle.planner.proofs.plan_charted.Statement.{statement}
@@ -49,24 +54,41 @@ decompose-requires c κs =
     let s = balanced .before .before .before .before .before .before .before .before .before in
     the-promised-can-be-walked (the-network-is-a-tree-within (s .pre .0)) (s .pre .1) _ (promised balanced .1)
 
-slice-aggregate-deliver-3 : tie.Need-slice-aggregate-deliver-3
+-- the lists of cuts have a place for each site
+places-of : (c : tie.After-cuts-of) → (length (c .cuts-of .result .owner) ≡ SITES) × (length (c .cuts-of .result .size) ≡ SITES)
+    × (length (c .cuts-of .result .count) ≡ SITES)
 unfolding owned
-slice-aggregate-deliver-3 c =
-    let cut = c .before .before .before .before .before .before .before .before in
-    let s = cut .before .before .before .before .before .before .before .before .before .before .before .before in
-    sym (ap (λ o. length (o .count)) (cut .cuts-of .ensures) ∙ length-places _ (s .args .n) (the-network-is-a-tree-within (s .pre .0) .few))
+places-of c =
+    let s = c .before .before .before .before .before .before .before .before .before .before .before .before in
+    let few = the-network-is-a-tree-within (s .pre .0) .few in
+    rw (c .cuts-of .ensures) (length-places _ (s .args .n) few, length-places _ (s .args .n) few, length-places _ (s .args .n) few)
 
-deliver-requires : tie.Need-deliver-requires
+-- what is worked out stands ready
+ready : (c : tie.After-ordered) → let cut = c .before .before .before .before .before in
+    let s = cut .before .before .before .before .before .before .before .before .before .before .before .before in
+    let a = s .args in
+    let made = cut .cuts-of .result in
+    Ready (a .sheet .now) (a .start .now) (a .end .now)
+    (shownBy (bytes "plan") [] (a .sheet .now) (a .start .now) (a .end .now) (a .n) (a .one .now) (a .two .now) (a .capacity .now)
+    (take (length (a .one .now)) (cut .before .before .before .balance .last .1 .1 .1 .1 .1 .1 .1 .1 .0)) (a .ends .now) (made .owner) (made .size) (made .count)
+    (c .ordered .result)) (c .ordered .result)
 unfolding pairList
-deliver-requires c κs =
-    let paired = c .before .before .before .before in
-    let cut = paired .before .before .before .before .before in
+ready c =
+    let cut = c .before .before .before .before .before in
     let balanced = cut .before .before .before in
     let s = balanced .before .before .before .before .before .before .before .before .before in
-    let listed =
-    pairs-in-order _ (paired .before .decompose .result) (paired .ordered .result) (paired .before .decompose .ensures) (paired .ordered .ensures) in
-    what-is-worked-out-is-ready (s .pre .0) _ (s .args .ends .now) (cut .cuts-of .result) (paired .ordered .result)
+    let listed = pairs-in-order _ (c .before .decompose .result) (c .ordered .result) (c .before .decompose .ensures) (c .ordered .ensures) in
+    what-is-worked-out-is-ready (s .pre .0) _ (s .args .ends .now) (cut .cuts-of .result) (c .ordered .result)
     (s .pre .1 .marked) (promised balanced .0) (cut .cuts-of .ensures) (listed .0) (listed .1)
+
+deliver-requires : tie.Need-deliver-requires
+deliver-requires c κs = ready (c .before .before .before .before .before .before) .writable
+
+returns : tie.Need-returns
+returns c =
+    let made = c .before .before in
+    let e = ready-is-delivered (ready (made .before .before .before .before .before .before .before)) _ in
+    (made .deliver .ensures .0 ∙ ap (λ p. p .outcome) e, made .deliver .ensures .1 ∙ ap (λ p. p .buffer) e)
 
 pub plan-charted-spec : {M : Type 1} → statement M
 plan-charted-spec =
@@ -81,7 +103,9 @@ plan-charted-spec =
     (λ c κs. search needs)
     (λ c. search needs)
     (λ c. search needs)
-    slice-aggregate-deliver-3
+    (λ c. sym (places-of (c .before .before .before .before .before .before .before .before) .0))
+    (λ c. sym (places-of (c .before .before .before .before .before .before .before .before .before) .1))
+    (λ c. sym (places-of (c .before .before .before .before .before .before .before .before .before .before) .2))
     deliver-requires
     (λ c. search needs)
-    (λ c. search needs))
+    returns)
