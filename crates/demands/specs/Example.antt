@@ -28,11 +28,12 @@ what-it-says : readReport sheet net worked ≡ record {
   pairCount = 2;
   links = (1, 2) ∷ (1, 3) ∷ (1, 4) ∷ [];
   sizes = 5 ∷ 1 ∷ 1 ∷ [];
-  trimmed = 2 ∷ 1 ∷ 1 ∷ [];
+  shown = 2 ∷ 1 ∷ 1 ∷ [];
   sites = 1 ∷ 2 ∷ 3 ∷ 4 ∷ [];
   owners = 2 ∷ 2 ∷ 3 ∷ 4 ∷ [];
   dashes = 0 ∷ 0 ∷ 0 ∷ 0 ∷ [];
   sets = record { end = 2; size = 2; count = 2 } ∷ record { end = 3; size = 1; count = 1 } ∷ record { end = 4; size = 1; count = 1 } ∷ [];
+  pieces = [];
   plan = record { first = 2; second = 3; amount = 2 } ∷ record { first = 2; second = 4; amount = 2 } ∷ [];
 }
 unfolding readReport readRecords records linesOf headed dash siteNamed siteFound lookupFrom same push fields valueFrom

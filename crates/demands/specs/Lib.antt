@@ -8,6 +8,7 @@ pub mod Parsing
 pub mod Records
 pub mod Names
 pub mod ReadBack
+pub mod Agree
 pub mod Sets
 pub mod Refusals
 pub mod Outcomes

@@ -16,7 +16,7 @@ use Rattle.sheet_kinds.specs.LineKinds.{siteLine as sheetSite, sizedLink, linkL
 use Rattle.sheet.specs.Sheet.{lookupFrom, siteStep, linkStep, headingStep, recordStep, stepOf, readLine, andThen, readLines, allJoined, finish, readSheet}
 use Rattle.report.specs.Report.{digits, decimal, line, lines, planOf, ownerName, headRecord, linkRecord, linkLine, siteRecord, siteLine, cutRecord, cutLine}
 use Rattle.report.specs.Report.{pairLine, reportOf, report}
-use Rattle.planner.specs.Outcome.{Planned, deliver, planRead, planned}
+use Rattle.planner.specs.Outcome.{Planned, deliver, planRead, plannedBy, planned}
 use Rattle.planner.specs.declared.Outcome.the-variants.{Report}
 use Rattle.nine.specs.Sheets.{Example, sheets}
 
@@ -29,7 +29,7 @@ expected : Example → Planned
 expected e = record { outcome = Report (length (e .report)); buffer = e .report }
 
 nine-sheets : map plannedFor sheets ≡ map expected sheets
-unfolding plannedFor expected planned planRead deliver ℕ-discrete decLe decLt pick is differ less sum over count upfrom at sumAt leaf ends relabel label joined
+unfolding plannedFor expected plannedBy planRead deliver ℕ-discrete decLe decLt pick is differ less sum over count upfrom at sumAt leaf ends relabel label joined
     total cutAt cutSite cutSites unvisited first remove taken elimination balancedAlong balanced kept group inCut cutSize cutCount ownerAmong owner put
     takeHalves dropHalves halves give match joins between children gather alone settle walk pairsFrom lowestInner pairs lowerFirst before insert ordered
     pairList lineLength lineAt afterLine hasLine same push fields all isName isNumber valueFrom isHeading checkedFields checked faultOf judged

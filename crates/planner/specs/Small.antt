@@ -82,11 +82,11 @@ module _ {s : List ℕ} {net : Network} (N : IsNetwork edition1 s net) where
       sizes-within,
     )
 
-    plan-is-small : length (f .word) ≤ 5 → Small (planShowing net s f)
-    plan-is-small short =
+    plan-is-small : Small (planShowing net s f)
+    plan-is-small =
         let links = length-map ls (λ l. l .0) in
         record {
-          word = short;
+          word = h .short;
           before = odd-lines-are-short (f .pieces) (h .one-piece-line) (each-map _ _ (λ k q. omega (arith, N .few)) (f .pieces) (h .few-pieces));
           name = name-or-nothing N (λ f. length f ≤ 12) (λ f e. name-length f e .1) (omega arith);
           sites-few = N .few;
@@ -100,8 +100,8 @@ module _ {s : List ℕ} {net : Network} (N : IsNetwork edition1 s net) where
           total-small = total-shown-within;
         }
 
-    pub figures-are-small : length (f .word) ≤ 5 → length (reportOf (planShowing net s f)) ≤ REPORT
-    figures-are-small short = a-small-plan-has-a-small-report (planShowing net s f) (plan-is-small short)
+    pub figures-are-small : length (reportOf (planShowing net s f)) ≤ REPORT
+    figures-are-small = a-small-plan-has-a-small-report (planShowing net s f) plan-is-small
 
   -- ---- in halves
 
@@ -112,4 +112,4 @@ module _ {s : List ℕ} {net : Network} (N : IsNetwork edition1 s net) where
   total-within = total-shown-within (halves net) (halves-can-be-shown net (N .tree))
 
   pub a-report-is-small : length (report s net) ≤ REPORT
-  a-report-is-small = rw (the-report-shows-halves net s) (figures-are-small (halves net) (halves-can-be-shown net (N .tree)) (omega arith))
+  a-report-is-small = rw (the-report-shows-halves net s) (figures-are-small (halves net) (halves-can-be-shown net (N .tree)))
