@@ -1,5 +1,7 @@
 pub mod Demands
 pub mod Asked
+pub mod WholeDemands
+pub mod AskedWhole
 pub mod Printed
 pub mod Example
 pub mod Plans
@@ -13,3 +15,4 @@ pub mod Sets
 pub mod Refusals
 pub mod Outcomes
 pub mod Met
+pub mod WholeMet

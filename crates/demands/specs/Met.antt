@@ -64,6 +64,11 @@ pub figures-show-sheet : (net : Network) (f : Figures) → ShowsSheet (f .word) 
 unfolding figuresSay
 figures-show-sheet net f = record { heading = refl; links = refl; sizes = refl; sites-shown = refl }
 
+-- the `X` lines are those of the ends
+pub a-set-is-told-for-each-end : (net : Network) (f : Figures) → let ends = endsAmong (isEnd net) (sites (siteCount net)) in
+    map (λ x. x .end) (map (setBy f) ends) ≡ ends
+a-set-is-told-for-each-end net f = map-map _ _ (endsAmong (isEnd net) (sites (siteCount net))) ∙ map-own (endsAmong (isEnd net) (sites (siteCount net)))
+
 module _ {ed : Edition} {s : List ℕ} {net : Network} (N : IsNetwork ed s net) where
   abbrev O : Outer (net .links) (siteCount net) (isEnd net)
   O = ends-are-outer (N .tree)
@@ -78,11 +83,6 @@ module _ {ed : Edition} {s : List ℕ} {net : Network} (N : IsNetwork ed s net) 
     dash-or-end = λ x q. owners-are-told-or-dashes (siteCount net) (f .owner) x q (isEnd net) (h .owned x q);
     dash-is-none = a-dash-tells-no-owner (siteCount net) (f .owner);
   }
-
-  -- the `X` lines are those of the ends
-  pub a-set-is-told-for-each-end : (f : Figures) → map (λ x. x .end) (map (setBy f) (endsAmong (isEnd net) (sites (siteCount net))))
-      ≡ endsAmong (isEnd net) (sites (siteCount net))
-  a-set-is-told-for-each-end f = map-map _ _ (endsAmong (isEnd net) (sites (siteCount net))) ∙ map-own (endsAmong (isEnd net) (sites (siteCount net)))
 
   -- ---- the report in halves
 
@@ -115,7 +115,7 @@ module _ {ed : Edition} {s : List ℕ} {net : Network} (N : IsNetwork ed s net) 
         counted = refl;
         set-members = owners-tell-the-cuts T end greatest;
         dash-without-set = a-dash-tells-that-no-cut-holds-the-site T end greatest;
-        set-of-each-end = a-set-is-told-for-each-end (halves net);
+        set-of-each-end = a-set-is-told-for-each-end net (halves net);
         size-of-each-set = told-sets-are-owned T end (look (net .capacities)) (halves net) halves-tell-sets;
         sizes-sum = sizes-summed end (setBy (halves net)) (sites n) ∙ cut-sizes-sum-to-the-terminals T end greatest ∙ sym (full .sums);
       }

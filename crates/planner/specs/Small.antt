@@ -25,10 +25,11 @@ use Rattle.text_fields.specs.FieldLaws.{name-length}
 use Rattle.sheet_names.specs.Names.{nameAt}
 use Rattle.sheet.specs.Sheet.{Network}
 use Rattle.sheet.specs.SheetTheorem.{IsNetwork}
-use Rattle.report.specs.Report.{reportOf, report}
+use Rattle.report.specs.Report.{reportOf, report, wholeReport}
 use Rattle.report.specs.Length.{Small, odd-lines-are-short, a-small-plan-has-a-small-report}
-use Rattle.planner.specs.Figures.{Figures, terminal, halves, pairsBy, planShowing, the-report-shows-halves}
+use Rattle.planner.specs.Figures.{Figures, terminal, halves, wholes, pairsBy, planShowing, the-report-shows-halves, the-whole-report-shows-wholes}
 use Rattle.planner.specs.Figures.{Showable, figures-have-sound-pairs, halves-can-be-shown}
+use Rattle.planner.specs.WholeFigures.{wholes-can-be-shown}
 
 -- what is written for a number is the name of a site, or nothing
 pub name-or-nothing : {ed : Edition} {s : List ℕ} {net : Network} → IsNetwork ed s net → (P : List ℕ → Type 0)
@@ -113,3 +114,8 @@ module _ {s : List ℕ} {net : Network} (N : IsNetwork edition1 s net) where
 
   pub a-report-is-small : length (report s net) ≤ REPORT
   a-report-is-small = rw (the-report-shows-halves net s) (figures-are-small (halves net) (halves-can-be-shown net (N .tree)))
+
+  -- ---- in whole circuits
+
+  pub a-whole-report-is-small : length (wholeReport s net) ≤ REPORT
+  a-whole-report-is-small = rw (the-whole-report-shows-wholes net s) (figures-are-small (wholes net) (wholes-can-be-shown net (N .tree)))
