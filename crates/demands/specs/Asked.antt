@@ -1,7 +1,8 @@
 -- What is asked of the planner, stated: the three demands, of what planning tells, of what a report says and of what the program prints.
+-- Demand 1 is asked of either report; what else is asked of the report headed `whole` is in `AskedWhole`.
 -- That it all holds is in `Demands`. What a plan is, and how a report is read off its bytes, is in `Printed`; load, fits and total are in `Flows`,
 -- trimming (`balanced`) is in `Trimming`, end sets (`inCut`) in `Cuts`, reading a sheet (`readSheet`) in `Sheet`, the causes (`Refusal`) in `Causes`,
--- planning (`planned`) in `Outcome`.
+-- planning (`plannedBy`, with `planned` and `plannedWhole`) in `Outcome`.
 use mathlib.Core.Path.{_≡_}
 use mathlib.Core.Logic.{_≢_, _↔_, _⊎_}
 use mathlib.Core.List.{List, _++_, map}
@@ -22,9 +23,9 @@ use Rattle.sheet.specs.Causes.{Refusal}
 use Rattle.sheet.specs.Answers.{SheetNumber}
 use Rattle.sheet.specs.SheetTheorem.{IsNetwork}
 use Rattle.report.specs.Report.{report, refusalLine}
-use Rattle.planner.specs.Outcome.{Planned, number, lineOf, lengthOf, planned}
+use Rattle.planner.specs.Outcome.{Planned, number, lineOf, lengthOf, Reporter, plannedBy}
 use Rattle.demands.specs.Printed.{IsPlan, siteCount, isEnd, records, firstLine, endsAmong, Printed, readReport, numberRead, lineRead}
-use Rattle.demands.specs.Printed.{printedOwner, printedDash, setSize, sizeSum}
+use Rattle.demands.specs.Printed.{printedTrimmed, printedOwner, printedDash, setSize, sizeSum}
 
 -- ---- demand 1: a refusal with number and line and the buffer as it was, or a full report
 -- (that the code does just this, without harm and to an end, for sheets and buffers of any length and content, is the contract of `planner`)
@@ -47,20 +48,20 @@ pub record FullReport (r b : List ℕ) (p : Planned) : Type 0 where
 abbrev pub WithoutCause : Edition → List ℕ → Type 0
 WithoutCause ed s = (k l : ℕ) → ¬ (Refusal ed s k l)
 
--- what planning the sheet s into the buffer b comes to: the sheet is refused for a cause of its own, with that cause's number and line;
--- or it has no such cause, and its report is longer than the buffer; or it has no such cause and gets its full report
-pub data Demand1 (ed : Edition) (s b : List ℕ) : Type 0 where
-  faulty-sheet : (k l : ℕ) → readSheet ed s ≡ refused k l → Refusal ed s k l → SheetNumber k → Refused k l b (planned ed s b) → Demand1 ed s b
-  long-report : WithoutCause ed s → (net : Network) → readSheet ed s ≡ accepted net → length b < length (report s net) → Refused 9 0 b (planned ed s b)
-      → Demand1 ed s b
-  full-report : WithoutCause ed s → (net : Network) → readSheet ed s ≡ accepted net → length (report s net) ≤ length b
-      → FullReport (report s net) b (planned ed s b) → Demand1 ed s b
+-- what planning the sheet s into the buffer b comes to, with the text of either report: the sheet is refused for a cause of its own, with that cause's number
+-- and line; or it has no such cause, and its report is longer than the buffer; or it has no such cause and gets its full report
+pub data Demand1 (text : Reporter) (ed : Edition) (s b : List ℕ) : Type 0 where
+  faulty-sheet : (k l : ℕ) → readSheet ed s ≡ refused k l → Refusal ed s k l → SheetNumber k → Refused k l b (plannedBy text ed s b) → Demand1 text ed s b
+  long-report : WithoutCause ed s → (net : Network) → readSheet ed s ≡ accepted net → length b < length (text s net)
+      → Refused 9 0 b (plannedBy text ed s b) → Demand1 text ed s b
+  full-report : WithoutCause ed s → (net : Network) → readSheet ed s ≡ accepted net → length (text s net) ≤ length b
+      → FullReport (text s net) b (plannedBy text ed s b) → Demand1 text ed s b
 
 -- ---- demands 2 and 3, of a network and of what is printed for it
 
--- the report is headed `plan` and shows the sheet: the `L` lines are its links, with their sizes, and the `N` lines its sites, in its order
-pub record ShowsSheet (net : Network) (p : Printed) : Type 0 where
-  pub heading : p .heading ≡ bytes "plan"
+-- the report is headed by `word` and shows the sheet: the `L` lines are its links, with their sizes, and the `N` lines its sites, in its order
+pub record ShowsSheet (word : List ℕ) (net : Network) (p : Printed) : Type 0 where
+  pub heading : p .heading ≡ word
   pub links : p .links ≡ net .links
   pub sizes : p .sizes ≡ net .capacities
   pub sites-shown : p .sites ≡ sites (siteCount net)
@@ -80,14 +81,18 @@ pub record Demand2 (net : Network) (p : Printed) : Type 0 where
   pub counted : p .pairCount ≡ length (p .plan)
   -- the printed set of an end a is what a reaches over links whose printed trimmed size is below the given one
   pub set-members : (a x : ℕ) → Site (siteCount net) a → isEnd net a ≡ 1 → Site (siteCount net) x
-      → (printedOwner p x ≡ a) ↔ (inCut (net .links) (look (net .capacities)) (look (p .trimmed)) a x ≡ 1)
+      → (printedOwner p x ≡ a) ↔ (inCut (net .links) (look (net .capacities)) (printedTrimmed p) a x ≡ 1)
+  -- `-` exactly where no end set holds the site
+  pub dash-without-set : (x : ℕ) → Site (siteCount net) x
+      → (printedDash p x ≡ 1)
+      ↔ ((a : ℕ) → Site (siteCount net) a → isEnd net a ≡ 1 → inCut (net .links) (look (net .capacities)) (printedTrimmed p) a x ≢ 1)
   -- the `X` lines are those of the ends, with the size and the count of the printed set
   pub set-of-each-end : map (λ x. x .end) (p .sets) ≡ endsAmong (isEnd net) (sites (siteCount net))
   pub size-of-each-set : Each (λ x. (x .size ≡ setSize p (x .end)) × (x .count ≡ count (p .owners) (x .end))) (p .sets)
   -- the sizes sum to twice the total in circuits, that is to the printed total in halves
   pub sizes-sum : sizeSum (p .sets) ≡ p .total
 
--- the printed plan in order, and the printed owners
+-- the printed plan in order, and the printed owners; of either report
 pub record InOrder (net : Network) (p : Printed) : Type 0 where
   -- no amount is 0; the lower-numbered site stands first in each pair; the pairs ascend by first, then second
   pub positive : Each (λ e. 1 ≤ e .amount) (p .plan)
@@ -98,22 +103,18 @@ pub record InOrder (net : Network) (p : Printed) : Type 0 where
   pub dash-or-end : (x : ℕ) → Site (siteCount net) x
       → (printedDash p x ≡ 1) ⊎ (Site (siteCount net) (printedOwner p x) × (isEnd net (printedOwner p x) ≡ 1))
   pub dash-is-none : (x : ℕ) → Site (siteCount net) x → (printedDash p x ≡ 1) ↔ (printedOwner p x ≡ 0)
-  -- `-` exactly where no end set holds the site
-  pub dash-without-set : (x : ℕ) → Site (siteCount net) x
-      → (printedDash p x ≡ 1)
-      ↔ ((a : ℕ) → Site (siteCount net) a → isEnd net a ≡ 1 → inCut (net .links) (look (net .capacities)) (look (p .trimmed)) a x ≢ 1)
 
 -- the trimmed sizes
 pub record Demand3 (net : Network) (p : Printed) : Type 0 where
   -- whatever plan fits the link sizes, k parts to a circuit: its load on each link is at most that link's printed trimmed size
   pub bounded : (fs : List Pair) → IsPlan (siteCount net) (isEnd net) fs → (k : ℕ) → 1 ≤ k → Fits (net .links) k (look (net .capacities)) fs
-      → (j : ℕ) → j < length (net .links) → load (net .links) fs j ≤ k * look (p .trimmed) j
+      → (j : ℕ) → j < length (net .links) → load (net .links) fs j ≤ k * printedTrimmed p j
   -- the printed plan fits too, and its load, in halves, is twice the printed trimmed size on every link at once
   pub printed-plan : IsPlan (siteCount net) (isEnd net) (p .plan)
   pub printed-plan-fits : Fits (net .links) 2 (look (net .capacities)) (p .plan)
-  pub filled : (j : ℕ) → j < length (net .links) → load (net .links) (p .plan) j ≡ 2 * look (p .trimmed) j
+  pub filled : (j : ℕ) → j < length (net .links) → load (net .links) (p .plan) j ≡ 2 * printedTrimmed p j
   -- the printed trimmed sizes are those that trimming gives, of which two theorems in `Demands` speak
-  pub trimmed : p .trimmed ≡ balanced (net .links) (siteCount net) (isEnd net) (net .capacities)
+  pub trimmed : p .shown ≡ balanced (net .links) (siteCount net) (isEnd net) (net .capacities)
 
 -- ---- all of it, of the bytes told or printed
 
@@ -123,7 +124,7 @@ pub record IsReport (ed : Edition) (s r : List ℕ) : Type 0 where
   pub read : readSheet ed s ≡ accepted net
   pub network : IsNetwork ed s net
   pub whole : r ≡ report s net
-  pub shows-the-sheet : ShowsSheet net (readReport s net r)
+  pub shows-the-sheet : ShowsSheet (bytes "plan") net (readReport s net r)
   pub meets-demand-2 : Demand2 net (readReport s net r)
   pub is-in-order : InOrder net (readReport s net r)
   pub meets-demand-3 : Demand3 net (readReport s net r)
@@ -138,7 +139,8 @@ pub record IsRefusal (ed : Edition) (s r : List ℕ) : Type 0 where
   pub of-the-table : SheetNumber (numberRead r)
   pub whole : r ≡ refusalLine (numberRead r) (lineRead r)
 
--- what the program prints for the sheet s: its full report, where it has no cause of a refusal; or the line of its refusal, which is never 9
-pub data Prints (s r : List ℕ) : Type 0 where
-  a-full-report : WithoutCause edition1 s → IsReport edition1 s r → Prints s r
-  a-refusal : IsRefusal edition1 s r → Prints s r
+-- what a program prints for the sheet s: its full report, where it has no cause of a refusal; or the line of its refusal, which is never 9.
+-- What a full report is, Full says: `IsReport`, or `IsWholeReport` of the program `whole`
+pub data Prints (Full : Edition → List ℕ → List ℕ → Type 0) (s r : List ℕ) : Type 0 where
+  a-full-report : WithoutCause edition1 s → Full edition1 s r → Prints Full s r
+  a-refusal : IsRefusal edition1 s r → Prints Full s r

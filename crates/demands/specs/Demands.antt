@@ -13,6 +13,7 @@ use Rattle.model.specs.Edition.{edition1}
 use Rattle.lists.specs.Numbers.{look}
 use Rattle.model.specs.Flows.{Links, Tree, Fits, ends}
 use Rattle.model.specs.Trimming.{balanced}
+use Rattle.model.specs.Text.{bytes}
 use Rattle.model.specs.declared.Edition.{Edition}
 use Rattle.model.specs.declared.Pair.{Pair}
 use Rattle.lists.specs.Sums.{cases}
@@ -23,51 +24,52 @@ use Rattle.sheet.specs.Sheet.{Network, Read, refused, accepted, readSheet}
 use Rattle.sheet.specs.SheetTheorem.{an-accepted-sheet-is-a-tree}
 use Rattle.report.specs.Report.{report}
 use Rattle.planner.specs.Small.{a-report-is-small}
-use Rattle.planner.specs.Outcome.{number, planned, answered}
+use Rattle.planner.specs.Outcome.{number, Reporter, plannedBy, planned, answered}
 use Rattle.demands.specs.Printed.{IsPlan, bytesTold, printedBy, bytesPrinted}
 pub use Rattle.demands.specs.Asked.{Demand1, faulty-sheet, long-report, full-report, ShowsSheet, Demand2, InOrder, Demand3, IsReport}
 pub use Rattle.demands.specs.Asked.{Refused, FullReport, WithoutCause, IsRefusal, Prints, a-full-report, a-refusal}
 use Rattle.demands.specs.Met.{a-refused-sheet-meets-demand-1, a-long-report-meets-demand-1}
 use Rattle.demands.specs.Met.{a-delivered-report-meets-demand-1, plan-shows-sheet, plan-meets-demand-2, plan-is-in-order, plan-meets-demand-3}
-use Rattle.demands.specs.Met.{the-report-is-full, the-answer-is-asked-for}
+use Rattle.demands.specs.Met.{the-report-is-full, the-plan-is-printed, the-answer-is-asked-for}
 use Rattle.demands.specs.Plans.{same-plans-fit-iff-trimmed-agree}
-use Rattle.demands.specs.Outcomes.{report-too-long, report-delivered, the-report-is-told, the-plan-is-printed}
+use Rattle.demands.specs.Outcomes.{report-too-long, report-delivered, the-report-is-told}
 
 -- ---- demand 1
 
-module _ (ed : Edition) (s b : List ℕ) where
+-- with the text of either report
+module _ (text : Reporter) (ed : Edition) (s b : List ℕ) where
   -- for every edition, sheet and buffer: a sheet is refused for its cause, and every other sheet gets a full report, or 9 if that is longer than the buffer
-  pub demand-1 : Demand1 ed s b
+  pub demand-1 : Demand1 text ed s b
   demand-1 = by (readSheet ed s) refl
     where
-      by : (r : Read) → readSheet ed s ≡ r → Demand1 ed s b
-      by (refused k l) e = a-refused-sheet-meets-demand-1 ed s b k l e
-      by (accepted net) e = cases (decLe (length (report s net)) (length b))
-          (λ h. a-delivered-report-meets-demand-1 ed s b net e h)
-          (λ h. a-long-report-meets-demand-1 ed s b net e (omega arith))
+      by : (r : Read) → readSheet ed s ≡ r → Demand1 text ed s b
+      by (refused k l) e = a-refused-sheet-meets-demand-1 text ed s b k l e
+      by (accepted net) e = cases (decLe (length (text s net)) (length b))
+          (λ h. a-delivered-report-meets-demand-1 text ed s b net e h)
+          (λ h. a-long-report-meets-demand-1 text ed s b net e (omega arith))
 
   -- 9 is told exactly if the sheet is accepted and its report is longer than the buffer
-  pub nine-is-told-exactly-for-a-long-report : (number (planned ed s b .outcome) ≡ 9)
-      ↔ ((net : Network) × (readSheet ed s ≡ accepted net) × (length b < length (report s net)))
+  pub nine-is-told-exactly-for-a-long-report : (number (plannedBy text ed s b .outcome) ≡ 9)
+      ↔ ((net : Network) × (readSheet ed s ≡ accepted net) × (length b < length (text s net)))
   nine-is-told-exactly-for-a-long-report = (
     λ nine. elim demand-1 [
       | faulty-sheet k l e c known r ↦ absurd (known .not-nine (omega (arith, r .number-told)))
       | long-report c net e h r ↦ (net, e, h)
       | full-report c net e h r ↦ absurd (omega (arith, r .number-told))
     ],
-    λ h. ap (λ p. number (p .outcome)) (report-too-long ed s b (h .0) (h .1) (h .2)),
+    λ h. ap (λ p. number (p .outcome)) (report-too-long text ed s b (h .0) (h .1) (h .2)),
   )
 
   -- 0 is told exactly if the sheet is accepted and its report is no longer than the buffer
-  pub zero-is-told-exactly-for-a-full-report : (number (planned ed s b .outcome) ≡ 0)
-      ↔ ((net : Network) × (readSheet ed s ≡ accepted net) × (length (report s net) ≤ length b))
+  pub zero-is-told-exactly-for-a-full-report : (number (plannedBy text ed s b .outcome) ≡ 0)
+      ↔ ((net : Network) × (readSheet ed s ≡ accepted net) × (length (text s net) ≤ length b))
   zero-is-told-exactly-for-a-full-report = (
     λ zero-told. elim demand-1 [
       | faulty-sheet k l e c known r ↦ absurd (omega (arith, r .number-told))
       | long-report c net e h r ↦ absurd (omega (arith, r .number-told))
       | full-report c net e h r ↦ (net, e, h)
     ],
-    λ h. ap (λ p. number (p .outcome)) (report-delivered ed s b (h .0) (h .1) (h .2)),
+    λ h. ap (λ p. number (p .outcome)) (report-delivered text ed s b (h .0) (h .1) (h .2)),
   )
 
 -- every report on a sheet of edition 1 fits REPORT bytes, 65,536
@@ -99,13 +101,13 @@ trimming-gives-its-own-answer-back = balanced-again
 -- for every edition, sheet and buffer: where planning tells success, the bytes told are the full report
 pub a-success-is-a-full-report : (ed : Edition) (s b : List ℕ) → number (planned ed s b .outcome) ≡ 0 → IsReport ed s (bytesTold (planned ed s b))
 a-success-is-a-full-report ed s b success =
-    let h = zero-is-told-exactly-for-a-full-report ed s b .0 success in
-    rw (the-report-is-told ed s b (h .0) (h .1) success) (the-report-is-full ed s (h .0) (h .1))
+    let h = zero-is-told-exactly-for-a-full-report report ed s b .0 success in
+    rw (the-report-is-told report ed s b (h .0) (h .1) success) (the-report-is-full ed s (h .0) (h .1))
 
 -- its parts, for a network that is known
 module _ (ed : Edition) (s b : List ℕ) (net : Network) (read : readSheet ed s ≡ accepted net) (success : number (planned ed s b .outcome) ≡ 0) where
-  pub the-report-shows-the-sheet : ShowsSheet net (printedBy s net (planned ed s b))
-  the-report-shows-the-sheet = rw (the-plan-is-printed ed s b net read success) (plan-shows-sheet net)
+  pub the-report-shows-the-sheet : ShowsSheet (bytes "plan") net (printedBy s net (planned ed s b))
+  the-report-shows-the-sheet = rw (the-plan-is-printed ed s b net read success) (plan-shows-sheet (an-accepted-sheet-is-a-tree ed s net read))
 
   pub demand-2 : Demand2 net (printedBy s net (planned ed s b))
   demand-2 = rw (the-plan-is-printed ed s b net read success) (plan-meets-demand-2 (an-accepted-sheet-is-a-tree ed s net read))
@@ -116,11 +118,14 @@ module _ (ed : Edition) (s b : List ℕ) (net : Network) (read : readSheet ed s 
   pub demand-3 : Demand3 net (printedBy s net (planned ed s b))
   demand-3 = rw (the-plan-is-printed ed s b net read success) (plan-meets-demand-3 (an-accepted-sheet-is-a-tree ed s net read))
 
+the-report-is-full-and-fits : (s : List ℕ) (net : Network) → readSheet edition1 s ≡ accepted net → IsReport edition1 s (report s net) × (length (report s net) ≤ REPORT)
+the-report-is-full-and-fits s net read = (the-report-is-full edition1 s net read, a-report-fits-65536-bytes s net read)
+
 -- with a buffer of REPORT bytes or more: the program prints the full report of a sheet, or the line of its refusal for its cause, and never 9
-pub the-program-prints-a-full-report-or-the-cause : (s b : List ℕ) → REPORT ≤ length b → Prints s (bytesPrinted (answered edition1 s b))
-the-program-prints-a-full-report-or-the-cause s b room = the-answer-is-asked-for s b room .0
+pub the-program-prints-a-full-report-or-the-cause : (s b : List ℕ) → REPORT ≤ length b → Prints IsReport s (bytesPrinted (answered edition1 s b))
+the-program-prints-a-full-report-or-the-cause s b room = the-answer-is-asked-for report IsReport s b room (the-report-is-full-and-fits s) .0
 
 -- and prints as many bytes as the answer tells
 pub as-many-bytes-are-printed-as-told : (s b : List ℕ) → REPORT ≤ length b
     → length (bytesPrinted (answered edition1 s b)) ≡ answered edition1 s b .length
-as-many-bytes-are-printed-as-told s b room = the-answer-is-asked-for s b room .1
+as-many-bytes-are-printed-as-told s b room = the-answer-is-asked-for report IsReport s b room (the-report-is-full-and-fits s) .1

@@ -1,5 +1,7 @@
 pub mod Demands
 pub mod Asked
+pub mod WholeDemands
+pub mod AskedWhole
 pub mod Printed
 pub mod Example
 pub mod Plans
@@ -8,7 +10,9 @@ pub mod Parsing
 pub mod Records
 pub mod Names
 pub mod ReadBack
+pub mod Agree
 pub mod Sets
 pub mod Refusals
 pub mod Outcomes
 pub mod Met
+pub mod WholeMet

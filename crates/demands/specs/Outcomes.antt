@@ -1,4 +1,4 @@
--- What planning comes to, by the cases of its definition: the sheet refused, the report longer than the buffer, the report delivered.
+-- What planning comes to, by the cases of its definition, for either report: the sheet refused, the report longer than the buffer, the report delivered.
 -- And what the program prints of it: a report or the line of a refusal stands at the front of the buffer.
 use mathlib.Core.Path.{_≡_, sym, ap, _∙_}
 use mathlib.Core.List.{List, [], _∷_, _++_}
@@ -13,59 +13,53 @@ use Rattle.model.specs.Limits.{BYTES, REPORT}
 use Rattle.model.specs.declared.Edition.{Edition}
 use Rattle.lists.specs.Sums.{cases}
 use Rattle.sheet.specs.Sheet.{Network, refused, accepted, readSheet}
-use Rattle.sheet.specs.SheetTheorem.{an-accepted-sheet-is-a-tree}
 use Rattle.text_writers.specs.Decimal.{decimal-within, decimal-length}
-use Rattle.report.specs.Report.{decimal, line, report, refusalLine}
-use Rattle.planner.specs.Outcome.{number, deliver, planRead, planned, Answer, spelt, answered}
+use Rattle.report.specs.Report.{decimal, line, refusalLine}
+use Rattle.planner.specs.Outcome.{number, Reporter, deliver, planRead, plannedBy, Answer, spelt, answeredBy}
 use Rattle.planner.specs.declared.Outcome.the-variants.{Report, Refused}
-use Rattle.demands.specs.Printed.{readReport, bytesTold, printedBy, bytesPrinted}
-use Rattle.demands.specs.ReadBack.{planSays, report-read-back}
+use Rattle.demands.specs.Printed.{bytesTold, bytesPrinted}
 
-module _ (ed : Edition) (s b : List ℕ) where
-  pub sheet-refused : (k l : ℕ) → readSheet ed s ≡ refused k l → planned ed s b ≡ record { outcome = Refused k l; buffer = b }
-  unfolding planned planRead
+-- an answer in the buffer b that has the text r at its front
+abbrev pub fronted : List ℕ → List ℕ → Answer
+fronted b r = record { length = length r; buffer = r ++ drop (length r) b }
+
+pub the-front-is-printed : (b r : List ℕ) → bytesPrinted (fronted b r) ≡ r
+unfolding bytesPrinted
+the-front-is-printed b r = take-append-seam r (drop (length r) b)
+
+module _ (text : Reporter) (ed : Edition) (s b : List ℕ) where
+  pub sheet-refused : (k l : ℕ) → readSheet ed s ≡ refused k l → plannedBy text ed s b ≡ record { outcome = Refused k l; buffer = b }
+  unfolding plannedBy planRead
   sheet-refused k l e = rw e
 
   module _ (net : Network) (read : readSheet ed s ≡ accepted net) where
-    pub report-too-long : length b < length (report s net) → planned ed s b ≡ record { outcome = Refused 9 0; buffer = b }
-    unfolding planned planRead deliver
-    report-too-long l = rw (read, lt-leb (length (report s net)) (length b) l)
+    pub report-too-long : length b < length (text s net) → plannedBy text ed s b ≡ record { outcome = Refused 9 0; buffer = b }
+    unfolding plannedBy planRead deliver
+    report-too-long l = rw (read, lt-leb (length (text s net)) (length b) l)
 
-    pub report-delivered : length (report s net) ≤ length b
-        → planned ed s b ≡ record { outcome = Report (length (report s net)); buffer = report s net ++ drop (length (report s net)) b }
-    unfolding planned planRead deliver
-    report-delivered l = rw (read, le-leb (length (report s net)) (length b) l)
+    pub report-delivered : length (text s net) ≤ length b
+        → plannedBy text ed s b ≡ record { outcome = Report (length (text s net)); buffer = text s net ++ drop (length (text s net)) b }
+    unfolding plannedBy planRead deliver
+    report-delivered l = rw (read, le-leb (length (text s net)) (length b) l)
 
     -- where planning tells success, the bytes told are the report
-    pub the-report-is-told : number (planned ed s b .outcome) ≡ 0 → bytesTold (planned ed s b) ≡ report s net
+    pub the-report-is-told : number (plannedBy text ed s b .outcome) ≡ 0 → bytesTold (plannedBy text ed s b) ≡ text s net
     unfolding bytesTold
-    the-report-is-told success = cases (decLe (length (report s net)) (length b))
-        (λ l. rw (report-delivered l) (take-append-seam (report s net) (drop (length (report s net)) b)))
+    the-report-is-told success = cases (decLe (length (text s net)) (length b))
+        (λ l. rw (report-delivered l) (take-append-seam (text s net) (drop (length (text s net)) b)))
         (λ l. absurd (omega (arith, sym success ∙ ap (λ p. number (p .outcome)) (report-too-long (omega arith)))))
-
-    -- and what is printed is the plan
-    pub the-plan-is-printed : number (planned ed s b .outcome) ≡ 0 → printedBy s net (planned ed s b) ≡ planSays net
-    the-plan-is-printed success = ap (readReport s net) (the-report-is-told success) ∙ report-read-back (an-accepted-sheet-is-a-tree ed s net read)
 
   -- ---- what the program prints
 
-  -- an answer that has the text r at its front
-  abbrev pub fronted : List ℕ → Answer
-  fronted r = record { length = length r; buffer = r ++ drop (length r) b }
-
-  pub the-front-is-printed : (r : List ℕ) → bytesPrinted (fronted r) ≡ r
-  unfolding bytesPrinted
-  the-front-is-printed r = take-append-seam r (drop (length r) b)
-
-  pub report-answered : (net : Network) → readSheet ed s ≡ accepted net → length (report s net) ≤ length b → answered ed s b ≡ fronted (report s net)
-  unfolding answered spelt
+  pub report-answered : (net : Network) → readSheet ed s ≡ accepted net → length (text s net) ≤ length b → answeredBy text ed s b ≡ fronted b (text s net)
+  unfolding answeredBy spelt
   report-answered net read l = rw (report-delivered net read l)
 
-  pub refusal-answered : (k l : ℕ) → readSheet ed s ≡ refused k l → length (refusalLine k l) ≤ length b → answered ed s b ≡ fronted (refusalLine k l)
-  unfolding answered spelt
+  pub refusal-answered : (k l : ℕ) → readSheet ed s ≡ refused k l → length (refusalLine k l) ≤ length b → answeredBy text ed s b ≡ fronted b (refusalLine k l)
+  unfolding answeredBy spelt
   refusal-answered k l e h =
-      let text = refusalLine k l in
-      let stored : sets b 0 text ≡ text ++ drop (length text) b = sets-eq text b 0 (omega arith) ∙ ap (λ i. text ++ drop i b) (zero-add (length text)) in
+      let t = refusalLine k l in
+      let stored : sets b 0 t ≡ t ++ drop (length t) b = sets-eq t b 0 (omega arith) ∙ ap (λ i. t ++ drop i b) (zero-add (length t)) in
       rw (sheet-refused k l e, stored)
 
 -- the line of a refusal is shorter than a report may be

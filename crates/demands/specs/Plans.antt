@@ -6,7 +6,7 @@ use mathlib.Core.List.{List}
 use Prim.Native.Nat.{ℕ, _≤_, _<_}
 use native.Mathlib.Omega.{arith}
 use lib.ListN.{length}
-use Rattle.lists.specs.Numbers.{look, Each}
+use Rattle.lists.specs.Numbers.{look}
 use Rattle.lists.specs.Sums.{same?}
 use Rattle.model.specs.Flows.{Links, Tree, Route, Multiflow, Fits}
 use Rattle.model.specs.Trimming.{Greatest, balanced}
@@ -16,8 +16,8 @@ use Rattle.theory_trees.specs.Greatest.{balanced-is-greatest}
 use Rattle.theory_trees.specs.Leaves.{Outer, outer-route}
 use Rattle.theory_trees.specs.Bounds.{the-same-multiflows-fit-iff-the-balanced-agree}
 use Rattle.lists.specs.Tallies.{each-map}
-use Rattle.theory_walk.specs.PairingTheorem.{pair-list-is-sound, pair-list-ascends, pair-list-lower-first}
-use Rattle.theory_walk.specs.Sound.{Sound, Ascending}
+use Rattle.theory_walk.specs.PairingTheorem.{pair-list-is-sound}
+use Rattle.theory_walk.specs.Sound.{Sound}
 use Rattle.demands.specs.Printed.{JoinsEnds, IsPlan}
 
 pub multiflow-is-plan : (ls : Links) (n : ℕ) (terminal : ℕ → ℕ) (fs : List Pair) → Multiflow ls n terminal fs → IsPlan n terminal fs
@@ -51,12 +51,6 @@ module _ {ls : Links} {n : ℕ} (T : Tree ls n) (terminal : ℕ → ℕ) (O : Ou
 
     pub full-plan-fits : Fits ls 2 (look c) fullPlan
     full-plan-fits j l = omega (arith, full-plan-is-sound .loads j l, trimmed-is-greatest .below j l)
-
-    pub full-plan-ascends : Ascending fullPlan
-    full-plan-ascends = pair-list-ascends T terminal trimmedTo O (trimmed-is-greatest .balanced)
-
-    pub full-plan-is-lower-first : Each (λ e. e .first < e .second) fullPlan
-    full-plan-is-lower-first = pair-list-lower-first T terminal trimmedTo O (trimmed-is-greatest .balanced)
 
   pub same-plans-fit-iff-trimmed-agree : (c d : List ℕ)
       → ((fs : List Pair) → IsPlan n terminal fs → (k : ℕ) → 1 ≤ k → Fits ls k (look c) fs ↔ Fits ls k (look d) fs)

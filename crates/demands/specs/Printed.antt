@@ -1,15 +1,17 @@
 -- What the demands speak of: plans; and what a report says, read off its bytes alone: lines, fields and numbers, and from them the printed
--- total, sizes, end sets and plan; and what the line of a refusal says. Document 01, "Plans, trimmed sizes, end sets" and "The report, given whole".
+-- total, sizes, end sets and plan; and what the line of a refusal says. Document 01, "Plans, trimmed sizes, end sets" and "The report, given whole";
+-- 02, Card 2 (the report headed `whole`).
 use mathlib.Core.Path.{_≡_}
 use mathlib.Core.Logic.{_≢_}
 use mathlib.Core.Bool.{cond}
 use mathlib.Core.List.{List, [], _∷_, map}
-use Prim.Native.Nat.{ℕ, _+_, _-_, _*_}
+use Prim.Native.Nat.{ℕ, _+_, _-_}
 use lib.Dec.{eqb}
 use lib.ListN.{length, getD, take}
-use Rattle.lists.specs.Numbers.{pick, is, differ, sum, look, Each}
-use Rattle.model.specs.Flows.{Links, Site, one, two, ends}
+use Rattle.lists.specs.Numbers.{pick, look, Each}
+use Rattle.model.specs.Flows.{Links, Site, ends}
 use Rattle.model.specs.Text.{bytes}
+use Rattle.model.specs.Whole.{setSize as sizeBy}
 use Rattle.model.specs.declared.Pair.{Pair}
 use Rattle.sheet_kinds.specs.LineKinds.{push, fields, field, same, value}
 use Rattle.sheet.specs.Sheet.{Network, lookup}
@@ -94,19 +96,21 @@ pub record EndSet : Type 0 where
   pub size : ℕ
   pub count : ℕ
 
--- what a report says: line 1 (heading, total in halves, number of pairs); of the `L` lines the two sites, the given size and the trimmed size;
--- of the `N` lines the site, the end whose set holds it, 0 for `-`, and 1 where `-` stands; the `X` lines; the `P` lines (two sites, amount in halves)
+-- what a report says: line 1 (heading, total in halves, number of pairs); of the `L` lines the two sites, the given size and the size shown;
+-- of the `N` lines the site, the end whose set holds it, 0 for `-`, and 1 where `-` stands; the `X` lines; of the `Q` lines the number;
+-- the `P` lines (two sites, amount in halves)
 pub record Printed : Type 0 where
   pub heading : List ℕ
   pub total : ℕ
   pub pairCount : ℕ
   pub links : Links
   pub sizes : List ℕ
-  pub trimmed : List ℕ
+  pub shown : List ℕ
   pub sites : List ℕ
   pub owners : List ℕ
   pub dashes : List ℕ
   pub sets : List EndSet
+  pub pieces : List ℕ
   pub plan : List Pair
 
 -- a report read line by line, its names turned to sites by `site`
@@ -121,11 +125,12 @@ readRecords site rs =
       pairCount = value (field first 2);
       links = map (λ l. (site (field l 1), site (field l 2))) linkLines;
       sizes = map (λ l. value (field l 3)) linkLines;
-      trimmed = map (λ l. value (lastField l)) linkLines;
+      shown = map (λ l. value (lastField l)) linkLines;
       sites = map (λ l. site (field l 1)) siteLines;
       owners = map (λ l. site (field l 2)) siteLines;
       dashes = map (λ l. dash (field l 2)) siteLines;
       sets = map (λ l. record { end = site (field l 1); size = value (field l 2); count = value (field l 3) }) (headed (bytes "X") rs);
+      pieces = map (λ l. value (field l 1)) (headed (bytes "Q") rs);
       plan = map (λ l. record { first = site (field l 1); second = site (field l 2); amount = value (field l 3) }) (headed (bytes "P") rs);
     }
 
@@ -154,6 +159,16 @@ numberRead r = value (field (firstLine r) 1)
 abbrev pub lineRead : List ℕ → ℕ
 lineRead r = value (field (firstLine r) 2)
 
+-- ---- the printed sizes
+
+-- the printed trimmed size of link j: headed `plan`, the size shown (01: the last field of its `L` line)
+abbrev pub printedTrimmed : Printed → ℕ → ℕ
+printedTrimmed p j = look (p .shown) j
+
+-- the printed load of link j in circuits: headed `whole`, the size shown (02: `L` lines show the load in place of the trimmed size)
+abbrev pub printedLoad : Printed → ℕ → ℕ
+printedLoad p j = look (p .shown) j
+
 -- ---- the printed end sets
 
 -- the end whose printed set holds site v, 0 for `-`
@@ -165,9 +180,8 @@ abbrev pub printedDash : Printed → ℕ → ℕ
 printedDash p v = look (p .dashes) (v - 1)
 
 -- the size of the printed set of end a: the printed given sizes of the links with just one of their sites in it (01: size of a set)
-unfoldable pub setSize : Printed → ℕ → ℕ
-setSize p a = sum (length (p .links))
-    (λ j. differ (is (printedOwner p (one (p .links) j)) a) (is (printedOwner p (two (p .links) j)) a) * look (p .sizes) j)
+abbrev pub setSize : Printed → ℕ → ℕ
+setSize p a = sizeBy (p .links) (look (p .sizes)) (printedOwner p) a
 
 -- the printed sizes of the end sets, summed
 unfoldable pub sizeSum : List EndSet → ℕ

@@ -16,20 +16,20 @@ use Rattle.sheet_kinds.specs.LineKinds.{siteLine as sheetSite, sizedLink, linkL
 use Rattle.sheet.specs.Sheet.{lookupFrom, siteStep, linkStep, headingStep, recordStep, stepOf, readLine, andThen, readLines, allJoined, finish, readSheet}
 use Rattle.report.specs.Report.{digits, decimal, line, lines, planOf, ownerName, headRecord, linkRecord, linkLine, siteRecord, siteLine, cutRecord, cutLine}
 use Rattle.report.specs.Report.{pairLine, reportOf, report}
-use Rattle.planner.specs.Outcome.{Planned, deliver, planRead, planned}
+use Rattle.planner.specs.Outcome.{Planned, Reporter, deliver, planRead, plannedBy}
 use Rattle.planner.specs.declared.Outcome.the-variants.{Report}
 use Rattle.nine.specs.Sheets.{Example, sheets}
 
 -- planning a sheet by the definitions, into a buffer just as long as the report that is expected
-unfoldable pub plannedFor : Example → Planned
-plannedFor e = planned edition1 (e .sheet) (replicate (length (e .report)) 0)
+unfoldable pub plannedFor : Reporter → Example → Planned
+plannedFor text e = plannedBy text edition1 (e .sheet) (replicate (length (e .report)) 0)
 
 -- success, with the report's length and exactly the report's bytes
-expected : Example → Planned
+unfoldable pub expected : Example → Planned
 expected e = record { outcome = Report (length (e .report)); buffer = e .report }
 
-nine-sheets : map plannedFor sheets ≡ map expected sheets
-unfolding plannedFor expected planned planRead deliver ℕ-discrete decLe decLt pick is differ less sum over count upfrom at sumAt leaf ends relabel label joined
+nine-sheets : map (plannedFor report) sheets ≡ map expected sheets
+unfolding plannedFor expected plannedBy planRead deliver ℕ-discrete decLe decLt pick is differ less sum over count upfrom at sumAt leaf ends relabel label joined
     total cutAt cutSite cutSites unvisited first remove taken elimination balancedAlong balanced kept group inCut cutSize cutCount ownerAmong owner put
     takeHalves dropHalves halves give match joins between children gather alone settle walk pairsFrom lowestInner pairs lowerFirst before insert ordered
     pairList lineLength lineAt afterLine hasLine same push fields all isName isNumber valueFrom isHeading checkedFields checked faultOf judged

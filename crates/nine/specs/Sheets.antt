@@ -1,4 +1,5 @@
 -- Document 01's "Sheets to try", those marked with a star: nine sheets and the reports that 01's text and rules give for them.
+-- And two sheets with their reports in whole circuits (02, Card 2).
 use mathlib.Core.List.{List, [], _∷_, _++_}
 use Prim.Native.Nat.{ℕ}
 use Rattle.model.specs.Text.{bytes}
@@ -60,5 +61,23 @@ sheets =
       sheet = bytes "network\t1\nN\th\nN\tk\nN\ta\nN\tb\nN\tc\nN\td\nL\th\tk\t10\nL\th\ta\t3\nL\th\tb\t3\nL\tk\tc\t1\nL\tk\td\t1\n";
       report = bytes "plan\t8\t3\nL\th\tk\t10\t2\nL\th\ta\t3\t3\nL\th\tb\t3\t3\nL\tk\tc\t1\t1\nL\tk\td\t1\t1\nN\th\t-\nN\tk\t-\nN\ta\ta\n"
           ++ bytes "N\tb\tb\nN\tc\tc\nN\td\td\nX\ta\t3\t1\nX\tb\t3\t1\nX\tc\t1\t1\nX\td\t1\t1\nP\ta\tb\t4\nP\ta\tc\t2\nP\tb\td\t2\n";
+    }
+    ∷ []
+
+abbrev pub wholeSheets : List Example
+wholeSheets =
+    -- star 1, 1, 1: total 2 and `Q` 1
+    record {
+      sheet = bytes "network\t1\nN\thub\nN\ta\nN\tb\nN\tc\nL\thub\ta\t1\nL\thub\tb\t1\nL\thub\tc\t1\n";
+      report = bytes "whole\t2\t1\nL\thub\ta\t1\t1\nL\thub\tb\t1\t1\nL\thub\tc\t1\t0\nN\thub\t-\nN\ta\ta\nN\tb\tb\nN\tc\tc\n"
+          ++ bytes "X\ta\t1\t1\nX\tb\t1\t1\nX\tc\t1\t1\nQ\t1\nP\ta\tb\t2\n";
+    }
+    -- v with links to t of 2, to x of 1, to y of 1, and two ends of size 1 at each of x and y: total 4 and `Q` 2
+    ∷ record {
+      sheet = bytes "network\t1\nN\tv\nN\tt\nN\tx\nN\ty\nN\tp\nN\tq\nN\tr\nN\ts\nL\tv\tt\t2\nL\tv\tx\t1\nL\tv\ty\t1\n"
+          ++ bytes "L\tx\tp\t1\nL\tx\tq\t1\nL\ty\tr\t1\nL\ty\ts\t1\n";
+      report = bytes "whole\t4\t2\nL\tv\tt\t2\t1\nL\tv\tx\t1\t0\nL\tv\ty\t1\t1\nL\tx\tp\t1\t1\nL\tx\tq\t1\t1\nL\ty\tr\t1\t1\nL\ty\ts\t1\t0\n"
+          ++ bytes "N\tv\tt\nN\tt\tt\nN\tx\t-\nN\ty\t-\nN\tp\tp\nN\tq\tq\nN\tr\tr\nN\ts\ts\nX\tt\t2\t2\nX\tp\t1\t1\nX\tq\t1\t1\n"
+          ++ bytes "X\tr\t1\t1\nX\ts\t1\t1\nQ\t2\nP\tt\tr\t2\nP\tp\tq\t2\n";
     }
     ∷ []

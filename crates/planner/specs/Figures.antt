@@ -109,8 +109,12 @@ module _ (net : Network) where
 
   -- ---- figures that can be shown
 
-  -- a size for each link, above no given size, and no joint with a heavy link; of each site no owner or an end; sets and pieces of no more than there is
+  -- a heading of 2 to 5 bytes, none of them a tab or byte 10; a size for each link, above no given size, and no joint with a heavy link;
+  -- of each site no owner or an end; sets and pieces of no more than there is, and at most one line `Q`
   pub record Showable (f : Figures) : Type 0 where
+    pub short : length (f .word) ≤ 5
+    pub long : 2 ≤ length (f .word)
+    pub plain : Each (λ b. 45 ≤ b) (f .word)
     pub each-link : length (f .shown) ≡ length ls
     pub below : Below ls (look (f .shown)) c
     pub balanced : Balanced ls terminal (look (f .shown))
@@ -139,6 +143,9 @@ module _ (net : Network) where
     pub halves-can-be-shown : Showable halves
     unfolding cutSize cutCount inCut
     halves-can-be-shown = record {
+      short = omega arith;
+      long = omega arith;
+      plain = omega arith;
       each-link = balanced-has-each-link T terminal (net .capacities);
       below = trimmed-are-greatest .below;
       balanced = trimmed-are-greatest .balanced;

@@ -2,6 +2,7 @@ pub mod Outcome
 pub mod Answers
 pub mod Told
 pub mod Figures
+pub mod WholeFigures
 pub mod Small
 pub mod Shows
 pub mod Ready

@@ -25,10 +25,11 @@ use Rattle.text_fields.specs.FieldLaws.{name-length}
 use Rattle.sheet_names.specs.Names.{nameAt}
 use Rattle.sheet.specs.Sheet.{Network}
 use Rattle.sheet.specs.SheetTheorem.{IsNetwork}
-use Rattle.report.specs.Report.{reportOf, report}
+use Rattle.report.specs.Report.{reportOf, report, wholeReport}
 use Rattle.report.specs.Length.{Small, odd-lines-are-short, a-small-plan-has-a-small-report}
-use Rattle.planner.specs.Figures.{Figures, terminal, halves, pairsBy, planShowing, the-report-shows-halves}
+use Rattle.planner.specs.Figures.{Figures, terminal, halves, wholes, pairsBy, planShowing, the-report-shows-halves, the-whole-report-shows-wholes}
 use Rattle.planner.specs.Figures.{Showable, figures-have-sound-pairs, halves-can-be-shown}
+use Rattle.planner.specs.WholeFigures.{wholes-can-be-shown}
 
 -- what is written for a number is the name of a site, or nothing
 pub name-or-nothing : {ed : Edition} {s : List ℕ} {net : Network} → IsNetwork ed s net → (P : List ℕ → Type 0)
@@ -82,11 +83,11 @@ module _ {s : List ℕ} {net : Network} (N : IsNetwork edition1 s net) where
       sizes-within,
     )
 
-    plan-is-small : length (f .word) ≤ 5 → Small (planShowing net s f)
-    plan-is-small short =
+    plan-is-small : Small (planShowing net s f)
+    plan-is-small =
         let links = length-map ls (λ l. l .0) in
         record {
-          word = short;
+          word = h .short;
           before = odd-lines-are-short (f .pieces) (h .one-piece-line) (each-map _ _ (λ k q. omega (arith, N .few)) (f .pieces) (h .few-pieces));
           name = name-or-nothing N (λ f. length f ≤ 12) (λ f e. name-length f e .1) (omega arith);
           sites-few = N .few;
@@ -100,8 +101,8 @@ module _ {s : List ℕ} {net : Network} (N : IsNetwork edition1 s net) where
           total-small = total-shown-within;
         }
 
-    pub figures-are-small : length (f .word) ≤ 5 → length (reportOf (planShowing net s f)) ≤ REPORT
-    figures-are-small short = a-small-plan-has-a-small-report (planShowing net s f) (plan-is-small short)
+    pub figures-are-small : length (reportOf (planShowing net s f)) ≤ REPORT
+    figures-are-small = a-small-plan-has-a-small-report (planShowing net s f) plan-is-small
 
   -- ---- in halves
 
@@ -112,4 +113,9 @@ module _ {s : List ℕ} {net : Network} (N : IsNetwork edition1 s net) where
   total-within = total-shown-within (halves net) (halves-can-be-shown net (N .tree))
 
   pub a-report-is-small : length (report s net) ≤ REPORT
-  a-report-is-small = rw (the-report-shows-halves net s) (figures-are-small (halves net) (halves-can-be-shown net (N .tree)) (omega arith))
+  a-report-is-small = rw (the-report-shows-halves net s) (figures-are-small (halves net) (halves-can-be-shown net (N .tree)))
+
+  -- ---- in whole circuits
+
+  pub a-whole-report-is-small : length (wholeReport s net) ≤ REPORT
+  a-whole-report-is-small = rw (the-whole-report-shows-wholes net s) (figures-are-small (wholes net) (wholes-can-be-shown net (N .tree)))

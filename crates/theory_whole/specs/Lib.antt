@@ -15,3 +15,4 @@ pub mod PlanLoads
 pub mod Connected
 pub mod LinkSets
 pub mod Circuits
+pub mod Duality

@@ -36,7 +36,7 @@ halved [] = []
 halved (e ∷ es) = record { first = e .first; second = e .second; amount = e .amount / 2 } ∷ halved es
 
 module _ (ls : Links) (n : ℕ) (terminal : ℕ → ℕ) where
-  halved-routes : (es : List Pair) → Multiflow ls n terminal es → Multiflow ls n terminal (halved es)
+  pub halved-routes : (es : List Pair) → Multiflow ls n terminal es → Multiflow ls n terminal (halved es)
   unfolding halved
   halved-routes [] h = tt
   halved-routes (e ∷ es) h = let r = h .0 in (
@@ -51,7 +51,7 @@ module _ (ls : Links) (n : ℕ) (terminal : ℕ → ℕ) where
     halved-routes es (h .1),
   )
 
-halved-total : (es : List Pair) → Each (λ e. Even (e .amount)) es → total es ≡ 2 * total (halved es)
+pub halved-total : (es : List Pair) → Each (λ e. Even (e .amount)) es → total es ≡ 2 * total (halved es)
 unfolding halved total
 halved-total [] h = refl
 halved-total (e ∷ es) h = omega (arith, h .0 .1, halved-total es (h .1))

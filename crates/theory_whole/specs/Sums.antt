@@ -4,8 +4,9 @@ use mathlib.Core.Logic.{_≢_}
 use mathlib.Core.List.{List, [], _∷_}
 use Prim.Native.Nat.{ℕ, zero, suc, _+_, _*_, _%_, _≤_, _<_}
 use native.Mathlib.Omega.{arith}
+use native.Mathlib.Nat.{mul-le-mul-right}
 use Rattle.lists.specs.Numbers.{is, sum, count, over}
-use Rattle.lists.specs.Sums.{is-same, is-other, is-iff, same?, sum-none, sum-eq}
+use Rattle.lists.specs.Sums.{is-same, is-other, is-iff, same?, sum-none, sum-add, sum-mul, sum-eq}
 use Rattle.lists.specs.Places.{over-add, over-eq, over-le, over-is}
 
 -- ---- sums over a list in which a site stands once
@@ -127,3 +128,30 @@ module _ (us : List ℕ) (single : (x : ℕ) → count us x ≤ 1) (f g h : ℕ 
   choices = over-eq us (λ r. is (f r) r * h r) (λ r. over us (λ y. is (f r) r * (is (g y) y * (is (f y) r * h y)))) from-f
       ∙ turn us us (λ r y. is (f r) r * (is (g y) y * (is (f y) r * h y)))
       ∙ over-eq us (λ y. over us (λ r. is (f r) r * (is (g y) y * (is (f y) r * h y)))) (λ y. is (g y) y * h y) from-g
+
+-- two terms of a sum
+pub over-two : (us : List ℕ) (f : ℕ → ℕ) (s t : ℕ) → 1 ≤ count us s → 1 ≤ count us t → s ≢ t → f s + f t ≤ over us f
+over-two us f s t p q d = omega (
+  arith,
+  over-is us s (λ x. f s),
+  over-is us t (λ x. f t),
+  over-add us (λ x. is x s * f s) (λ x. is x t * f t),
+  over-le us (λ x. is x s * f s + is x t * f t) f (λ x k. same? x s
+      (λ e. rw (e, is-same {u = s} refl, is-other d) (omega arith))
+      (λ n. rw (is-other n) (same? x t (λ e. rw (e, is-same {u = t} refl) (omega arith)) (λ m. rw (is-other m) (omega arith))))),
+  mul-le-mul-right (f s) p,
+  mul-le-mul-right (f t) q,
+)
+
+-- a sum over sites of sums over links, link by link
+pub over-links : (us : List ℕ) (m : ℕ) (w : ℕ → ℕ) (d : ℕ → ℕ → ℕ) (g : ℕ → ℕ)
+    → over us (λ a. w a * sum m (λ j. d a j * g j)) ≡ sum m (λ j. over us (λ a. w a * d a j) * g j)
+unfolding over
+over-links [] m w d g = sym (sum-zero m (λ j. 0 * g j) (λ j l. omega arith))
+over-links (u ∷ us) m w d g = omega (
+  arith,
+  over-links us m w d g,
+  sum-mul m (w u) (λ j. d u j * g j),
+  sum-add m (λ j. w u * (d u j * g j)) (λ j. over us (λ a. w a * d a j) * g j),
+  sum-eq m (λ j. (w u * d u j + over us (λ a. w a * d a j)) * g j) (λ j. w u * (d u j * g j) + over us (λ a. w a * d a j) * g j) (λ j l. omega arith),
+)
