@@ -47,17 +47,17 @@ struct Frame {
 }
 
 // A child that the walk comes to: the link to it, and the halves that it sends up and that come down to it.
+// The root is taken for one over a link past the last, over which nothing goes.
 struct Child {
     link: usize,
     up: u64,
     down: u64,
 }
 
-// The frame of site v, entered over a link that `down` halves come over, before its first child.
+// The frame of site v, entered as a child of its parent, before its own first child.
 fn enter(
     v: usize,
-    link: usize,
-    down: u64,
+    child: Child,
     base: Tops,
     last: &[usize; PLACES],
     before: &[usize; CHAINS],
@@ -65,17 +65,17 @@ fn enter(
     two: &[usize],
     capacity: &[u64],
 ) -> Frame
-    requires { ⌜ Entering v down (now last) (now before) (now one) (now two) (now capacity) ⌝ }
-    ensures { λ r. ⌜ Entered (links (now (one .entry)) (now (two .entry))) (look (now (capacity .entry))) v link down base r ⌝ }
+    requires { ⌜ Entering v (child .down) (now last) (now before) (now one) (now two) (now capacity) ⌝ }
+    ensures { λ r. ⌜ Entered (links (now (one .entry)) (now (two .entry))) (look (now (capacity .entry))) v (child .link) (child .down) base r ⌝ }
 {
     let sum = tree_links::sum_at(v, last, before, one, two, capacity);
-    let below = pairing_children::children(v, link, last, before, one, two);
+    let below = pairing_children::children(v, child.link, last, before, one, two);
     let next = pairing_children::next_site(below, 0);
     Frame {
         site: v,
-        link,
-        down,
-        rest: sum - down,
+        link: child.link,
+        down: child.down,
+        rest: sum - child.down,
         base,
         below,
         next,
@@ -149,7 +149,12 @@ fn visit(
         downs: 0,
         pairs: 0,
     };
-    let mut frame = enter(root, one.len(), 0, top, last, before, one, two, capacity);
+    let whole = Child {
+        link: one.len(),
+        up: 0,
+        down: 0,
+    };
+    let mut frame = enter(root, whole, top, last, before, one, two, capacity);
     let mut frames = [frame; PLACES];
     loop {
         let c = frame.next;
@@ -163,17 +168,7 @@ fn visit(
             }
             frames[level] = passed;
             level -= 1;
-            frame = enter(
-                c,
-                child.link,
-                child.down,
-                top,
-                last,
-                before,
-                one,
-                two,
-                capacity,
-            );
+            frame = enter(c, child, top, last, before, one, two, capacity);
             continue;
         }
         let base = frame.base;
