@@ -1,5 +1,5 @@
 -- `plan_charted` meets its contract: the balanced capacities keep the promise of trimming, so they can be walked, and what is worked out is ready.
-use mathlib.Core.Path.{_≡_, sym, ap, _∙_}
+use mathlib.Core.Path.{_≡_, sym}
 use Prim.Native.Nat.{ℕ}
 use native.Mathlib.Omega.{arith}
 use lib.ListN.{length, take, length-replicate}
@@ -10,8 +10,6 @@ use Rattle.model.specs.Trimming.{balanced}
 use Rattle.model.specs.Pairing.{pairList}
 use Rattle.tree.specs.Offer.{links}
 use Rattle.trimming.specs.Promise.{Promise}
-use Rattle.cuts_groups.specs.Places.{length-places}
-use Rattle.cuts_groups.specs.Steps.{owned}
 use Rattle.tree_links.specs.Chains.{offer-placed, offer-limited}
 use Rattle.planner.specs.Taken.{the-network-is-a-tree-within}
 use Rattle.planner.specs.Works.{the-front-keeps-the-promise, the-promised-can-be-walked, pairs-in-order, what-is-worked-out-is-ready}
@@ -45,22 +43,15 @@ cuts-of-requires c κs =
 
 decompose-requires : tie.Need-decompose-requires
 decompose-requires c κs =
-    let balanced = c .before .before .before .before .before .before in
+    let balanced = c .before .before .before in
     let s = balanced .before .before .before .before .before .before .before .before .before in
     the-promised-can-be-walked (the-network-is-a-tree-within (s .pre .0)) (s .pre .1) _ (promised balanced .1)
-
-slice-aggregate-deliver-3 : tie.Need-slice-aggregate-deliver-3
-unfolding owned
-slice-aggregate-deliver-3 c =
-    let cut = c .before .before .before .before .before .before .before .before in
-    let s = cut .before .before .before .before .before .before .before .before .before .before .before .before in
-    sym (ap (λ o. length (o .count)) (cut .cuts-of .ensures) ∙ length-places _ (s .args .n) (the-network-is-a-tree-within (s .pre .0) .few))
 
 deliver-requires : tie.Need-deliver-requires
 unfolding pairList
 deliver-requires c κs =
-    let paired = c .before .before .before .before in
-    let cut = paired .before .before .before .before .before in
+    let paired = c .before .before .before .before .before .before .before .before in
+    let cut = paired .before .before in
     let balanced = cut .before .before .before in
     let s = balanced .before .before .before .before .before .before .before .before .before in
     let listed =
@@ -79,9 +70,6 @@ plan-charted-spec =
     cuts-of-requires
     decompose-requires
     (λ c κs. search needs)
-    (λ c. search needs)
-    (λ c. search needs)
-    slice-aggregate-deliver-3
     deliver-requires
     (λ c. search needs)
     (λ c. search needs))
