@@ -1,4 +1,5 @@
 pub mod Visiting
-pub mod Tests
-pub mod Reading
+pub mod Framing
 pub mod Roots
+pub mod Reading
+pub mod Tests

@@ -4,7 +4,7 @@ use mathlib.Core.Logic.{_≢_, inr}
 use mathlib.Core.List.{List, []}
 use Prim.Native.Nat.{ℕ, suc, _-_, _*_, _≤_}
 use native.Mathlib.Omega.{arith}
-use lib.ListN.{length, take, List·getD-eq-default}
+use lib.ListN.{length, take}
 use Rattle.model.specs.Limits.{HALVES, NUMBERS}
 use Rattle.lists.specs.Numbers.{look}
 use Rattle.model.specs.Pairing.{put, give, pairsFrom, lowestInner, pairs}
@@ -14,20 +14,13 @@ use Rattle.tree.specs.Links.{length-links}
 use Rattle.theory_walk.specs.Walk.{size-le}
 use Rattle.theory_walk.specs.Pairs.{lowest-some}
 use Rattle.theory_walk.specs.PairingTheorem.{pairs-are-sound}
-use Rattle.pairing_halves.specs.declared.Tops.{Tops}
 use Rattle.pairing_halves.specs.Arrays.{flatPairs, Added}
+use Rattle.pairing_walk.specs.Frames.{bottom}
 use Rattle.pairing_walk.specs.Visits.{walkOf, Visit, Walkable, Root, pairsOf, spelled, Spells}
 use Rattle.pairing_halves.specs.Adding.{length-pairs}
 use Rattle.pairing_walk.proofs.Reading.{spelled-flat}
 
-abbrev pub bottom : Tops
-bottom = record { ups = 0; downs = 0; pairs = 0 }
-
 module _ {root : ℕ} {ends last before a b c : List ℕ} (r : Root root ends last before a b c) where
-  -- past the last link nothing comes down
-  pub none-down : 2 * look c (length a) - 0 ≡ 0
-  none-down = let w = r .walkable .tree in rw (List·getD-eq-default c 0 {n = length a} (omega (arith, w .firsts, w .capacities))) (omega arith)
-
   -- the walk starts at a root with all sites below it, and with room for them
   pub root-visit : (u d p : List ℕ) → HALVES ≤ length u → HALVES ≤ length d → NUMBERS ≤ length p
       → Visit (suc (length a)) ends last before a b c (suc (length a)) root (length a) 0 0 u d p bottom

@@ -44,7 +44,7 @@ join-nothing w i = record { ups = append-nil (w .ups) i; downs = append-nil (w .
 -- ---- the children of a site
 
 -- the subtrees of the children of v from site x on
-abbrev ahead : ℕ → Links → ℕ → ℕ → ℕ → ℕ
+abbrev pub ahead : ℕ → Links → ℕ → ℕ → ℕ → ℕ
 ahead n ls v j x = sizes ls n (children ls v j x (suc n - x))
 
 -- what the children of v, which are sent `down` halves and are visited with the given fuel, hand back together
@@ -77,7 +77,7 @@ gathering-starts n ends a b c fuel v j down u d p base =
     }
 
 -- a site and the subtrees of its children
-size-below : {n : ℕ} {ends last before a b c : List ℕ} {fuel v j up down : ℕ} {u d p : List ℕ} {base : Tops}
+pub size-below : {n : ℕ} {ends last before a b c : List ℕ} {fuel v j up down : ℕ} {u d p : List ℕ} {base : Tops}
     → Visit n ends last before a b c fuel v j up down u d p base
     → size (links a b) n j v ≡ 1 + ahead n (links a b) v j 1
 size-below {n} {ends = ends} {a = a} {b = b} {c = c} {v = v} {j = j} {up = up} {down = down} W =
@@ -118,7 +118,7 @@ module _ {n : ℕ} {ends a b c : List ℕ} {fuel v j down : ℕ} {u d p : List �
     taken : children ls v j x (suc n - x) ≡ (x, k) ∷ later
     taken = rw (one-more, is-k) (child-taken ls v j x (suc n - suc x) (rw (← is-k) below) (rw (← is-k) new))
 
-    split : ahead n ls v j x ≡ size ls n k x + sizes ls n later
+    pub split : ahead n ls v j x ≡ size ls n k x + sizes ls n later
     unfolding tally
     split = ap (sizes ls n) taken
 
@@ -268,14 +268,4 @@ down-within {ends = ends} {a = a} {b = b} {c = c} {v = v} {j = j} {up = up} {dow
   where
     within : Start (links a b) (look c) (look ends) j v up down → down ≤ sumAt (links a b) v (look c)
     within (inl s) = omega (arith, W .balanced v inner j (s .0 .bound) (s .0 .here), s .1)
-    within (inr s) = omega (arith, s .2)
-
--- what is sent up over a link is at most twice its capacity
-pub down-over : {n : ℕ} {ends last before a b c : List ℕ} {fuel v j up down : ℕ} {u d p : List ℕ} {base : Tops}
-    → Visit n ends last before a b c fuel v j up down u d p base
-    → j < length c → (look c j ≤ SIZE) × (up ≤ 2 * look c j)
-down-over {ends = ends} {a = a} {b = b} {c = c} {v = v} {j = j} {up = up} {down = down} W l = (W .tree .limited j l, within (W .start))
-  where
-    within : Start (links a b) (look c) (look ends) j v up down → up ≤ 2 * look c j
-    within (inl s) = omega (arith, s .1)
     within (inr s) = omega (arith, s .2)

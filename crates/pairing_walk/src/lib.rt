@@ -7,15 +7,19 @@ use model::Pair;
 use model::Pairs;
 use model::SITES;
 use pairing_halves::Tops;
+use tree_sets::Set;
 ghost use mathlib.Core.Path.{_≡_};
+ghost use mathlib.Core.Logic.{_≢_};
 ghost use mathlib.Core.List.{[]};
-ghost use Prim.Native.Nat.{suc, _+_, _-_, _*_, _≤_, _<_, min};
+ghost use Prim.Native.Nat.{suc, _*_, _≤_, _+_};
 ghost use Rattle.model.specs.Limits.{NUMBERS, SITES, SIZE};
 ghost use lib.ListN.{length, take};
 ghost use Rattle.lists.specs.Numbers.{look};
 ghost use Rattle.model.specs.Pairing.{put, give, lowestInner};
 ghost use Rattle.pairing_halves.specs.Arrays.{flatPairs, Added};
-ghost use Rattle.pairing_walk.specs.Visits.{walkOf, Visit, Visited, Walkable, Root, pairsOf, pairsBelow, spelledAt, spelled, Spells, Listing};
+ghost use Rattle.tree.specs.Offer.{links};
+ghost use Rattle.pairing_walk.specs.Frames.{bottom, childOf, Entering, Entered, Coming, Passed};
+ghost use Rattle.pairing_walk.specs.Visits.{Visit, Walkable, Root, pairsOf, pairsBelow, spelledAt, spelled, Spells, Listing};
 
 // The site of lowest number that is no terminal, 0 where there is none.
 fn lowest_inner(n: usize, ends: &[u8; PLACES]) -> usize
@@ -30,81 +34,151 @@ fn lowest_inner(n: usize, ends: &[u8; PLACES]) -> usize
     0
 }
 
-// What comes down over a link, of twice its capacity, with `up` halves sent up; nothing past the last link.
-fn halves_down(capacity: &[u64], link: usize, up: u64) -> u64
-    requires { ⌜ (link < length (now capacity) → (look (now capacity) link ≤ SIZE) × (up ≤ 2 * look (now capacity) link)) ⌝ }
-    ensures { λ r. ⌜ r ≡ 2 * look (now (capacity .entry)) link - up ⌝ }
+// A site whose children are walked: the link to its parent, what comes down over it, what remains for the children to send up,
+// the ends of the lists when it was entered, its children, and the child to come, PLACES after the last.
+struct Frame {
+    site: usize,
+    link: usize,
+    down: u64,
+    rest: u64,
+    base: Tops,
+    below: Set,
+    next: usize,
+}
+
+// A child that the walk comes to: the link to it, and the halves that it sends up and that come down to it.
+// The root is taken for one over a link past the last, over which nothing goes.
+struct Child {
+    link: usize,
+    up: u64,
+    down: u64,
+}
+
+// The frame of site v, entered as a child of its parent, before its own first child.
+fn enter(
+    v: usize,
+    child: Child,
+    base: Tops,
+    last: &[usize; PLACES],
+    before: &[usize; CHAINS],
+    one: &[usize],
+    two: &[usize],
+    capacity: &[u64],
+) -> Frame
+    requires { ⌜ Entering v (child .down) (now last) (now before) (now one) (now two) (now capacity) ⌝ }
+    ensures { λ r. ⌜ Entered (links (now (one .entry)) (now (two .entry))) (look (now (capacity .entry))) v (child .link) (child .down) base r ⌝ }
 {
-    if capacity.len() <= link {
-        return 0;
+    let sum = tree_links::sum_at(v, last, before, one, two, capacity);
+    let below = pairing_children::children(v, child.link, last, before, one, two);
+    let next = pairing_children::next_site(below, 0);
+    Frame {
+        site: v,
+        link: child.link,
+        down: child.down,
+        rest: sum - child.down,
+        base,
+        below,
+        next,
     }
-    2 * capacity[link] - up
 }
 
-// What a child sends up over link k: the lesser of twice its capacity and of what remains.
-fn halves_up(capacity: &[u64], k: usize, rest: u64) -> u64
-    requires { ⌜ (k < length (now capacity)) × (look (now capacity) k ≤ SIZE) ⌝ }
-    ensures { λ r. ⌜ r ≡ min (2 * look (now (capacity .entry)) k) rest ⌝ }
+// The child to come of a site: it sends up the lesser of twice its capacity and of what remains, and the others come down.
+fn child_of(
+    frame: Frame,
+    last: &[usize; PLACES],
+    before: &[usize; CHAINS],
+    one: &[usize],
+    two: &[usize],
+    capacity: &[u64],
+) -> Child
+    requires { ⌜ Coming frame (now last) (now before) (now one) (now two) (now capacity) ⌝ }
+    ensures { λ r. ⌜ r ≡ childOf (links (now (one .entry)) (now (two .entry))) (look (now (capacity .entry))) frame ⌝ }
 {
-    pairing_halves::lesser(2 * capacity[k], rest)
+    let link = pairing_children::link_to(frame.site, frame.next, last, before, one, two);
+    let both = 2 * capacity[link];
+    let up = pairing_halves::lesser(both, frame.rest);
+    Child {
+        link,
+        up,
+        down: both - up,
+    }
 }
 
-// The walk below site v, entered over a link with `up` halves to send up, the others coming down:
-// what it hands to the parent, and the pairs made below v, are added to the three lists. There is fuel for each site below.
+// The frame once the child to come has sent up its halves, before the next child.
+fn pass(frame: Frame, up: u64) -> Frame
+    requires { ⌜ (up ≤ frame .rest) × (frame .next ≤ SITES) ⌝ }
+    ensures { λ r. ⌜ Passed frame up r ⌝ }
+{
+    let base = frame.base;
+    let below = frame.below;
+    let next = pairing_children::next_site(below, frame.next);
+    Frame {
+        site: frame.site,
+        link: frame.link,
+        down: frame.down,
+        rest: frame.rest - up,
+        base,
+        below,
+        next,
+    }
+}
+
+// The walk from an inner site, the root: the pairs are added to their list, and its end is returned.
+// The sites from the root to the one at hand stand in frames, the root's in the place of the number of sites, each child's in the place below.
 fn visit(
+    root: usize,
     ends: &[u8; PLACES],
     last: &[usize; PLACES],
     before: &[usize; CHAINS],
     one: &[usize],
     two: &[usize],
     capacity: &[u64],
-    fuel: usize,
-    v: usize,
-    link: usize,
-    up: u64,
     ups: &mut [u64],
     downs: &mut [u64],
     pairs: &mut [u64],
-    base: Tops,
-) -> Tops
+) -> usize
     requires { ⌜ Visit (suc (length (now one))) (now ends) (now last) (now before) (now one) (now two) (now capacity)
-        fuel v link up (2 * look (now capacity) link - up) (now ups) (now downs) (now pairs) base ⌝ }
-    ensures { λ r. ⌜ Visited (walkOf (suc (length (now (one .entry)))) (now (ends .entry)) (now (one .entry)) (now (two .entry)) (now (capacity .entry))
-        fuel v link up (2 * look (now (capacity .entry)) link - up)) (now (ups .entry)) (now (downs .entry)) (now (pairs .entry)) base
-        (now (ups .exit)) (now (downs .exit)) (now (pairs .exit)) r ⌝ }
+        (suc (length (now one))) root (length (now one)) 0 0 (now ups) (now downs) (now pairs) bottom × (look (now ends) root ≢ 1) ⌝ }
+    ensures { λ r. ⌜ Added (now (pairs .entry)) 0 (now (pairs .exit)) r
+        (flatPairs (pairsBelow root (now (ends .entry)) (now (one .entry)) (now (two .entry)) (now (capacity .entry)))) ⌝ }
 {
-    let down = halves_down(capacity, link, up);
-    if ends[v] == 1 {
-        return pairing_halves::alone(v, up, down, ups, downs, base);
+    let sites = one.len() + 1;
+    let mut level = sites;
+    let mut top = Tops {
+        ups: 0,
+        downs: 0,
+        pairs: 0,
+    };
+    let whole = Child {
+        link: one.len(),
+        up: 0,
+        down: 0,
+    };
+    let mut frame = enter(root, whole, top, last, before, one, two, capacity);
+    let mut frames = [frame; PLACES];
+    loop {
+        let c = frame.next;
+        if c < PLACES {
+            let child = child_of(frame, last, before, one, two, capacity);
+            let passed = pass(frame, child.up);
+            if ends[c] == 1 {
+                top = pairing_halves::alone(c, child.up, child.down, ups, downs, top);
+                frame = passed;
+                continue;
+            }
+            frames[level] = passed;
+            level -= 1;
+            frame = enter(c, child, top, last, before, one, two, capacity);
+            continue;
+        }
+        let base = frame.base;
+        top = pairing_halves::settle(frame.down, ups, downs, pairs, base, top);
+        if level == sites {
+            return top.pairs;
+        }
+        level += 1;
+        frame = frames[level];
     }
-    let sum = tree_links::sum_at(v, last, before, one, two, capacity);
-    let below = pairing_children::children(v, link, last, before, one, two);
-    let mut rest = sum - down;
-    let mut top = base;
-    let mut c = pairing_children::next_site(below, 0);
-    while c < PLACES {
-        let k = pairing_children::link_to(v, c, last, before, one, two);
-        let sent = halves_up(capacity, k, rest);
-        rest -= sent;
-        top = visit(
-            ends,
-            last,
-            before,
-            one,
-            two,
-            capacity,
-            fuel - 1,
-            c,
-            k,
-            sent,
-            ups,
-            downs,
-            pairs,
-            top,
-        );
-        c = pairing_children::next_site(below, c);
-    }
-    pairing_halves::settle(down, ups, downs, pairs, base, top)
 }
 
 // With two sites only: one pair of twice the capacity, none for capacity 0; the end of the pair list.
@@ -135,28 +209,18 @@ fn walk_from(
 {
     let mut ups = [0u64; HALVES];
     let mut downs = [0u64; HALVES];
-    let base = Tops {
-        ups: 0,
-        downs: 0,
-        pairs: 0,
-    };
-    let top = visit(
+    visit(
+        root,
         ends,
         last,
         before,
         one,
         two,
         capacity,
-        one.len() + 1,
-        root,
-        one.len(),
-        0,
         &mut ups,
         &mut downs,
         pairs,
-        base,
-    );
-    top.pairs
+    )
 }
 
 // The pairs of the walk from the inner site of lowest number, written one after the other; the end of them.

@@ -28,9 +28,13 @@ pub record TakenApart (s starting stopping : List ℕ) (n : ℕ) (one two c : Li
   pub seconds : two ≡ map (λ l. l .1) (net .links)
   pub sizes : c ≡ net .capacities
 
+-- the elimination order of a tree of n sites
+abbrev pub Ordered : ℕ → List ℕ → List ℕ → List ℕ → Type 0
+Ordered n one two order = take n order ≡ elimination (links one two) n
+
 -- the elimination order, the ends and the chains of a tree of n sites
 pub record Charted (n : ℕ) (one two order marks last before : List ℕ) : Type 0 where
-  pub ordered : take n order ≡ elimination (links one two) n
+  pub ordered : Ordered n one two order
   pub marked : look marks ≡ look (ends (links one two) n)
   pub chained : Chained one two last before
 

@@ -39,7 +39,7 @@ use Rattle.planner.specs.Shows.{starts, stops, ranges, Works, planBy, th
 use Rattle.planner.specs.Taken.{padded-length, the-network-is-given, the-links-are-the-networks}
 use Rattle.planner.specs.Ready.{TakenApart, Charted, ReadyBy, Ready}
 
-module _ {s : List ℕ} {net : Network} (N : IsNetwork edition1 s net) (f : Figures) (h : Showable net f) (short : length (f .word) ≤ 5) where
+module _ {s : List ℕ} {net : Network} (N : IsNetwork edition1 s net) (f : Figures) (h : Showable net f) where
   abbrev size : ℕ
   size = length (net .names)
 
@@ -133,7 +133,7 @@ module _ {s : List ℕ} {net : Network} (N : IsNetwork edition1 s net) (f : Figu
             counted = omega (arith, places .2, N .few);
             paired = pairs-can-be-written;
             small = rw (w .paired) (total-shown-within N f h);
-            room = rw shows (omega (arith, figures-are-small N f h short));
+            room = rw shows (omega (arith, figures-are-small N f h));
           };
         }
 
@@ -192,7 +192,7 @@ what-is-worked-out-is-ready {s} {starting} {stopping} {n} {one} {two} {c} a show
     let N = the-network-is-given a in
     let told : look marks ≡ terminal (a .net) = rw (ls, a .counted) at marked in
     rw (ls, told, a .counted, a .sizes, a .started, a .stopped, a .firsts, a .seconds) (λ e. rw e (λ cut listed held.
-    figures-are-ready N (halves (a .net)) (halves-can-be-shown (a .net) (N .tree)) (omega arith) ps
+    figures-are-ready N (halves (a .net)) (halves-can-be-shown (a .net) (N .tree)) ps
     (halves-are-worked-out N marks cuts (take (ps .count) (ps .list)) told cut listed)
     (owned-has-places (a .net .links) (length (a .net .names)) (terminal (a .net)) (look (a .net .capacities)) (look (halves (a .net) .shown)) (N .few) cuts cut)
     held (the-report-shows-halves (a .net) s) (a .read)))

@@ -1,12 +1,13 @@
 // Planning a sheet.
 ghost use mathlib.Core.Path.{_≡_};
 ghost use Prim.Native.Nat.{_≤_};
-ghost use lib.ListN.{length};
+ghost use lib.ListN.{length, take};
 ghost use Rattle.model.specs.Edition.{edition1};
+ghost use Rattle.tree_links.specs.Chains.{Chained};
 ghost use Rattle.report.specs.Report.{reportOf};
 ghost use Rattle.report.specs.Shown.{shownBy, CanWrite};
 ghost use Rattle.planner.specs.Outcome.{deliver, planned, answered};
-ghost use Rattle.planner.specs.Ready.{TakenApart, Charted};
+ghost use Rattle.planner.specs.Ready.{TakenApart, Ordered, Charted};
 ghost use Rattle.planner.specs.Taken.{Listed};
 ghost use Rattle.planner.specs.Fits.{fits};
 use model::CHAINS;
@@ -75,7 +76,7 @@ fn fits(
 }
 
 // The report of lists into the buffer; a buffer too short for it keeps its bytes.
-fn deliver(
+fn deliver<'a>(
     word: &[u8],
     before: &[u8],
     sheet: &[u8],
@@ -87,9 +88,9 @@ fn deliver(
     capacity: &[u64],
     shown: &[u64],
     ends: &[u8; PLACES],
-    owner: &[usize],
-    size: &[u64],
-    count: &[usize],
+    owner: &'a [usize],
+    size: &'a [u64],
+    count: &'a [usize],
     pairs: Pairs,
     report: &mut [u8],
 ) -> Outcome
@@ -170,9 +171,6 @@ fn plan_charted(
     trimming_passes::balance(n, order, ends, last, before, one, two, capacity, &mut list);
     let trimmed = &list[..m];
     let cuts = cuts_groups::cuts_of(n, ends, one, two, capacity, trimmed);
-    let owner = cuts.owner;
-    let size = cuts.size;
-    let count = cuts.count;
     let made = pairing_walk::decompose(n, ends, last, before, one, two, trimmed);
     let pairs = pairing_order::ordered(made);
     deliver(
@@ -187,10 +185,46 @@ fn plan_charted(
         capacity,
         trimmed,
         ends,
-        &owner,
-        &size,
-        &count,
+        &cuts.owner,
+        &cuts.size,
+        &cuts.count,
         pairs,
+        report,
+    )
+}
+
+// The lists of an accepted sheet, with the order and the chains of its tree, planned.
+fn plan_chained<'a>(
+    sheet: &[u8],
+    start: &[usize],
+    end: &[usize],
+    n: usize,
+    one: &[usize],
+    two: &[usize],
+    capacity: &[u64],
+    order: &[usize; SITES],
+    last: &'a [usize; PLACES],
+    before: &'a [usize; CHAINS],
+    report: &mut [u8],
+) -> Outcome
+    requires { ⌜ TakenApart (now sheet) (now start) (now end) n (now one) (now two) (now capacity)
+        × Ordered n (now one) (now two) (now order) × Chained (now one) (now two) (now last) (now before) ⌝ }
+    ensures told { λ r. ⌜ r ≡ planned edition1 (now (sheet .entry)) (now (report .entry)) .outcome ⌝ }
+    ensures left { λ r. ⌜ now (report .exit) ≡ planned edition1 (now (sheet .entry)) (now (report .entry)) .buffer ⌝ }
+{
+    let ends = tree_links::ends(n, last, before, one, two);
+    plan_charted(
+        sheet,
+        start,
+        end,
+        n,
+        one,
+        two,
+        capacity,
+        order,
+        &ends,
+        last,
+        before,
         report,
     )
 }
@@ -211,12 +245,8 @@ fn plan_lists(
     ensures left { λ r. ⌜ now (report .exit) ≡ planned edition1 (now (sheet .entry)) (now (report .entry)) .buffer ⌝ }
 {
     let tree = tree::eliminate(n, one, two, capacity);
-    let order = tree.sites;
     let chains = tree_links::chain(one, two);
-    let last = chains.last;
-    let before = chains.before;
-    let ends = tree_links::ends(n, &last, &before, one, two);
-    plan_charted(
+    plan_chained(
         sheet,
         start,
         end,
@@ -224,10 +254,38 @@ fn plan_lists(
         one,
         two,
         capacity,
-        &order,
-        &ends,
-        &last,
-        &before,
+        &tree.sites,
+        &chains.last,
+        &chains.before,
+        report,
+    )
+}
+
+// The lists of an accepted sheet with m links, each list of links lent as far as there are links, planned.
+fn plan_parts<'a>(
+    sheet: &[u8],
+    start: &'a [usize],
+    end: &'a [usize],
+    n: usize,
+    m: usize,
+    one: &'a [usize],
+    two: &'a [usize],
+    capacity: &'a [u64],
+    report: &mut [u8],
+) -> Outcome
+    requires { ⌜ TakenApart (now sheet) (now start) (now end) n (take m (now one)) (take m (now two)) (take m (now capacity))
+        × (m ≤ length (now one)) × (m ≤ length (now two)) × (m ≤ length (now capacity)) ⌝ }
+    ensures told { λ r. ⌜ r ≡ planned edition1 (now (sheet .entry)) (now (report .entry)) .outcome ⌝ }
+    ensures left { λ r. ⌜ now (report .exit) ≡ planned edition1 (now (sheet .entry)) (now (report .entry)) .buffer ⌝ }
+{
+    plan_lists(
+        sheet,
+        start,
+        end,
+        n,
+        &one[..m],
+        &two[..m],
+        &capacity[..m],
         report,
     )
 }
@@ -238,20 +296,17 @@ fn plan_network(sheet: &[u8], network: Lists, report: &mut [u8]) -> Outcome
     ensures told { λ r. ⌜ r ≡ planned edition1 (now (sheet .entry)) (now (report .entry)) .outcome ⌝ }
     ensures left { λ r. ⌜ now (report .exit) ≡ planned edition1 (now (sheet .entry)) (now (report .entry)) .buffer ⌝ }
 {
-    let start = network.start;
-    let end = network.end;
-    let one = network.one;
-    let two = network.two;
-    let capacity = network.capacity;
+    let n = network.sites;
     let m = network.links;
-    plan_lists(
+    plan_parts(
         sheet,
-        &start,
-        &end,
-        network.sites,
-        &one[..m],
-        &two[..m],
-        &capacity[..m],
+        &network.start,
+        &network.end,
+        n,
+        m,
+        &network.one,
+        &network.two,
+        &network.capacity,
         report,
     )
 }

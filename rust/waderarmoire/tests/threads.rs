@@ -1,13 +1,19 @@
 //! The proved library in threads: with little stack, and many at once.
 
-use sheets::{Layout, Names, Network, Random, SITES, SIZE, Shape};
+use sheets::{Layout, Names, Network, Random, SHAPES, SITES, SIZE, Shape};
+use std::env;
 use std::thread::{self, Builder};
 use waderarmoire::{REPORT_BYTES, STACK_BYTES, plan};
 
-/// The sheet of a tree of a shape, its sites in the order of the shape.
-fn sheet(shape: Shape, count: usize, seed: u64) -> Vec<u8> {
+/// The sheet of a tree of a shape, its sites in the order of the shape or the other way round.
+fn sheet(shape: Shape, count: usize, seed: u64, turned: bool) -> Vec<u8> {
     let mut random = Random::new(seed);
-    let links = shape.links(count, &mut random);
+    let mut links = shape.links(count, &mut random);
+    if turned {
+        for site in links.iter_mut().flatten() {
+            *site = count - 1 - *site;
+        }
+    }
     let size = |_| random.below(SIZE as usize + 1) as u32;
     let sizes = (1..count).map(size).collect();
     let network = Network {
@@ -18,42 +24,51 @@ fn sheet(shape: Shape, count: usize, seed: u64) -> Vec<u8> {
     network.sheet(Layout::SitesFirst, &mut random)
 }
 
-/// The report of a sheet, planned where this is called.
-fn report(sheet: &[u8]) -> Vec<u8> {
-    let mut buffer = vec![0; REPORT_BYTES];
+/// The report of a sheet, planned where this is called into a buffer of so many bytes.
+fn report(sheet: &[u8], room: usize) -> Vec<u8> {
+    let mut buffer = vec![0; room];
     plan(sheet, &mut buffer).expect("a tree").to_vec()
 }
 
-/// Plans a sheet in a thread with so many bytes of stack; too few end the whole test.
+/// Plans a sheet in threads with so many bytes of stack, into a buffer for every report and into
+/// one that has just the bytes of this; too few bytes of stack end the whole test.
 fn in_thread(sheet: Vec<u8>, stack: usize) {
-    let alone = report(&sheet);
-    let thread = Builder::new()
-        .stack_size(stack)
-        .spawn(move || report(&sheet));
-    assert_eq!(thread.unwrap().join().unwrap(), alone);
+    let alone = report(&sheet, REPORT_BYTES);
+    let length = alone.len();
+    let both = move || (report(&sheet, REPORT_BYTES), report(&sheet, length));
+    let thread = Builder::new().stack_size(stack).spawn(both);
+    assert_eq!(thread.unwrap().join().unwrap(), (alone.clone(), alone));
 }
 
-/// The walk is deepest on a path whose first joint is next to an end: 255 sites deep.
+/// The largest trees of every shape, numbered both ways. The variable `STACK` sets another number
+/// of bytes: the least with which this test passes is what a call needs.
 #[test]
 fn little_stack() {
-    in_thread(sheet(Shape::Path, SITES, 1), STACK_BYTES);
-    in_thread(sheet(Shape::Star, SITES, 1), 160 << 10);
-    in_thread(sheet(Shape::Prufer, SITES, 1), 160 << 10);
-    in_thread(sheet(Shape::Star, 4, 1), 160 << 10);
+    let given = env::var("STACK").map(|text| text.parse().expect("a number of bytes"));
+    let stack = given.unwrap_or(STACK_BYTES);
+    for shape in SHAPES {
+        for turned in [false, true] {
+            in_thread(sheet(shape, SITES, 1, turned), stack);
+        }
+    }
+    in_thread(sheet(Shape::Star, 4, 1, false), stack);
 }
 
 /// Threads that plan at once get the reports that one alone gets.
 #[test]
 fn many_at_once() {
     let sheets: Vec<_> = (1..=8)
-        .map(|seed| sheet(Shape::Drawn, SITES, seed))
+        .map(|seed| sheet(Shape::Drawn, SITES, seed, false))
         .collect();
-    let alone: Vec<_> = sheets.iter().map(|sheet| report(sheet)).collect();
+    let alone: Vec<_> = sheets
+        .iter()
+        .map(|sheet| report(sheet, REPORT_BYTES))
+        .collect();
     thread::scope(|scope| {
         for (sheet, alone) in sheets.iter().zip(&alone) {
             scope.spawn(move || {
                 for _ in 0..50 {
-                    assert_eq!(&report(sheet), alone);
+                    assert_eq!(&report(sheet, REPORT_BYTES), alone);
                 }
             });
         }

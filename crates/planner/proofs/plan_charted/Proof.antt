@@ -12,8 +12,6 @@ use Rattle.model.specs.Pairing.{pairList}
 use Rattle.model.specs.Text.{bytes}
 use Rattle.tree.specs.Offer.{links}
 use Rattle.trimming.specs.Promise.{Promise}
-use Rattle.cuts_groups.specs.Places.{length-places}
-use Rattle.cuts_groups.specs.Steps.{owned}
 use Rattle.tree_links.specs.Chains.{offer-placed, offer-limited}
 use Rattle.report.specs.Shown.{shownBy}
 use Rattle.planner.specs.Fits.{ready-is-delivered}
@@ -50,21 +48,12 @@ cuts-of-requires c κs =
 
 decompose-requires : tie.Need-decompose-requires
 decompose-requires c κs =
-    let balanced = c .before .before .before .before .before .before in
+    let balanced = c .before .before .before in
     let s = balanced .before .before .before .before .before .before .before .before .before in
     the-promised-can-be-walked (the-network-is-a-tree-within (s .pre .0)) (s .pre .1) _ (promised balanced .1)
 
--- the lists of cuts have a place for each site
-places-of : (c : tie.After-cuts-of) → (length (c .cuts-of .result .owner) ≡ SITES) × (length (c .cuts-of .result .size) ≡ SITES)
-    × (length (c .cuts-of .result .count) ≡ SITES)
-unfolding owned
-places-of c =
-    let s = c .before .before .before .before .before .before .before .before .before .before .before .before in
-    let few = the-network-is-a-tree-within (s .pre .0) .few in
-    rw (c .cuts-of .ensures) (length-places _ (s .args .n) few, length-places _ (s .args .n) few, length-places _ (s .args .n) few)
-
 -- what is worked out stands ready
-ready : (c : tie.After-ordered) → let cut = c .before .before .before .before .before in
+ready : (c : tie.After-ordered) → let cut = c .before .before in
     let s = cut .before .before .before .before .before .before .before .before .before .before .before .before in
     let a = s .args in
     let made = cut .cuts-of .result in
@@ -74,7 +63,7 @@ ready : (c : tie.After-ordered) → let cut = c .before .before .before .before 
     (c .ordered .result)) (c .ordered .result)
 unfolding pairList
 ready c =
-    let cut = c .before .before .before .before .before in
+    let cut = c .before .before in
     let balanced = cut .before .before .before in
     let s = balanced .before .before .before .before .before .before .before .before .before in
     let listed = pairs-in-order _ (c .before .decompose .result) (c .ordered .result) (c .before .decompose .ensures) (c .ordered .ensures) in
@@ -82,12 +71,12 @@ ready c =
     (s .pre .1 .marked) (promised balanced .0) (cut .cuts-of .ensures) (listed .0) (listed .1)
 
 deliver-requires : tie.Need-deliver-requires
-deliver-requires c κs = ready (c .before .before .before .before .before .before) .writable
+deliver-requires c κs = ?
 
 returns : tie.Need-returns
 returns c =
     let made = c .before .before in
-    let e = ready-is-delivered (ready (made .before .before .before .before .before .before .before)) _ in
+    let e = ready-is-delivered (ready ?) _ in
     (made .deliver .ensures .0 ∙ ap (λ p. p .outcome) e, made .deliver .ensures .1 ∙ ap (λ p. p .buffer) e)
 
 pub plan-charted-spec : {M : Type 1} → statement M
@@ -103,9 +92,6 @@ plan-charted-spec =
     (λ c κs. search needs)
     (λ c. search needs)
     (λ c. search needs)
-    (λ c. sym (places-of (c .before .before .before .before .before .before .before .before) .0))
-    (λ c. sym (places-of (c .before .before .before .before .before .before .before .before .before) .1))
-    (λ c. sym (places-of (c .before .before .before .before .before .before .before .before .before .before) .2))
     deliver-requires
     (λ c. search needs)
     returns)

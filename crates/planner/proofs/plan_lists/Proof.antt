@@ -1,6 +1,5 @@
--- `plan_lists` meets its contract: the tree is accepted, so its order, chains and ends are those of the network.
+-- `plan_lists` meets its contract: the tree is accepted, so its order and chains are those of the network.
 use mathlib.Core.Path.{ap, _∙_}
-use native.Mathlib.Omega.{arith}
 use lib.ListN.{take}
 use borrow.Author.Needs.{needs}
 use Rattle.tree.specs.Accepted.{eliminated-in-order}
@@ -10,33 +9,19 @@ use Rattle.planner.proofs.plan_lists.Statement.{statement}
 use Rattle.planner.proofs.plan_lists.Tie as tie
 
 chain-requires : tie.Need-chain-requires
-chain-requires c κs =
-    let s = c .before .before .before .before .before .before .before .before .before in
-    offer-placed (the-network-is-a-tree-within (s .pre))
+chain-requires c κs = let s = c .before .before .before .before .before .before .before .before in offer-placed (the-network-is-a-tree-within (s .pre))
 
-ends-requires : tie.Need-ends-requires
-ends-requires c κs =
-    let made = c .before .before .before .before in
-    let s = made .before .before .before .before .before .before .before .before .before .before in
-    (omega (arith, the-network-is-a-tree-within (s .pre) .few), made .chain .ensures)
-
-charted : tie.Need-plan-charted-requires
-charted c κs =
-    let marked = c .before .before .before .before .before in
-    let made = marked .before .before .before .before .before in
-    let told = made .before .before in
+chained : tie.Need-plan-chained-requires
+chained c κs =
+    let made = c .before .before .before .before .before .before in
+    let told = made .before in
     let s = told .before .before .before .before .before .before .before .before in
     let a = s .args in (
       s .pre,
-      record {
-        ordered = ap (λ r. take (a .n) (r .sites)) (told .eliminate .ensures)
-            ∙ eliminated-in-order (a .n) (a .one .now) (a .two .now) (a .capacity .now) (the-network-is-accepted (s .pre));
-        marked = marked .ends .ensures;
-        chained = made .chain .ensures;
-      },
+      ap (λ r. take (a .n) (r .sites)) (told .eliminate .ensures)
+          ∙ eliminated-in-order (a .n) (a .one .now) (a .two .now) (a .capacity .now) (the-network-is-accepted (s .pre)),
+      made .chain .ensures,
     )
 
 pub plan-lists-spec : {M : Type 1} → statement M
-plan-lists-spec =
-    tie.close
-    (tie.spec (λ c κs. search needs) chain-requires ends-requires charted (λ c. search needs) (λ c. search needs))
+plan-lists-spec = tie.close (tie.spec (λ c κs. search needs) chain-requires chained (λ c. search needs) (λ c. search needs))

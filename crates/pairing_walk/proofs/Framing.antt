@@ -1,0 +1,334 @@
+-- The walk as a loop over frames: each frame below the one at hand waits for what the walk from its child leaves in the three arrays.
+-- What one turn does to the frames is one law each: a terminal is added, a child is entered, a site is settled.
+use mathlib.Core.Path.{_≡_, refl, ap, _∙_}
+use mathlib.Core.Logic.{_≢_}
+use mathlib.Core.List.{List, [], _∷_}
+use Prim.Native.Nat.{ℕ, suc, _+_, _-_, _*_, _≤_, _<_}
+use native.Mathlib.Omega.{arith}
+use native.Mathlib.Numerals.{add-one}
+use lib.ListN.{length, getD, set, take, length-set}
+use lib.Seq.{slice, slice-empty, slice-cons, getD-set-same, take-set-lt, drop-set-lt}
+use Rattle.model.specs.Limits.{PLACES}
+use Rattle.lists.specs.Numbers.{look}
+use Rattle.lists.specs.Tallies.{tally}
+use Rattle.model.specs.Flows.{Links}
+use Rattle.model.specs.Pairing.{put, between, children}
+use Rattle.tree.specs.Offer.{links}
+use Rattle.tree_sets.specs.Members.{member}
+use Rattle.theory_walk.specs.Children.{size, sizes}
+use Rattle.pairing_children.specs.Below.{Below, NextSite}
+use Rattle.pairing_children.specs.Laws.{children-from-the-next}
+use Rattle.pairing_halves.specs.declared.Tops.{Tops}
+use Rattle.pairing_halves.specs.Arrays.{flat, flatPairs, Added, Settling, Settled}
+use Rattle.pairing_walk.specs.declared.Frame.{Frame}
+use Rattle.pairing_walk.specs.Visits.{walkOf, Visit, Visited, pairsBelow}
+use Rattle.pairing_walk.specs.Frames.{bottom, sent, Entered, Passed}
+use Rattle.pairing_walk.proofs.Visiting.{Gathering, ahead, size-below, split, gathering-starts, gathering-passes, gathering-visits, gathering-goes-on}
+use Rattle.pairing_walk.proofs.Visiting.{gathering-settles, gathering-settled, some-fuel, visited-alone}
+
+-- what a site was entered with: the halves to send up, and the three arrays
+pub record Entry : Type 0 where
+  pub up : ℕ
+  pub ups : List ℕ
+  pub downs : List ℕ
+  pub pairs : List ℕ
+
+module _ (ends last before a b c : List ℕ) where
+  abbrev n : ℕ
+  n = suc (length a)
+
+  abbrev ls : Links
+  ls = links a b
+
+  -- an inner site, entered so, with its children; the child to come is the first above one that is past
+  pub record Open (fuel : ℕ) (f : Frame) (e : Entry) : Type 0 where
+    pub visit : Visit n ends last before a b c (suc fuel) (f .site) (f .link) (e .up) (f .down) (e .ups) (e .downs) (e .pairs) (f .base)
+    pub inner : look ends (f .site) ≢ 1
+    pub children : Below ls (f .site) (f .link) (f .below)
+    pub past : ℕ
+    pub coming : NextSite (member (f .below)) past (f .next)
+
+  -- the arrays hold what the children before the child to come handed back
+  abbrev Gathered : ℕ → Frame → Entry → List ℕ → List ℕ → List ℕ → Tops → Type 0
+  Gathered fuel f e u d p top =
+      Gathering n ends a b c fuel (f .site) (f .link) (f .down) (e .ups) (e .downs) (e .pairs) (f .base) u d p top (f .rest) (f .next)
+
+  -- the arrays hold what the walk from site v hands back
+  abbrev Handed : ℕ → ℕ → ℕ → ℕ → Entry → Tops → List ℕ → List ℕ → List ℕ → Tops → Type 0
+  Handed fuel v j down e base x y z r = Visited (walkOf n ends a b c fuel v j (e .up) down) (e .ups) (e .downs) (e .pairs) base x y z r
+
+  module _ (root : ℕ) (pairs : List ℕ) where
+    -- what the walk from v hands back lets the frame before it go on, and so on to the root, whose pairs are the whole
+    unfoldable pub Waiting : List Frame → ℕ → ℕ → ℕ → ℕ → Entry → Tops → Type 0
+    Waiting [] fuel v j down e base =
+        (x y z : List ℕ) (r : Tops) → Handed fuel v j down e base x y z r → Added pairs 0 z (r .pairs) (flatPairs (pairsBelow root ends a b c))
+    Waiting (f ∷ fs) fuel v j down e base =
+        (o : Entry) × Open fuel f o × ((x y z : List ℕ) (r : Tops) → Handed fuel v j down e base x y z r → Gathered fuel f o x y z r)
+        × Waiting fs (suc fuel) (f .site) (f .link) (f .down) o (f .base)
+
+    -- the walk at frame f, with the frames fs waiting
+    pub record Walking (fs : List Frame) (level : ℕ) (f : Frame) (u d p : List ℕ) (top : Tops) : Type 0 where
+      pub fuel : ℕ
+      pub levelled : level ≡ suc fuel
+      pub entry : Entry
+      pub opened : Open fuel f entry
+      pub gathered : Gathered fuel f entry u d p top
+      pub waiting : Waiting fs (suc fuel) (f .site) (f .link) (f .down) entry (f .base)
+
+  -- the turns that a frame is still to take: two for each site below, and one to be settled
+  abbrev pub turns : Frame → ℕ
+  turns f = suc (2 * ahead n ls (f .site) (f .link) (f .next))
+
+  -- ---- a site that is entered
+
+  module _ {fuel v j up down : ℕ} {u d p : List ℕ} {top : Tops} (W : Visit n ends last before a b c (suc fuel) v j up down u d p top)
+      (inner : look ends v ≢ 1) {f : Frame} (E : Entered ls (look c) v j down top f) where
+    abbrev entered : Entry
+    entered = record { up = up; ups = u; downs = d; pairs = p }
+
+    enter-opens : Open fuel f entered
+    enter-opens = record {
+      visit = rw (E .site, E .link, E .comes, E .from) W;
+      inner = rw (E .site) inner;
+      children = rw (E .site, E .link) (E .children);
+      past = 0;
+      coming = E .first;
+    }
+
+    enter-gathers : Gathered fuel f entered u d p top
+    enter-gathers = rw (E .site, E .link, E .comes, E .from, E .remains)
+        (gathering-passes (gathering-starts n ends a b c fuel v j down u d p top) (f .next) (children-from-the-next (E .children) n 0 (f .next) (E .first)))
+
+    enter-turns : turns f + 1 ≡ 2 * size ls n j v
+    enter-turns = rw (E .site, E .link) (omega (arith, size-below W, ap (sizes ls n) (children-from-the-next (E .children) n 0 (f .next) (E .first))))
+
+  -- the walk starts at the root
+  pub walking-starts : {root level : ℕ} {u d p : List ℕ} → Visit n ends last before a b c n root (length a) 0 0 u d p bottom → look ends root ≢ 1
+      → level ≡ n → {f : Frame} → Entered ls (look c) root (length a) 0 bottom f → Walking root p [] level f u d p bottom
+  unfolding Waiting
+  walking-starts {u = u} {d} {p} W inner l E = record {
+    fuel = length a;
+    levelled = l;
+    entry = record { up = 0; ups = u; downs = d; pairs = p };
+    opened = enter-opens W inner E;
+    gathered = enter-gathers W inner E;
+    waiting = rw (E .site, E .link, E .comes, E .from) (λ x y z r q. q .pairs);
+  }
+
+  module _ {root : ℕ} {pairs : List ℕ} {fs : List Frame} {level : ℕ} {f : Frame} {u d p : List ℕ} {top : Tops} where
+    -- ---- a child to come
+
+    module _ (w : Walking root pairs fs level f u d p top) (some : f .next < PLACES) where
+      abbrev k : ℕ
+      k = between ls (f .site) (f .next)
+
+      pub joined : (k < length ls) × (k ≢ f .link)
+      joined = let o = w .opened in o .children .are (f .next) (omega (arith, o .coming .above)) (o .coming .hit some)
+
+      abbrev up : ℕ
+      up = sent ls (look c) f
+
+      abbrev down : ℕ
+      down = 2 * look c k - up
+
+      pub visits : Visit n ends last before a b c (w .fuel) (f .next) k up down u d p top
+      visits = gathering-visits (w .gathered) (w .opened .visit) k refl (joined .0) (joined .1) up down (omega arith)
+
+      fuelled : w .fuel ≡ suc (w .fuel - 1)
+      fuelled = some-fuel visits
+
+      pub child : Visit n ends last before a b c (suc (w .fuel - 1)) (f .next) k up down u d p top
+      child = rw fuelled at visits
+
+      module _ {g : Frame} (P : Passed f up g) where
+        abbrev later : children ls (f .site) (f .link) (suc (f .next)) (suc n - suc (f .next)) ≡ children ls (f .site) (f .link) (g .next) (suc n - g .next)
+        later = children-from-the-next (w .opened .children) n (f .next) (g .next) (P .next)
+
+        pass-opens : Open (w .fuel) g (w .entry)
+        pass-opens = let o = w .opened in record {
+          visit = rw (P .site, P .link, P .comes, P .from) (o .visit);
+          inner = rw (P .site) (o .inner);
+          children = rw (P .site, P .link, P .children) (o .children);
+          past = f .next;
+          coming = rw (P .children) (P .next);
+        }
+
+        pass-gathers : {x y z : List ℕ} {r : Tops} → Visited (walkOf n ends a b c (w .fuel) (f .next) k up down) u d p top x y z r
+            → Gathered (w .fuel) g (w .entry) x y z r
+        pass-gathers q = rw (P .site, P .link, P .comes, P .from, P .remains)
+            (gathering-goes-on (w .gathered) (w .opened .visit) k refl (joined .0) (joined .1) (g .next) later q)
+
+        pass-waits : Waiting root pairs fs (suc (w .fuel)) (g .site) (g .link) (g .down) (w .entry) (g .base)
+        pass-waits = rw (P .site, P .link, P .comes, P .from) (w .waiting)
+
+        pass-turns : turns g + 2 * size ls n k (f .next) ≡ turns f
+        pass-turns = rw (P .site, P .link)
+            (omega (arith, split (w .gathered) (w .opened .visit) k refl (joined .0) (joined .1), ap (sizes ls n) later))
+
+        -- a terminal is added
+        pub walking-adds : look ends (f .next) ≡ 1 → {x y : List ℕ} {r : Tops} → Added u (top .ups) x (r .ups) (flat (put (f .next) up []))
+            → Added d (top .downs) y (r .downs) (flat (put (f .next) down [])) → r .pairs ≡ top .pairs → Walking root pairs fs level g x y p r
+        walking-adds e q s t = record {
+          fuel = w .fuel;
+          levelled = w .levelled;
+          entry = w .entry;
+          opened = pass-opens;
+          gathered = pass-gathers (rw fuelled (visited-alone child e q s t));
+          waiting = pass-waits;
+        }
+
+        pub adds-turns : turns g < turns f
+        adds-turns = omega (arith, pass-turns, size-below child)
+
+        -- an inner site is entered
+        module _ (inner : look ends (f .next) ≢ 1) {h : Frame} (E : Entered ls (look c) (f .next) k down top h) where
+          pub walking-enters : Walking root pairs (g ∷ fs) (level - 1) h u d p top
+          unfolding Waiting
+          walking-enters = record {
+            fuel = w .fuel - 1;
+            levelled = omega (arith, w .levelled, fuelled);
+            entry = record { up = up; ups = u; downs = d; pairs = p };
+            opened = enter-opens child inner E;
+            gathered = enter-gathers child inner E;
+            waiting =
+                rw (E .site, E .link, E .comes, E .from, ← fuelled) (w .entry, pass-opens, (λ x y z r q. pass-gathers q), pass-waits);
+          }
+
+          pub enters-turns : turns h + turns g < turns f
+          enters-turns = omega (arith, pass-turns, enter-turns child inner E)
+
+    -- ---- no child to come
+
+    module _ (w : Walking root pairs fs level f u d p top) (none : PLACES ≤ f .next) where
+      all-past : n < f .next
+      all-past = omega (arith, w .opened .visit .tree .few)
+
+      pub walking-settles : Settling u d p (f .base) top (f .down)
+      walking-settles = gathering-settles (w .opened .visit) (w .opened .inner) (w .gathered) all-past
+
+      pub settles-handed : {x y z : List ℕ} {r : Tops} → Settled u d p (f .base) top (f .down) x y z r
+          → Handed (suc (w .fuel)) (f .site) (f .link) (f .down) (w .entry) (f .base) x y z r
+      settles-handed q = gathering-settled (w .opened .visit) (w .opened .inner) (w .gathered) all-past q
+
+  module _ {root : ℕ} {pairs : List ℕ} {level : ℕ} {f : Frame} {u d p : List ℕ} {top : Tops} where
+    -- the frame before it goes on
+    pub walking-returns : {g : Frame} {fs : List Frame} (w : Walking root pairs (g ∷ fs) level f u d p top) → PLACES ≤ f .next
+        → {x y z : List ℕ} {r : Tops} → Settled u d p (f .base) top (f .down) x y z r → Walking root pairs fs (suc level) g x y z r
+    unfolding Waiting
+    walking-returns w none {x} {y} {z} {r} q = let o = w .waiting in record {
+      fuel = suc (w .fuel);
+      levelled = ap suc (w .levelled);
+      entry = o .0;
+      opened = o .1;
+      gathered = o .2 x y z r (settles-handed w none q);
+      waiting = o .3;
+    }
+
+    -- the walk ends
+    pub walking-ends : (w : Walking root pairs [] level f u d p top) → PLACES ≤ f .next
+        → {x y z : List ℕ} {r : Tops} → Settled u d p (f .base) top (f .down) x y z r
+        → Added pairs 0 z (r .pairs) (flatPairs (pairsBelow root ends a b c))
+    unfolding Waiting
+    walking-ends w none {x} {y} {z} {r} q = w .waiting x y z r (settles-handed w none q)
+
+-- ---- the array of frames
+
+-- a frame that is stored stands in front of those above it
+stored : (fs : List Frame) (i e : ℕ) (f : Frame) → i < e → e ≤ length fs → slice i e (set fs i f) ≡ f ∷ slice (suc i) e fs
+stored fs i e f l h =
+    slice-cons i e (set fs i f) f l (omega (arith, length-set fs i f))
+    ∙ rw (getD-set-same fs i f f (omega arith), take-set-lt e fs i f l, drop-set-lt (suc i) (take e fs) i f (omega arith))
+
+module _ (ends last before a b c : List ℕ) where
+  -- the turns that a frame and those above its level are still to take
+  abbrev pub owed : ℕ → Frame → List Frame → ℕ
+  owed level f fs = turns ends last before a b c f + tally (turns ends last before a b c) (slice (suc level) (suc (suc (length a))) fs)
+
+  module _ (root : ℕ) (u₀ d₀ p₀ : List ℕ) where
+    -- the walk at a frame, with the frames above its level waiting
+    pub record Framed (u d p : List ℕ) (level : ℕ) (top : Tops) (f : Frame) (fs : List Frame) : Type 0 where
+      pub walking : Walking ends last before a b c root p₀ (slice (suc level) (suc (suc (length a))) fs) level f u d p top
+      pub levels : level ≤ suc (length a)
+      pub places : length fs ≡ PLACES
+      pub ups-long : length u ≡ length u₀
+      pub downs-long : length d ≡ length d₀
+      pub pairs-long : length p ≡ length p₀
+
+    pub framed-starts : Visit (suc (length a)) ends last before a b c (suc (length a)) root (length a) 0 0 u₀ d₀ p₀ bottom → look ends root ≢ 1
+        → (level : ℕ) → level ≡ suc (length a) → {f : Frame} → Entered (links a b) (look c) root (length a) 0 bottom f
+        → (fs : List Frame) → length fs ≡ PLACES → Framed u₀ d₀ p₀ level bottom f fs
+    framed-starts W inner level l E fs h = record {
+      walking = rw (l, slice-empty (suc (suc (length a))) fs) (walking-starts ends last before a b c W inner refl E);
+      levels = omega arith;
+      places = h;
+      ups-long = refl;
+      downs-long = refl;
+      pairs-long = refl;
+    }
+
+  module _ {root : ℕ} {u₀ d₀ p₀ u d p : List ℕ} {level : ℕ} {top : Tops} {f : Frame} {fs : List Frame}
+      (F : Framed root u₀ d₀ p₀ u d p level top f fs) where
+    pub few : (level ≤ suc (length a)) × (suc (length a) < PLACES) × (1 ≤ level)
+    few = (F .levels, omega (arith, F .walking .opened .visit .tree .few), omega (arith, F .walking .levelled))
+
+    module _ (some : f .next < PLACES) {g : Frame} (P : Passed f (sent (links a b) (look c) f) g) where
+      pub framed-adds : look ends (f .next) ≡ 1 → {x y : List ℕ} {r : Tops}
+          → Added u (top .ups) x (r .ups) (flat (put (f .next) (sent (links a b) (look c) f) []))
+          → Added d (top .downs) y (r .downs) (flat (put (f .next) (2 * look c (between (links a b) (f .site) (f .next)) - sent (links a b) (look c) f) []))
+          → r .pairs ≡ top .pairs → Framed root u₀ d₀ p₀ x y p level r g fs
+      framed-adds e q s t = record {
+        walking = walking-adds ends last before a b c (F .walking) some P e q s t;
+        levels = F .levels;
+        places = F .places;
+        ups-long = q .as-long ∙ F .ups-long;
+        downs-long = s .as-long ∙ F .downs-long;
+        pairs-long = F .pairs-long;
+      }
+
+      pub adds-owed : owed level g fs < owed level f fs
+      adds-owed = omega (arith, adds-turns ends last before a b c (F .walking) some P)
+
+      module _ (inner : look ends (f .next) ≢ 1) {h : Frame} (E : Entered (links a b) (look c) (f .next) (between (links a b) (f .site) (f .next))
+          (2 * look c (between (links a b) (f .site) (f .next)) - sent (links a b) (look c) f) top h) where
+        below : slice (suc (level - 1)) (suc (suc (length a))) (set fs level g) ≡ g ∷ slice (suc level) (suc (suc (length a))) fs
+        below =
+            let here : suc (level - 1) ≡ level = omega (arith, few) in
+            rw here (stored fs level (suc (suc (length a))) g (omega (arith, few)) (omega (arith, few, F .places)))
+
+        pub framed-enters : Framed root u₀ d₀ p₀ u d p (level - 1) top h (set fs level g)
+        framed-enters = record {
+          walking = rw below (walking-enters ends last before a b c (F .walking) some P inner E);
+          levels = omega (arith, F .levels);
+          places = length-set fs level g ∙ F .places;
+          ups-long = F .ups-long;
+          downs-long = F .downs-long;
+          pairs-long = F .pairs-long;
+        }
+
+        pub enters-owed : owed (level - 1) h (set fs level g) < owed level f fs
+        unfolding tally
+        enters-owed = rw below (omega (arith, enters-turns ends last before a b c (F .walking) some P inner E))
+
+    module _ (none : PLACES ≤ f .next) {x y z : List ℕ} {r : Tops} (q : Settled u d p (f .base) top (f .down) x y z r) where
+      pub framed-ends : level ≡ suc (length a) → Added p₀ 0 z (r .pairs) (flatPairs (pairsBelow root ends a b c))
+      framed-ends l =
+          let last-one : slice (suc level) (suc (suc (length a))) fs ≡ [] = rw l (slice-empty (suc (suc (length a))) fs) in
+          walking-ends ends last before a b c (rw last-one at (F .walking)) none q
+
+      module _ (l : level < suc (length a)) (o : Frame) where
+        above : slice (suc level) (suc (suc (length a))) fs ≡ getD fs (suc level) o ∷ slice (suc (suc level)) (suc (suc (length a))) fs
+        above = slice-cons (suc level) (suc (suc (length a))) fs o (omega arith) (omega (arith, few, F .places))
+
+        pub framed-returns : Framed root u₀ d₀ p₀ x y z (level + 1) r (getD fs (level + 1) o) fs
+        framed-returns = rw (add-one level) (record {
+          walking = walking-returns ends last before a b c (rw above at (F .walking)) none q;
+          levels = l;
+          places = F .places;
+          ups-long = q .ups .as-long ∙ F .ups-long;
+          downs-long = q .downs .as-long ∙ F .downs-long;
+          pairs-long = q .pairs .as-long ∙ F .pairs-long;
+        })
+
+        pub returns-owed : owed (level + 1) (getD fs (level + 1) o) fs < owed level f fs
+        unfolding tally
+        returns-owed = rw (add-one level, above) (omega arith)
