@@ -71,12 +71,12 @@ ready c =
     (s .pre .1 .marked) (promised balanced .0) (cut .cuts-of .ensures) (listed .0) (listed .1)
 
 deliver-requires : tie.Need-deliver-requires
-deliver-requires c κs = ?
+deliver-requires c κs = ready (c .before .before .before .before .before .before .before .before .before .before) .writable
 
 returns : tie.Need-returns
 returns c =
     let made = c .before .before in
-    let e = ready-is-delivered (ready ?) _ in
+    let e = ready-is-delivered (ready (made .before .before .before .before .before .before .before .before .before .before .before)) _ in
     (made .deliver .ensures .0 ∙ ap (λ p. p .outcome) e, made .deliver .ensures .1 ∙ ap (λ p. p .buffer) e)
 
 pub plan-charted-spec : {M : Type 1} → statement M
