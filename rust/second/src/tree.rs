@@ -86,6 +86,16 @@ impl RootedTree {
         self.parent[usize::from(site)]
     }
 
+    /// Of the two sites of a link the one that is the child.
+    #[inline]
+    pub fn child(&self, [first, second]: [u8; 2]) -> u8 {
+        if self.parent(first) == second {
+            first
+        } else {
+            second
+        }
+    }
+
     /// The capacity of the link from a site to its parent; the root's is 0.
     #[inline]
     pub fn capacity(&self, site: u8) -> u32 {
@@ -108,6 +118,16 @@ impl RootedTree {
             child = self.next_sibling[usize::from(child)];
             this
         })
+    }
+}
+
+/// A tree of even capacities, for an error that can be planted.
+impl RootedTree {
+    pub fn with_even_capacities(&self) -> Self {
+        RootedTree {
+            capacity: self.capacity.map(|capacity| capacity & !1),
+            ..*self
+        }
     }
 }
 
