@@ -2,7 +2,8 @@
 
 use crate::compare::{Answer, Planners};
 use crate::damage::{self, Damaged};
-use crate::{Failure, accepted, demands};
+use crate::small::accepted;
+use crate::{Failure, circuits, demands};
 use second::REPORT_BYTES;
 use sheets::{Layout, Network, Random};
 use std::cell::Cell;
@@ -82,11 +83,15 @@ impl Case {
             Kind::Tree(network) => {
                 let solve = network.names.len() <= 7 && self.random.once_in(4);
                 let length = accepted(network, &self.sheet, planners, solve)?;
+                let whole = circuits::accepted(planners, &self.sheet)?.to_vec();
                 tally.outcomes[0] += 1;
                 tally.solved += u64::from(solve);
                 if self.random.once_in(8) {
                     tally.outcomes[9] += 1;
                     self.check_buffers(length, planners)?;
+                    for length in self.buffer_lengths(whole.len()) {
+                        self.check_whole_buffer(&whole, length, planners)?;
+                    }
                 }
                 Ok(())
             }
@@ -97,13 +102,18 @@ impl Case {
         }
     }
 
-    /// Compares the planners with report buffers about as long as the report.
-    fn check_buffers(&mut self, length: usize, planners: &mut Planners) -> Result<(), String> {
+    /// Lengths of report buffers about as long as a report, and others.
+    fn buffer_lengths(&mut self, length: usize) -> impl Iterator<Item = usize> + use<> {
         let near = length - 4..=length + 4;
         let shorter = self.random.below(length);
         let longer = self.random.between(length, REPORT_BYTES);
-        for buffer_length in near.chain([0, 1, shorter, longer]) {
-            let is_right = match planners.compare(&self.sheet, buffer_length)? {
+        near.chain([0, 1, shorter, longer])
+    }
+
+    /// Compares the planners with report buffers about as long as the report.
+    fn check_buffers(&mut self, length: usize, planners: &mut Planners) -> Result<(), String> {
+        for buffer_length in self.buffer_lengths(length) {
+            let is_right = match planners.plan(&self.sheet, buffer_length)? {
                 Answer::Report(report) => buffer_length >= length && report.len() == length,
                 Answer::Refused(number, line) => buffer_length < length && (number, line) == (9, 0),
             };
@@ -114,6 +124,44 @@ impl Case {
             }
         }
         Ok(())
+    }
+
+    /// Lets the proved planner write its report in whole circuits into a buffer.
+    fn check_whole_buffer(
+        &self,
+        due: &[u8],
+        length: usize,
+        planners: &mut Planners,
+    ) -> Result<(), String> {
+        let is_right = match planners.whole(&self.sheet, length)? {
+            Answer::Report(reports) => length >= due.len() && reports.proved == due,
+            Answer::Refused(number, line) => length < due.len() && (number, line) == (9, 0),
+        };
+        if !is_right {
+            return Err(format!(
+                "whole: the proved planner is wrong on a buffer of {length} bytes"
+            ));
+        }
+        Ok(())
+    }
+
+    /// Compares the planners in whole circuits on a sheet, given what they answer in halves.
+    fn check_damaged_whole(
+        &self,
+        refusal: Option<(u8, u32)>,
+        length: usize,
+        planners: &mut Planners,
+    ) -> Result<(), String> {
+        let Some(due) = refusal.filter(|&(number, _)| number != 9) else {
+            let report = circuits::accepted(planners, &self.sheet)?.to_vec();
+            return self.check_whole_buffer(&report, length, planners);
+        };
+        match planners.whole(&self.sheet, length)? {
+            Answer::Refused(number, line) if (number, line) == due => Ok(()),
+            answer => Err(format!(
+                "whole: the answer is {answer:?} where {due:?} is due"
+            )),
+        }
     }
 
     fn check_damaged(
@@ -127,13 +175,14 @@ impl Case {
             1 => self.random.below(400),
             _ => REPORT_BYTES,
         };
-        let answer = match planners.compare(&self.sheet, length)? {
+        let answer = match planners.plan(&self.sheet, length)? {
             Answer::Report(report) => {
                 demands::check(&self.sheet, report)?;
                 None
             }
             Answer::Refused(number, line) => Some((number, line)),
         };
+        self.check_damaged_whole(answer, length, planners)?;
         tally.outcomes[answer.map_or(0, |(number, _)| usize::from(number))] += 1;
         if refusal.is_some() && answer != refusal {
             return Err(format!(

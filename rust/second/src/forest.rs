@@ -26,9 +26,9 @@ impl Forest {
             capacity: [0; SITES],
         };
         let mut is_reached = [false; SITES];
-        for site in 0..tree.site_count() {
-            if tree.is_terminal(site as u8) && !is_reached[site] {
-                forest.grow(tree, site as u8, &mut is_reached);
+        for end in tree.terminals() {
+            if !is_reached[usize::from(end)] {
+                forest.grow(tree, end, &mut is_reached);
             }
         }
         forest

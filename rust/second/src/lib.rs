@@ -107,10 +107,9 @@ pub fn whole(sheet: &[u8], buffer: &mut [u8]) -> Outcome {
         } else {
             pieces::end_sets(network, tree, &forest, &loads)
         };
-        let ends = (0..tree.site_count() as u8).filter(|&site| tree.is_terminal(site));
         let shown = Shown {
             heading: b"whole",
-            total: ends.map(|end| loads.sum(end)).sum(),
+            total: tree.terminals().map(|end| loads.sum(end)).sum(),
             balanced: &loads,
             cuts: &cuts,
             odd_pieces: Some(pieces::odd_pieces(network, tree, &cuts, &loads)),

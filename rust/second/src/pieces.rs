@@ -20,10 +20,8 @@ pub fn end_sets(
     loads: &Balanced,
 ) -> TerminalCuts {
     let mut owner = [None; SITES];
-    for site in 0..tree.site_count() as u8 {
-        if tree.is_terminal(site) {
-            owner[usize::from(site)] = Some(site);
-        }
+    for end in tree.terminals() {
+        owner[usize::from(end)] = Some(end);
     }
     let spare = |site| {
         let child = tree.child([site, forest.parent(site)]);

@@ -75,6 +75,12 @@ impl RootedTree {
         self.site_count
     }
 
+    /// The ends, in the order of their lines.
+    pub fn terminals(&self) -> impl Iterator<Item = u8> {
+        let sites = (0..self.site_count).map(|site| site as u8);
+        sites.filter(|&site| self.is_terminal(site))
+    }
+
     /// Every site but the root, each before its parent.
     pub fn leaves_first(&self) -> &[u8] {
         &self.leaves_first[..self.site_count - 1]
