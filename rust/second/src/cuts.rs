@@ -39,9 +39,9 @@ impl TerminalCuts {
     }
 
     /// The end sets in which each site has a given owner, or none.
-    pub fn of_owners(network: &Network, owner: [Option<u8>; SITES]) -> Self {
+    pub fn of_owners(network: &Network, owner: &[Option<u8>; SITES]) -> Self {
         let mut cuts = TerminalCuts {
-            owner,
+            owner: *owner,
             size: [0; SITES],
             site_count: [0; SITES],
             total: 0,
@@ -86,5 +86,5 @@ pub fn terminal_cuts(network: &Network, tree: &RootedTree, balanced: &Balanced) 
             }
         }
     }
-    TerminalCuts::of_owners(network, owner)
+    TerminalCuts::of_owners(network, &owner)
 }

@@ -100,29 +100,39 @@ pub fn plan(sheet: &[u8], buffer: &mut [u8]) -> Outcome {
 /// `buffer`, as [`plan`] does the other.
 pub fn whole(sheet: &[u8], buffer: &mut [u8]) -> Outcome {
     answer(sheet, buffer, |network, tree| {
-        let forest = Forest::new(tree);
-        let loads = whole::loads(tree, &forest);
-        let cuts = if planted(Error::SetsInHalves) {
-            cuts::terminal_cuts(network, tree, &trim::balance(tree))
-        } else {
-            pieces::end_sets(network, tree, &forest, &loads)
-        };
-        let shown = Shown {
-            heading: b"whole",
-            total: tree.terminals().map(|end| loads.sum(end)).sum(),
-            balanced: &loads,
-            cuts: &cuts,
-            odd_pieces: Some(pieces::odd_pieces(network, tree, &cuts, &loads)),
-            pairs: &pairs::pair(tree, &loads),
-        };
-        report::write(network, tree, &shown)
+        if planted(Error::WholeFromHighest) {
+            return write_whole(network, &RootedTree::rooted(network, true));
+        }
+        write_whole(network, tree)
     })
+}
+
+/// The report in whole circuits.
+#[inline]
+fn write_whole(network: &Network, tree: &RootedTree) -> Vec<u8> {
+    let forest = Forest::new(tree);
+    let loads = whole::loads(tree, &forest);
+    let cuts = if planted(Error::SetsInHalves) {
+        cuts::terminal_cuts(network, tree, &trim::balance(tree))
+    } else {
+        pieces::end_sets(network, tree, &forest, &loads)
+    };
+    let shown = Shown {
+        heading: b"whole",
+        total: tree.terminals().map(|end| loads.sum(end)).sum(),
+        balanced: &loads,
+        cuts: &cuts,
+        odd_pieces: Some(pieces::odd_pieces(network, tree, &cuts, &loads)),
+        pairs: &pairs::pair(tree, &loads),
+    };
+    report::write(network, tree, &shown)
 }
 
 /// The `P` lines of the walk over an accepted sheet, with loads of its links, in the order of
 /// their lines, in the place of trimmed sizes. No link may be heavy by these loads at a joint.
 ///
 /// There are none if the sheet is refused or has another number of links.
+#[must_use]
 pub fn pair_lines(sheet: &[u8], loads: &[u32]) -> Option<Vec<u8>> {
     let mut network = Network::new(sheet);
     network.read().ok()?;
@@ -134,7 +144,7 @@ pub fn pair_lines(sheet: &[u8], loads: &[u32]) -> Option<Vec<u8>> {
     for (link, &load) in network.links().iter().zip(loads) {
         by_child[usize::from(tree.child(link.sites))] = load;
     }
-    let pairs = pairs::pair(&tree, &Balanced::new(&tree, by_child));
+    let pairs = pairs::pair(&tree, &Balanced::new(&tree, &by_child));
     let mut text = Vec::new();
     report::push_pairs(&mut text, &network, &pairs);
     Some(text)

@@ -43,7 +43,7 @@ pub fn end_sets(
         }
     }
     spread_down(&mut owner);
-    TerminalCuts::of_owners(network, owner)
+    TerminalCuts::of_owners(network, &owner)
 }
 
 /// Counts the odd pieces: the largest groups of sites in no set, connected over links of a

@@ -1,6 +1,6 @@
 //! Errors planted on purpose.
 //!
-//! With the feature `planted` one of eighteen errors can be switched on, to show that the comparison
+//! With the feature `planted` one of nineteen errors can be switched on, to show that the comparison
 //! of the planners finds it. Without the feature none of this reaches the compiled planner.
 
 /// An error that can be planted, numbered from 1.
@@ -42,10 +42,12 @@ pub enum Error {
     CutOffSites = 17,
     /// A piece is odd by the loads of the links leaving it.
     OddByLoads = 18,
+    /// The walk in whole circuits starts at the joint of highest number.
+    WholeFromHighest = 19,
 }
 
 /// All errors, in the order of their numbers.
-pub const ERRORS: [Error; 18] = [
+pub const ERRORS: [Error; 19] = [
     Error::RoundedHalf,
     Error::HighestRoot,
     Error::UpwardSets,
@@ -64,6 +66,7 @@ pub const ERRORS: [Error; 18] = [
     Error::JoinedOverZero,
     Error::CutOffSites,
     Error::OddByLoads,
+    Error::WholeFromHighest,
 ];
 
 #[cfg(feature = "planted")]

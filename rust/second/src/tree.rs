@@ -23,9 +23,14 @@ pub struct RootedTree {
 impl RootedTree {
     /// Roots the tree of a network by taking off one leaf after the other.
     pub fn new(network: &Network) -> Self {
+        Self::rooted(network, planted(Error::HighestRoot))
+    }
+
+    /// The same, but at the joint of highest number if an error is planted.
+    pub fn rooted(network: &Network, at_highest: bool) -> Self {
         let mut folds = *network.folds();
         let site_count = network.site_count();
-        let root = root(&folds[..site_count]);
+        let root = root(&folds[..site_count], at_highest);
         let mut tree = RootedTree {
             root,
             site_count,
@@ -138,9 +143,9 @@ impl RootedTree {
 }
 
 /// The joint of lowest number, or the first site if there is no joint.
-fn root(folds: &[Fold]) -> u8 {
+fn root(folds: &[Fold], at_highest: bool) -> u8 {
     let is_joint = |fold: &Fold| fold.degree > 1;
-    let joint = if planted(Error::HighestRoot) {
+    let joint = if at_highest {
         folds.iter().rposition(is_joint)
     } else {
         folds.iter().position(is_joint)

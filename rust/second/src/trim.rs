@@ -14,13 +14,16 @@ pub struct Balanced {
 
 impl Balanced {
     /// Balanced capacities of the links from each site to its parent.
-    pub fn new(tree: &RootedTree, capacity: [u32; SITES]) -> Self {
+    pub fn new(tree: &RootedTree, capacity: &[u32; SITES]) -> Self {
         let mut sum = [0; SITES];
         for &site in tree.leaves_first() {
             sum[usize::from(site)] += capacity[usize::from(site)];
             sum[usize::from(tree.parent(site))] += capacity[usize::from(site)];
         }
-        Balanced { capacity, sum }
+        Balanced {
+            capacity: *capacity,
+            sum,
+        }
     }
 
     #[inline]

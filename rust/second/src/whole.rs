@@ -47,7 +47,7 @@ pub fn loads(tree: &RootedTree, forest: &Forest) -> Balanced {
         };
         by_child[usize::from(tree.child([site, parent]))] = load[usize::from(site)];
     }
-    Balanced::new(tree, by_child)
+    Balanced::new(tree, &by_child)
 }
 
 /// The most that each link can carry up without loss below it, and what comes up to each site.
