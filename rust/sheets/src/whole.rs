@@ -105,7 +105,7 @@ pub const TRIED: [Tried; 12] = [
         title: "path 7, 3, 5",
         sheet: "network 1\nN a\nN h\nN k\nN b\nL a h 7\nL h k 3\nL k b 5\n",
         total: 6,
-        odd_pieces: None,
+        odd_pieces: Some(0),
         pairs: Some("P a b 6\n"),
     },
     // The end sets of the report in halves have sizes 6 together.
@@ -126,13 +126,13 @@ pub const TRIED: [Tried; 12] = [
         odd_pieces: Some(2),
         pairs: None,
     },
-    // One piece of two joints, with four links of size 1 leaving it.
+    // At each joint the two ends have no other choice than each other.
     Tried {
         title: "two stars joined by a link of size 1",
         sheet: "network 1\nN h\nN k\nN a\nN b\nN c\nN d\nL h k 1\n\
                 L h a 1\nL h b 1\nL k c 1\nL k d 1\n",
         total: 4,
         odd_pieces: None,
-        pairs: None,
+        pairs: Some("P a b 2\nP c d 2\n"),
     },
 ];
