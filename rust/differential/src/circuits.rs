@@ -1,40 +1,29 @@
-//! Both planners on one sheet, in whole circuits.
+//! Both planners on one sheet that must be accepted, in whole circuits.
 
-use crate::card;
+use crate::card::{self, Checked};
 use crate::compare::{Answer, Planners};
+use second::REPORT_BYTES;
 
-/// Compares the planners on a sheet, the proved one with a report buffer of `length` bytes. Loads
-/// and end sets are free, so each report is checked against the card; the totals must agree.
-/// Returns the answer of the proved planner.
-pub fn compare<'buffer>(
+/// Compares the planners on a sheet. Loads and end sets are free, so each report is checked against
+/// the card by itself; the totals must agree. Returns the proved report, and what it says.
+pub fn accepted<'buffer>(
     planners: &'buffer mut Planners,
     sheet: &[u8],
-    length: usize,
-) -> Result<Answer<&'buffer [u8]>, String> {
-    let reports = match planners.whole(sheet, length)? {
+) -> Result<(&'buffer [u8], Checked), String> {
+    let reports = match planners.whole(sheet, REPORT_BYTES)? {
         Answer::Report(reports) => reports,
-        Answer::Refused(number, line) => return Ok(Answer::Refused(number, line)),
+        Answer::Refused(number, line) => {
+            return Err(format!("whole: a tree is refused: {number} at line {line}"));
+        }
     };
     let told = |planner: &str, what: &str| format!("whole, the {planner} planner: {what}");
     let proved = card::check(sheet, reports.proved).map_err(|what| told("proved", &what))?;
     let second = card::check(sheet, reports.second).map_err(|what| told("second", &what))?;
-    if proved != second {
+    if proved.total != second.total {
         return Err(format!(
-            "whole: the proved planner has a total of {proved}, the second of {second}"
+            "whole: the proved planner has a total of {}, the second of {}",
+            proved.total, second.total
         ));
     }
-    Ok(Answer::Report(reports.proved))
-}
-
-/// Compares the planners on a sheet that must be accepted, and returns the proved report.
-pub fn accepted<'buffer>(
-    planners: &'buffer mut Planners,
-    sheet: &[u8],
-) -> Result<&'buffer [u8], String> {
-    match compare(planners, sheet, second::REPORT_BYTES)? {
-        Answer::Report(report) => Ok(report),
-        Answer::Refused(number, line) => Err(format!(
-            "whole: both planners refuse a tree: {number} at line {line}"
-        )),
-    }
+    Ok((reports.proved, proved))
 }

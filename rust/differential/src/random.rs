@@ -20,6 +20,8 @@ const LEAST_SHARE: u64 = 2_000;
 /// The refusals for the form of a line, and the share that each of them must have.
 const FORM: [usize; 4] = [2, 10, 11, 12];
 const LEAST_FORM_SHARE: u64 = 10;
+/// One in this many sheets must at least have odd pieces when planned in whole circuits.
+const LEAST_ODD_SHARE: u64 = 20;
 /// With fewer sheets the shares are left to chance.
 const ENOUGH_FOR_SHARES: u64 = 100_000;
 
@@ -33,6 +35,8 @@ thread_local! {
 pub struct Tally {
     outcomes: [u64; 13],
     solved: u64,
+    /// How many accepted trees have odd pieces in whole circuits.
+    odd: u64,
 }
 
 impl Tally {
@@ -41,6 +45,7 @@ impl Tally {
             *count += more;
         }
         self.solved += other.solved;
+        self.odd += other.odd;
     }
 }
 
@@ -83,7 +88,9 @@ impl Case {
             Kind::Tree(network) => {
                 let solve = network.names.len() <= 7 && self.random.once_in(4);
                 let length = accepted(network, &self.sheet, planners, solve)?;
-                let whole = circuits::accepted(planners, &self.sheet)?.to_vec();
+                let (whole, checked) = circuits::accepted(planners, &self.sheet)?;
+                let whole = whole.to_vec();
+                tally.odd += u64::from(checked.odd_pieces > 0);
                 tally.outcomes[0] += 1;
                 tally.solved += u64::from(solve);
                 if self.random.once_in(8) {
@@ -153,7 +160,7 @@ impl Case {
         planners: &mut Planners,
     ) -> Result<(), String> {
         let Some(due) = refusal.filter(|&(number, _)| number != 9) else {
-            let report = circuits::accepted(planners, &self.sheet)?.to_vec();
+            let report = circuits::accepted(planners, &self.sheet)?.0.to_vec();
             return self.check_whole_buffer(&report, length, planners);
         };
         match planners.whole(&self.sheet, length)? {
@@ -267,9 +274,10 @@ pub fn compare_all(seed: u64, count: u64) -> Result<(), Failure> {
         count as f64 / seconds
     );
     println!(
-        "  {} accepted, {} solved; refused 1 to 12: {:?}",
+        "  {} accepted, {} solved, {} with odd pieces; refused 1 to 12: {:?}",
         tally.outcomes[0],
         tally.solved,
+        tally.odd,
         &tally.outcomes[1..]
     );
     let has_share = |(number, &sheets): (usize, &u64)| {
@@ -280,7 +288,9 @@ pub fn compare_all(seed: u64, count: u64) -> Result<(), Failure> {
         };
         sheets >= count / share
     };
-    if count >= ENOUGH_FOR_SHARES && !tally.outcomes.iter().enumerate().all(has_share) {
+    let has_shares =
+        tally.outcomes.iter().enumerate().all(has_share) && tally.odd >= count / LEAST_ODD_SHARE;
+    if count >= ENOUGH_FOR_SHARES && !has_shares {
         return Err(Failure {
             sheet: None,
             index: None,

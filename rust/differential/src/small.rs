@@ -1,5 +1,6 @@
 //! The sheets of the scope document, and all small trees.
 
+use crate::card::Checked;
 use crate::compare::{Answer, Planners};
 use crate::exact::{self, Fraction};
 use crate::{Failure, circuits, demands, search};
@@ -47,7 +48,8 @@ pub fn tried_sheets() -> Result<(), Failure> {
 fn tried_in_circuits(planners: &mut Planners) -> Result<(), Failure> {
     for tried in &whole::TRIED {
         let sheet = tried.sheet();
-        let is_right = circuits::accepted(planners, &sheet).map(|report| tried.agrees(report));
+        let answer = circuits::accepted(planners, &sheet);
+        let is_right = answer.map(|(report, _)| tried.agrees(report));
         if is_right != Ok(true) {
             let what = format!("whole, {}: {is_right:?}", tried.title);
             return Err(failure(&sheet, what));
@@ -90,7 +92,7 @@ pub fn small_trees() -> Result<(), Failure> {
 }
 
 /// How many trees of 6 to 8 sites are compared in whole circuits.
-const LARGER_TREES: usize = 3_000;
+const LARGER_TREES: usize = 20_000;
 
 fn failure(sheet: &[u8], what: String) -> Failure {
     Failure {
@@ -136,21 +138,14 @@ fn every_tree(
 /// Compares the planners in whole circuits on a tree, and their total with the largest of all
 /// plans.
 fn largest_whole(network: &Network, sheet: &[u8], planners: &mut Planners) -> Result<(), String> {
-    let report = circuits::accepted(planners, sheet)?;
-    let total = heading_total(report).ok_or("the heading has no total")?;
-    let largest = 2 * search::largest_total(network);
+    let (_, Checked { total, .. }) = circuits::accepted(planners, sheet)?;
+    let largest = u64::from(2 * search::largest_total(network));
     if total != largest {
         return Err(format!(
             "whole: {total} halves are planned where {largest} is largest"
         ));
     }
     Ok(())
-}
-
-/// The total in the heading of a report.
-fn heading_total(report: &[u8]) -> Option<u32> {
-    let total = report.split(|&byte| byte == b'\t').nth(1)?;
-    std::str::from_utf8(total).ok()?.parse().ok()
 }
 
 /// The last `count` digits of a number to a base, the lowest first.
