@@ -20,6 +20,7 @@
 //! | `pieces` | end sets and odd pieces of such a plan |
 //! | `pairs` | pairs the ends by splitting lists |
 //! | `report` | writes the report |
+//! | `program` | what the programs do |
 //!
 //! Sites and links are numbered from 0 inside, in the order of their lines.
 
@@ -33,6 +34,7 @@ mod network;
 mod pairs;
 mod pieces;
 pub mod planted;
+pub mod program;
 mod report;
 mod tree;
 mod trim;
