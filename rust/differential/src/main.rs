@@ -106,7 +106,7 @@ fn plant(number: u64) -> Result<(), String> {
     let error = second::planted::ERRORS
         .into_iter()
         .find(|&error| error as u64 == number)
-        .ok_or("errors are numbered from 1 to 19")?;
+        .ok_or("errors are numbered from 1 to 20")?;
     println!("planted in the second planner: {error:?}");
     second::planted::plant(error);
     Ok(())

@@ -1,6 +1,6 @@
 //! Errors planted on purpose.
 //!
-//! With the feature `planted` one of nineteen errors can be switched on, to show that the comparison
+//! With the feature `planted` one of twenty errors can be switched on, to show that the comparison
 //! of the planners finds it. Without the feature none of this reaches the compiled planner.
 
 /// An error that can be planted, numbered from 1.
@@ -44,10 +44,12 @@ pub enum Error {
     OddByLoads = 18,
     /// The walk in whole circuits starts at the joint of highest number.
     WholeFromHighest = 19,
+    /// A link is taken to carry any number up to its most, even or odd.
+    ParityLeftOut = 20,
 }
 
 /// All errors, in the order of their numbers.
-pub const ERRORS: [Error; 19] = [
+pub const ERRORS: [Error; 20] = [
     Error::RoundedHalf,
     Error::HighestRoot,
     Error::UpwardSets,
@@ -67,6 +69,7 @@ pub const ERRORS: [Error; 19] = [
     Error::CutOffSites,
     Error::OddByLoads,
     Error::WholeFromHighest,
+    Error::ParityLeftOut,
 ];
 
 #[cfg(feature = "planted")]

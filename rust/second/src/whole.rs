@@ -23,7 +23,11 @@ impl Below {
     /// The least that can come up from here: what the others cannot take of a dominating link,
     /// or else the odd one.
     fn least(self) -> u32 {
-        (self.most & 1).max(self.widest.saturating_sub(self.most))
+        let dominating = self.widest.saturating_sub(self.most);
+        if planted(Error::ParityLeftOut) {
+            return dominating;
+        }
+        dominating.max(self.most & 1)
     }
 }
 
