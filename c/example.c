@@ -1,10 +1,12 @@
 /*
  * Reads one sheet on standard input and writes the report, or the line "refused", tab, number,
- * tab, line. Build, from the root of the repository:
+ * tab, line. With the word "whole" behind its name it plans in whole circuits. Build, from the
+ * root of the repository:
  *
  *   gcc -O2 -Ic c/example.c target/staticlib/libwaderarmoire.a -o example
  */
 #include <stdio.h>
+#include <string.h>
 
 #include "waderarmoire.h"
 
@@ -12,7 +14,7 @@
 static uint8_t sheet[WADERARMOIRE_SHEET_BYTES + 1];
 static uint8_t report[WADERARMOIRE_REPORT_BYTES];
 
-int main(void)
+int main(int count, char **words)
 {
     size_t sheet_len = fread(sheet, 1, sizeof sheet, stdin);
     if (ferror(stdin)) {
@@ -20,7 +22,9 @@ int main(void)
         return 1;
     }
 
-    uint64_t answer = waderarmoire_plan(sheet, sheet_len, report, sizeof report);
+    int in_circuits = count > 1 && strcmp(words[1], "whole") == 0;
+    uint64_t answer = in_circuits ? waderarmoire_whole(sheet, sheet_len, report, sizeof report)
+                                  : waderarmoire_plan(sheet, sheet_len, report, sizeof report);
     if (waderarmoire_number(answer) == 0)
         fwrite(report, 1, waderarmoire_length(answer), stdout);
     else

@@ -1,8 +1,9 @@
 /*
  * Waderarmoire, the tree circuit planner: C interface of the static library.
  *
- * One call reads a network sheet and writes the report of its plan, or tells why the sheet is
- * refused. Link with libwaderarmoire.a, which is built for x86-64 Linux.
+ * One call reads a network sheet and writes the report of its plan, in halves of a circuit or in
+ * whole circuits, or tells why the sheet is refused. Link with libwaderarmoire.a, which is built
+ * for x86-64 Linux.
  *
  * The library allocates nothing, keeps nothing between calls, has no global state and calls
  * nothing but memcpy and memset: any number of threads may call it at once, each with a buffer
@@ -33,8 +34,8 @@ extern "C" {
 #define WADERARMOIRE_STACK_BYTES 262144
 
 /*
- * Plans the network of a sheet of sheet_len bytes and writes the report into a buffer of
- * report_len bytes.
+ * Plans the network of a sheet of sheet_len bytes in halves of a circuit and writes the report
+ * headed "plan" into a buffer of report_len bytes.
  *
  * The caller owes this: sheet points to sheet_len bytes that may be read, report to report_len
  * bytes that may be written; neither pointer is null, not even with length 0; the two areas do
@@ -47,6 +48,14 @@ extern "C" {
  */
 uint64_t waderarmoire_plan(const uint8_t *sheet, size_t sheet_len, uint8_t *report,
                            size_t report_len);
+
+/*
+ * Plans the network of a sheet in whole circuits: all amounts are even in halves, and the total is
+ * the largest among such plans. Writes the report headed "whole". The caller owes the same, and
+ * the answer is of the same form.
+ */
+uint64_t waderarmoire_whole(const uint8_t *sheet, size_t sheet_len, uint8_t *report,
+                            size_t report_len);
 
 /*
  * The number of the refusal, or 0 for success:

@@ -9,7 +9,7 @@ const ROUNDS: usize = 201;
 /// A timing covers as many plans as take about this long, after one that is not timed.
 const TIMING: Duration = Duration::from_micros(200);
 
-/// Microseconds of one plan, the median of many, and the length of the report.
+/// Microseconds of one plan, the median of many, and the length of the proved report.
 pub struct Times {
     pub proved: f64,
     pub second: f64,
@@ -21,13 +21,12 @@ pub struct Times {
 /// # Panics
 ///
 /// If one of them refuses the sheet.
-pub fn time(sheet: &[u8]) -> Times {
+pub fn time(libraries: &Libraries, sheet: &[u8]) -> Times {
     let mut buffer = vec![0; REPORT_BYTES];
-    let report_bytes = plan_proved(sheet, &mut buffer);
-    assert_eq!(report_bytes, plan_second(sheet, &mut buffer));
+    let report_bytes = (libraries.proved)(sheet, &mut buffer);
 
-    let mut proved = Timer::new(plan_proved, sheet, &mut buffer);
-    let mut second = Timer::new(plan_second, sheet, &mut buffer);
+    let mut proved = Timer::new(libraries.proved, sheet, &mut buffer);
+    let mut second = Timer::new(libraries.second, sheet, &mut buffer);
     for _ in 0..ROUNDS {
         proved.run(sheet, &mut buffer);
         second.run(sheet, &mut buffer);
@@ -41,14 +40,30 @@ pub fn time(sheet: &[u8]) -> Times {
 
 type Plan = fn(&[u8], &mut [u8]) -> usize;
 
-fn plan_proved(sheet: &[u8], buffer: &mut [u8]) -> usize {
-    waderarmoire::plan(sheet, buffer)
-        .expect("the sheet is accepted")
-        .len()
+/// The functions of both libraries that write one of the reports, and return its length.
+pub struct Libraries {
+    proved: Plan,
+    second: Plan,
 }
 
-fn plan_second(sheet: &[u8], buffer: &mut [u8]) -> usize {
-    match second::plan(sheet, buffer) {
+/// Plans in halves of a circuit.
+pub const IN_HALVES: Libraries = Libraries {
+    proved: |sheet, buffer| of_proved(waderarmoire::plan(sheet, buffer)),
+    second: |sheet, buffer| of_second(second::plan(sheet, buffer)),
+};
+
+/// Plans in whole circuits.
+pub const IN_CIRCUITS: Libraries = Libraries {
+    proved: |sheet, buffer| of_proved(waderarmoire::whole(sheet, buffer)),
+    second: |sheet, buffer| of_second(second::whole(sheet, buffer)),
+};
+
+fn of_proved(answer: Result<&[u8], waderarmoire::Refusal>) -> usize {
+    answer.expect("the sheet is accepted").len()
+}
+
+fn of_second(outcome: Outcome) -> usize {
+    match outcome {
         Outcome::Report { length } => length,
         Outcome::Refused { .. } => panic!("the sheet is accepted"),
     }

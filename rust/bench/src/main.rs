@@ -11,6 +11,7 @@ mod library;
 mod machine;
 mod program;
 
+use library::Libraries;
 use sheets::{Layout, Names, Network, Random, SHAPES, Shape, Sizes};
 use std::fmt::Write;
 use std::path::PathBuf;
@@ -91,20 +92,24 @@ fn tables(options: &Options) -> Result<String, Box<dyn std::error::Error>> {
     for line in machine::description() {
         writeln!(text, "- {line}")?;
     }
-    library_tables(&mut text)?;
+    library_tables(&mut text, "in halves", &library::IN_HALVES)?;
+    library_tables(&mut text, "in whole circuits", &library::IN_CIRCUITS)?;
     program_table(&mut text, options)?;
     Ok(text)
 }
 
-fn library_tables(text: &mut String) -> std::fmt::Result {
+fn library_tables(text: &mut String, unit: &str, libraries: &Libraries) -> std::fmt::Result {
     let measured = SHAPES.map(|shape| {
         SITES.map(|sites| {
             let sheet = largest_sheet(shape, sites);
-            (sheet.len(), library::time(&sheet))
+            (sheet.len(), library::time(libraries, &sheet))
         })
     });
 
-    writeln!(text, "\n### One plan of 256 sites, in microseconds\n")?;
+    writeln!(
+        text,
+        "\n### One plan {unit} of 256 sites, in microseconds\n"
+    )?;
     writeln!(
         text,
         "| shape | sheet bytes | report bytes | proved | second | ratio |"
@@ -125,7 +130,7 @@ fn library_tables(text: &mut String) -> std::fmt::Result {
 
     writeln!(
         text,
-        "\n### Growth with the number of sites, in microseconds\n"
+        "\n### Growth of a plan {unit} with the number of sites, in microseconds\n"
     )?;
     let columns = SITES.map(|sites| format!(" {sites} |")).concat();
     writeln!(text, "| shape | planner |{columns} 256 : 128 |")?;
@@ -162,7 +167,7 @@ fn program_table(text: &mut String, options: &Options) -> Result<(), Box<dyn std
     ];
     let file = std::env::temp_dir().join(format!("bench-{}.sheet", std::process::id()));
 
-    writeln!(text, "\n### Whole programs, from start to end\n")?;
+    writeln!(text, "\n### Programs, from start to end\n")?;
     writeln!(
         text,
         "| sheet | proved, µs | second, µs | ratio | proved, peak KiB | second, peak KiB |"

@@ -1,4 +1,4 @@
-//! Time and memory of the whole programs.
+//! Time and memory of the programs.
 
 use crate::library::{median, microseconds};
 use std::fs::File;

@@ -87,7 +87,7 @@ impl Ord for Fraction {
 }
 
 /// The links on the path between each two ends.
-fn paths(network: &Network) -> Vec<Vec<usize>> {
+pub fn paths(network: &Network) -> Vec<Vec<usize>> {
     let sites = network.names.len();
     let mut degree = vec![0; sites];
     for &site in network.links.iter().flatten() {

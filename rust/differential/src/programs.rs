@@ -1,31 +1,132 @@
-//! Whole programs, run on standard input and output.
+//! The programs, run on standard input and output.
 
+use crate::{Failure, damage};
 use second::{Outcome, REPORT_BYTES};
+use sheets::{Layout, Network, Random, tried};
 use std::io::{ErrorKind, Write};
 use std::path::{Path, PathBuf};
 use std::process::{Command, Stdio};
 use waderarmoire::Refusal;
 
-/// What a program must print for a sheet, by the second planner, and what the proved program
-/// must then say on standard error.
-pub fn expected(sheet: &[u8]) -> (Vec<u8>, String) {
-    let mut buffer = vec![0; REPORT_BYTES];
-    match second::plan(sheet, &mut buffer) {
-        Outcome::Report { length } => {
-            buffer.truncate(length);
-            (buffer, String::new())
+/// The programs that are run.
+pub struct Programs {
+    /// The proved programs: for the report headed `plan`, and for that headed `whole`.
+    pub proved: [PathBuf; 2],
+    /// Those of the second planner.
+    pub second: [PathBuf; 2],
+    /// Programs over the proved library that plan in whole circuits when told so by a word.
+    pub examples: Vec<PathBuf>,
+}
+
+/// What a program must print for a sheet, and what it may say on standard error.
+#[derive(Clone)]
+struct Expected {
+    printed: Vec<u8>,
+    words: String,
+}
+
+impl Expected {
+    /// What is due when a planner answers so on a sheet.
+    fn new(planner: impl FnOnce(&[u8], &mut [u8]) -> Outcome, sheet: &[u8]) -> Self {
+        let mut buffer = vec![0; REPORT_BYTES];
+        match planner(sheet, &mut buffer) {
+            Outcome::Report { length } => {
+                buffer.truncate(length);
+                Expected {
+                    printed: buffer,
+                    words: String::new(),
+                }
+            }
+            Outcome::Refused { number, line } => Expected {
+                printed: format!("refused\t{number}\t{line}\n").into_bytes(),
+                words: format!("{}\n", Refusal { number, line }),
+            },
         }
-        Outcome::Refused { number, line } => (
-            format!("refused\t{number}\t{line}\n").into_bytes(),
-            format!("{}\n", Refusal { number, line }),
-        ),
+    }
+
+    /// The same of a program that says nothing.
+    fn silent(&self) -> Self {
+        Expected {
+            printed: self.printed.clone(),
+            words: String::new(),
+        }
     }
 }
 
+/// The proved library's answer in whole circuits.
+fn proved_whole(sheet: &[u8], buffer: &mut [u8]) -> Outcome {
+    match waderarmoire::whole(sheet, buffer) {
+        Ok(report) => Outcome::Report {
+            length: report.len(),
+        },
+        Err(Refusal { number, line }) => Outcome::Refused { number, line },
+    }
+}
+
+impl Programs {
+    /// Compares what the programs print on `count` sheets: for the report in halves with the answers
+    /// of the second planner, for that in whole circuits with those of the library behind each.
+    pub fn compare(&self, seed: u64, count: usize) -> Result<(), Failure> {
+        let sheets = some_sheets(seed, count);
+        for (index, sheet) in sheets.iter().enumerate() {
+            // The examples link the same library as this program: some sheets are enough.
+            let examples = if index % 5 == 0 {
+                self.examples.as_slice()
+            } else {
+                &[]
+            };
+            self.compare_one(sheet, examples).map_err(|what| Failure {
+                sheet: Some(sheet.clone()),
+                index: None,
+                what,
+            })?;
+        }
+        println!(
+            "programs: {} sheets, {} of them with {} examples",
+            sheets.len(),
+            sheets.len().div_ceil(5),
+            self.examples.len()
+        );
+        Ok(())
+    }
+
+    fn compare_one(&self, sheet: &[u8], examples: &[PathBuf]) -> Result<(), String> {
+        let plan = Expected::new(second::plan, sheet);
+        let whole = Expected::new(proved_whole, sheet);
+        let second_whole = Expected::new(second::whole, sheet);
+        run(&self.proved[0], None, sheet, &plan)?;
+        run(&self.proved[1], None, sheet, &whole)?;
+        run(&self.second[0], None, sheet, &plan.silent())?;
+        run(&self.second[1], None, sheet, &second_whole.silent())?;
+        for example in examples {
+            run(example, None, sheet, &plan.silent())?;
+            run(example, Some("whole"), sheet, &whole.silent())?;
+        }
+        Ok(())
+    }
+}
+
+/// The sheets of the scope document, one far too long, random ones and damaged ones.
+fn some_sheets(seed: u64, count: usize) -> Vec<Vec<u8>> {
+    let mut random = Random::new(seed);
+    let mut sheets: Vec<Vec<u8>> = tried::ACCEPTED.iter().map(tried::Accepted::sheet).collect();
+    sheets.push(vec![b'\n'; 1_000_000]);
+    while sheets.len() < count {
+        sheets.push(if random.once_in(2) {
+            Network::any(256, &mut random).sheet(Layout::any(&mut random), &mut random)
+        } else {
+            damage::damaged(&mut random).sheet
+        });
+    }
+    sheets.truncate(count);
+    sheets
+}
+
 /// Runs a program on a sheet and compares what it prints, and says on standard error.
-pub fn compare(program: &Path, sheet: &[u8], expected: &[u8], words: &str) -> Result<(), String> {
+fn run(program: &Path, word: Option<&str>, sheet: &[u8], due: &Expected) -> Result<(), String> {
     let told = |what: &str| format!("{}: {what}", program.display());
     let mut child = Command::new(program)
+        .args(word)
         .stdin(Stdio::piped())
         .stdout(Stdio::piped())
         .stderr(Stdio::piped())
@@ -45,19 +146,19 @@ pub fn compare(program: &Path, sheet: &[u8], expected: &[u8], words: &str) -> Re
     if output.status.code().is_none() {
         return Err(told(&output.status.to_string()));
     }
-    if output.stdout != expected {
+    if output.stdout != due.printed {
         let start = |text: &[u8]| String::from_utf8_lossy(&text[..text.len().min(60)]).into_owned();
         return Err(told(&format!(
             "prints {} bytes, {:?}…, and not {} bytes, {:?}…",
             output.stdout.len(),
             start(&output.stdout),
-            expected.len(),
-            start(expected)
+            due.printed.len(),
+            start(&due.printed)
         )));
     }
-    if output.stderr != words.as_bytes() {
+    if output.stderr != due.words.as_bytes() {
         let said = String::from_utf8_lossy(&output.stderr);
-        return Err(told(&format!("says {said:?}, and not {words:?}")));
+        return Err(told(&format!("says {said:?}, and not {:?}", due.words)));
     }
     Ok(())
 }

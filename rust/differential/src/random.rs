@@ -2,7 +2,8 @@
 
 use crate::compare::{Answer, Planners};
 use crate::damage::{self, Damaged};
-use crate::{Failure, accepted, demands};
+use crate::small::accepted;
+use crate::{Failure, circuits, demands};
 use second::REPORT_BYTES;
 use sheets::{Layout, Network, Random};
 use std::cell::Cell;
@@ -19,6 +20,8 @@ const LEAST_SHARE: u64 = 2_000;
 /// The refusals for the form of a line, and the share that each of them must have.
 const FORM: [usize; 4] = [2, 10, 11, 12];
 const LEAST_FORM_SHARE: u64 = 10;
+/// One in this many sheets must at least have odd pieces when planned in whole circuits.
+const LEAST_ODD_SHARE: u64 = 20;
 /// With fewer sheets the shares are left to chance.
 const ENOUGH_FOR_SHARES: u64 = 100_000;
 
@@ -32,6 +35,8 @@ thread_local! {
 pub struct Tally {
     outcomes: [u64; 13],
     solved: u64,
+    /// How many accepted trees have odd pieces in whole circuits.
+    odd: u64,
 }
 
 impl Tally {
@@ -40,6 +45,7 @@ impl Tally {
             *count += more;
         }
         self.solved += other.solved;
+        self.odd += other.odd;
     }
 }
 
@@ -82,11 +88,17 @@ impl Case {
             Kind::Tree(network) => {
                 let solve = network.names.len() <= 7 && self.random.once_in(4);
                 let length = accepted(network, &self.sheet, planners, solve)?;
+                let (whole, checked) = circuits::accepted(planners, &self.sheet)?;
+                let whole = whole.to_vec();
+                tally.odd += u64::from(checked.odd_pieces > 0);
                 tally.outcomes[0] += 1;
                 tally.solved += u64::from(solve);
                 if self.random.once_in(8) {
                     tally.outcomes[9] += 1;
                     self.check_buffers(length, planners)?;
+                    for length in self.buffer_lengths(whole.len()) {
+                        self.check_whole_buffer(&whole, length, planners)?;
+                    }
                 }
                 Ok(())
             }
@@ -97,13 +109,18 @@ impl Case {
         }
     }
 
-    /// Compares the planners with report buffers about as long as the report.
-    fn check_buffers(&mut self, length: usize, planners: &mut Planners) -> Result<(), String> {
+    /// Lengths of report buffers about as long as a report, and others.
+    fn buffer_lengths(&mut self, length: usize) -> impl Iterator<Item = usize> + use<> {
         let near = length - 4..=length + 4;
         let shorter = self.random.below(length);
         let longer = self.random.between(length, REPORT_BYTES);
-        for buffer_length in near.chain([0, 1, shorter, longer]) {
-            let is_right = match planners.compare(&self.sheet, buffer_length)? {
+        near.chain([0, 1, shorter, longer])
+    }
+
+    /// Compares the planners with report buffers about as long as the report.
+    fn check_buffers(&mut self, length: usize, planners: &mut Planners) -> Result<(), String> {
+        for buffer_length in self.buffer_lengths(length) {
+            let is_right = match planners.plan(&self.sheet, buffer_length)? {
                 Answer::Report(report) => buffer_length >= length && report.len() == length,
                 Answer::Refused(number, line) => buffer_length < length && (number, line) == (9, 0),
             };
@@ -114,6 +131,44 @@ impl Case {
             }
         }
         Ok(())
+    }
+
+    /// Lets the proved planner write its report in whole circuits into a buffer.
+    fn check_whole_buffer(
+        &self,
+        due: &[u8],
+        length: usize,
+        planners: &mut Planners,
+    ) -> Result<(), String> {
+        let is_right = match planners.whole(&self.sheet, length)? {
+            Answer::Report(reports) => length >= due.len() && reports.proved == due,
+            Answer::Refused(number, line) => length < due.len() && (number, line) == (9, 0),
+        };
+        if !is_right {
+            return Err(format!(
+                "whole: the proved planner is wrong on a buffer of {length} bytes"
+            ));
+        }
+        Ok(())
+    }
+
+    /// Compares the planners in whole circuits on a sheet, given what they answer in halves.
+    fn check_damaged_whole(
+        &self,
+        refusal: Option<(u8, u32)>,
+        length: usize,
+        planners: &mut Planners,
+    ) -> Result<(), String> {
+        let Some(due) = refusal.filter(|&(number, _)| number != 9) else {
+            let report = circuits::accepted(planners, &self.sheet)?.0.to_vec();
+            return self.check_whole_buffer(&report, length, planners);
+        };
+        match planners.whole(&self.sheet, length)? {
+            Answer::Refused(number, line) if (number, line) == due => Ok(()),
+            answer => Err(format!(
+                "whole: the answer is {answer:?} where {due:?} is due"
+            )),
+        }
     }
 
     fn check_damaged(
@@ -127,13 +182,14 @@ impl Case {
             1 => self.random.below(400),
             _ => REPORT_BYTES,
         };
-        let answer = match planners.compare(&self.sheet, length)? {
+        let answer = match planners.plan(&self.sheet, length)? {
             Answer::Report(report) => {
                 demands::check(&self.sheet, report)?;
                 None
             }
             Answer::Refused(number, line) => Some((number, line)),
         };
+        self.check_damaged_whole(answer, length, planners)?;
         tally.outcomes[answer.map_or(0, |(number, _)| usize::from(number))] += 1;
         if refusal.is_some() && answer != refusal {
             return Err(format!(
@@ -218,9 +274,10 @@ pub fn compare_all(seed: u64, count: u64) -> Result<(), Failure> {
         count as f64 / seconds
     );
     println!(
-        "  {} accepted, {} solved; refused 1 to 12: {:?}",
+        "  {} accepted, {} solved, {} with odd pieces; refused 1 to 12: {:?}",
         tally.outcomes[0],
         tally.solved,
+        tally.odd,
         &tally.outcomes[1..]
     );
     let has_share = |(number, &sheets): (usize, &u64)| {
@@ -231,7 +288,9 @@ pub fn compare_all(seed: u64, count: u64) -> Result<(), Failure> {
         };
         sheets >= count / share
     };
-    if count >= ENOUGH_FOR_SHARES && !tally.outcomes.iter().enumerate().all(has_share) {
+    let has_shares =
+        tally.outcomes.iter().enumerate().all(has_share) && tally.odd >= count / LEAST_ODD_SHARE;
+    if count >= ENOUGH_FOR_SHARES && !has_shares {
         return Err(Failure {
             sheet: None,
             index: None,

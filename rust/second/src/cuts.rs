@@ -37,18 +37,35 @@ impl TerminalCuts {
     pub fn total(&self) -> u32 {
         self.total
     }
+
+    /// The end sets in which each site has a given owner, or none.
+    pub fn of_owners(network: &Network, owner: &[Option<u8>; SITES]) -> Self {
+        let mut cuts = TerminalCuts {
+            owner: *owner,
+            size: [0; SITES],
+            site_count: [0; SITES],
+            total: 0,
+        };
+        for owner in cuts.owner[..network.site_count()].iter().flatten() {
+            cuts.site_count[usize::from(*owner)] += 1;
+        }
+        for link in network.links() {
+            let [first, second] = link.sites.map(|site| cuts.owner[usize::from(site)]);
+            if first != second {
+                for owner in [first, second].into_iter().flatten() {
+                    cuts.size[usize::from(owner)] += link.capacity;
+                    cuts.total += link.capacity;
+                }
+            }
+        }
+        cuts
+    }
 }
 
 /// Works out the set of each end: the sites reached from it over links trimmed below their given
 /// capacity. No site is reached from two ends.
 pub fn terminal_cuts(network: &Network, tree: &RootedTree, balanced: &Balanced) -> TerminalCuts {
-    let mut cuts = TerminalCuts {
-        owner: [None; SITES],
-        size: [0; SITES],
-        site_count: [0; SITES],
-        total: 0,
-    };
-    let owner = &mut cuts.owner;
+    let mut owner = [None; SITES];
     if tree.is_terminal(tree.root()) {
         owner[usize::from(tree.root())] = Some(tree.root());
     }
@@ -69,18 +86,5 @@ pub fn terminal_cuts(network: &Network, tree: &RootedTree, balanced: &Balanced) 
             }
         }
     }
-
-    for owner in cuts.owner[..tree.site_count()].iter().flatten() {
-        cuts.site_count[usize::from(*owner)] += 1;
-    }
-    for link in network.links() {
-        let [first, second] = link.sites.map(|site| cuts.owner[usize::from(site)]);
-        if first != second {
-            for owner in [first, second].into_iter().flatten() {
-                cuts.size[usize::from(owner)] += link.capacity;
-                cuts.total += link.capacity;
-            }
-        }
-    }
-    cuts
+    TerminalCuts::of_owners(network, &owner)
 }

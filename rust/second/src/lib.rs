@@ -1,8 +1,8 @@
 //! A second tree circuit planner.
 //!
-//! It reads a network sheet and writes the report headed `plan`, or tells why the sheet is
-//! refused. It was written from the scope document and the cards alone and shares nothing
-//! with the proved planner, so that comparing the two byte for byte can find a mistake in either.
+//! It reads a network sheet and writes the report headed `plan`, or that headed `whole`, or tells
+//! why the sheet is refused. It was written from the scope document and the cards alone and shares nothing
+//! with the proved planner, so that comparing the two can find a mistake in either.
 //!
 //! Every step takes time linear in the sheet, or as good as linear: finding out whether two sites
 //! are joined already, and names that collide in their hash table, may add a little.
@@ -15,26 +15,37 @@
 //! | `tree` | roots the tree by taking off its leaves |
 //! | `trim` | trims the capacities in two passes |
 //! | `cuts` | works out the end sets (terminal cuts) |
+//! | `forest` | takes out links of capacity 0, for plans in whole circuits |
+//! | `whole` | the loads of a largest plan in whole circuits |
+//! | `pieces` | end sets and odd pieces of such a plan |
 //! | `pairs` | pairs the ends by splitting lists |
 //! | `report` | writes the report |
+//! | `program` | what the programs do |
 //!
 //! Sites and links are numbered from 0 inside, in the order of their lines.
 
 #![forbid(unsafe_code)]
 
 mod cuts;
+mod forest;
 mod form;
 mod names;
 mod network;
 mod pairs;
+mod pieces;
 pub mod planted;
+pub mod program;
 mod report;
 mod tree;
 mod trim;
+mod whole;
 
+use forest::Forest;
 use network::Network;
 use planted::{Error, planted};
+use report::Shown;
 use tree::RootedTree;
+use trim::Balanced;
 
 /// The largest sheet that is read, in bytes.
 pub const SHEET_BYTES: usize = 16_384;
@@ -68,20 +79,91 @@ struct Refusal {
     line: u32,
 }
 
-/// Plans the network of `sheet` and writes the report into `buffer`.
+/// Plans the network of `sheet` in halves and writes the report headed `plan` into `buffer`.
 ///
 /// On a refusal the buffer keeps its values; after a report the bytes past it keep theirs.
 pub fn plan(sheet: &[u8], buffer: &mut [u8]) -> Outcome {
+    answer(sheet, buffer, |network, tree| {
+        let balanced = trim::balance(tree);
+        let cuts = cuts::terminal_cuts(network, tree, &balanced);
+        let shown = Shown {
+            heading: b"plan",
+            total: cuts.total(),
+            balanced: &balanced,
+            cuts: &cuts,
+            odd_pieces: None,
+            pairs: &pairs::pair(tree, &balanced),
+        };
+        report::write(network, tree, &shown)
+    })
+}
+
+/// Plans the network of `sheet` in whole circuits and writes the report headed `whole` into
+/// `buffer`, as [`plan`] does the other.
+pub fn whole(sheet: &[u8], buffer: &mut [u8]) -> Outcome {
+    answer(sheet, buffer, |network, tree| {
+        if planted(Error::WholeFromHighest) {
+            return write_whole(network, &RootedTree::rooted(network, true));
+        }
+        write_whole(network, tree)
+    })
+}
+
+/// The report in whole circuits.
+#[inline]
+fn write_whole(network: &Network, tree: &RootedTree) -> Vec<u8> {
+    let forest = Forest::new(tree);
+    let loads = whole::loads(tree, &forest);
+    let cuts = if planted(Error::SetsInHalves) {
+        cuts::terminal_cuts(network, tree, &trim::balance(tree))
+    } else {
+        pieces::end_sets(network, tree, &forest, &loads)
+    };
+    let shown = Shown {
+        heading: b"whole",
+        total: tree.terminals().map(|end| loads.sum(end)).sum(),
+        balanced: &loads,
+        cuts: &cuts,
+        odd_pieces: Some(pieces::odd_pieces(network, tree, &cuts, &loads)),
+        pairs: &pairs::pair(tree, &loads),
+    };
+    report::write(network, tree, &shown)
+}
+
+/// The `P` lines of the walk over an accepted sheet, with loads of its links, in the order of
+/// their lines, in the place of trimmed sizes. No link may be heavy by these loads at a joint.
+///
+/// There are none if the sheet is refused or has another number of links.
+#[must_use]
+pub fn pair_lines(sheet: &[u8], loads: &[u32]) -> Option<Vec<u8>> {
+    let mut network = Network::new(sheet);
+    network.read().ok()?;
+    if network.links().len() != loads.len() {
+        return None;
+    }
+    let tree = RootedTree::new(&network);
+    let mut by_child = [0; SITES];
+    for (link, &load) in network.links().iter().zip(loads) {
+        by_child[usize::from(tree.child(link.sites))] = load;
+    }
+    let pairs = pairs::pair(&tree, &Balanced::new(&tree, &by_child));
+    let mut text = Vec::new();
+    report::push_pairs(&mut text, &network, &pairs);
+    Some(text)
+}
+
+/// Reads a sheet, lets its report be written, and puts that into `buffer`.
+#[inline]
+fn answer(
+    sheet: &[u8],
+    buffer: &mut [u8],
+    write: impl FnOnce(&Network, &RootedTree) -> Vec<u8>,
+) -> Outcome {
     let mut network = Network::new(sheet);
     if let Err(Refusal { number, line }) = network.read() {
         return Outcome::Refused { number, line };
     }
-    let tree = RootedTree::new(&network);
-    let balanced = trim::balance(&tree);
-    let cuts = cuts::terminal_cuts(&network, &tree, &balanced);
-    let pairs = pairs::pair(&tree, &balanced);
-    let report = report::write(&network, &tree, &balanced, &cuts, &pairs);
-
+    let report = write(&network, &RootedTree::new(&network));
     let length = report.len();
     if length > buffer.len() || (planted(Error::FullBuffer) && length == buffer.len()) {
         return Outcome::Refused { number: 9, line: 0 };

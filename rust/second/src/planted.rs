@@ -1,6 +1,6 @@
 //! Errors planted on purpose.
 //!
-//! With the feature `planted` one of eleven errors can be switched on, to show that the comparison
+//! With the feature `planted` one of twenty errors can be switched on, to show that the comparison
 //! of the planners finds it. Without the feature none of this reaches the compiled planner.
 
 /// An error that can be planted, numbered from 1.
@@ -28,10 +28,28 @@ pub enum Error {
     UnendedAsCount = 10,
     /// An empty size is read as 0.
     EmptySize = 11,
+    /// The end sets of the report in halves stand in that in whole circuits.
+    SetsInHalves = 12,
+    /// Loads in whole circuits are the trimmed sizes of the sizes rounded down to even ones.
+    EvenSizes = 13,
+    /// A link too small for what dominates below it is cut to the parity of that.
+    DominatedParity = 14,
+    /// End sets spread away from the root over links that could carry one circuit more.
+    SpareOfOne = 15,
+    /// Pieces are connected over links of size 0.
+    JoinedOverZero = 16,
+    /// A piece of a single site that has a link of size 0 is left out.
+    CutOffSites = 17,
+    /// A piece is odd by the loads of the links leaving it.
+    OddByLoads = 18,
+    /// The walk in whole circuits starts at the joint of highest number.
+    WholeFromHighest = 19,
+    /// A link is taken to carry any number up to its most, even or odd.
+    ParityLeftOut = 20,
 }
 
 /// All errors, in the order of their numbers.
-pub const ERRORS: [Error; 11] = [
+pub const ERRORS: [Error; 20] = [
     Error::RoundedHalf,
     Error::HighestRoot,
     Error::UpwardSets,
@@ -43,6 +61,15 @@ pub const ERRORS: [Error; 11] = [
     Error::LeadingZeroAsLarge,
     Error::UnendedAsCount,
     Error::EmptySize,
+    Error::SetsInHalves,
+    Error::EvenSizes,
+    Error::DominatedParity,
+    Error::SpareOfOne,
+    Error::JoinedOverZero,
+    Error::CutOffSites,
+    Error::OddByLoads,
+    Error::WholeFromHighest,
+    Error::ParityLeftOut,
 ];
 
 #[cfg(feature = "planted")]

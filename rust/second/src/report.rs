@@ -8,35 +8,43 @@ use crate::tree::RootedTree;
 use crate::trim::Balanced;
 use crate::{CAPACITY, SITES};
 
-/// No report is longer: the heading, then for each site and link lines with names of 12 bytes
-/// and numbers of 7 digits at most.
-const LONGEST: usize = 32 + SITES * (44 + 28 + 28 + 36);
+/// No report is longer: the heading and the odd pieces, then for each site and link lines with
+/// names of 12 bytes and numbers of 7 digits at most.
+const LONGEST: usize = 40 + SITES * (44 + 28 + 28 + 36);
+
+/// What a report shows beside the network.
+pub struct Shown<'planned> {
+    pub heading: &'static [u8],
+    /// The total in halves.
+    pub total: u32,
+    /// The trimmed sizes, or the loads.
+    pub balanced: &'planned Balanced,
+    pub cuts: &'planned TerminalCuts,
+    /// The number of odd pieces, where there is a line for them.
+    pub odd_pieces: Option<u32>,
+    pub pairs: &'planned Pairs,
+}
 
 /// Writes the whole report.
-pub fn write(
-    network: &Network,
-    tree: &RootedTree,
-    balanced: &Balanced,
-    cuts: &TerminalCuts,
-    pairs: &Pairs,
-) -> Vec<u8> {
+pub fn write(network: &Network, tree: &RootedTree, shown: &Shown) -> Vec<u8> {
+    let Shown {
+        balanced,
+        cuts,
+        pairs,
+        ..
+    } = shown;
     let mut text = Vec::with_capacity(LONGEST);
-    text.extend_from_slice(b"plan\t");
-    push_large_number(&mut text, cuts.total());
+    text.extend_from_slice(shown.heading);
+    text.push(b'\t');
+    push_large_number(&mut text, shown.total);
     text.push(b'\t');
     push_number(&mut text, pairs.as_slice().len() as u32);
     text.push(b'\n');
 
     for link in network.links() {
-        let [first, second] = link.sites;
-        let child = if tree.parent(first) == second {
-            first
-        } else {
-            second
-        };
         text.extend_from_slice(network.line(link));
         text.push(b'\t');
-        push_number(&mut text, balanced.capacity(child));
+        push_number(&mut text, balanced.capacity(tree.child(link.sites)));
         text.push(b'\n');
     }
     for (site, &name) in network.names().iter().enumerate() {
@@ -63,17 +71,27 @@ pub fn write(
             text.push(b'\n');
         }
     }
+    if let Some(odd_pieces) = shown.odd_pieces {
+        text.extend_from_slice(b"Q\t");
+        push_number(&mut text, odd_pieces);
+        text.push(b'\n');
+    }
+    push_pairs(&mut text, network, pairs);
+    text
+}
+
+/// Writes the lines of the pairs.
+pub fn push_pairs(text: &mut Vec<u8>, network: &Network, pairs: &Pairs) {
     for pair in pairs.as_slice() {
         let [first, second] = pair.sites();
         text.extend_from_slice(b"P\t");
-        push_name(&mut text, network.name(first));
+        push_name(text, network.name(first));
         text.push(b'\t');
-        push_name(&mut text, network.name(second));
+        push_name(text, network.name(second));
         text.push(b'\t');
-        push_number(&mut text, pair.halves);
+        push_number(text, pair.halves);
         text.push(b'\n');
     }
-    text
 }
 
 #[inline(always)]

@@ -23,9 +23,14 @@ pub struct RootedTree {
 impl RootedTree {
     /// Roots the tree of a network by taking off one leaf after the other.
     pub fn new(network: &Network) -> Self {
+        Self::rooted(network, planted(Error::HighestRoot))
+    }
+
+    /// The same, but at the joint of highest number if an error is planted.
+    pub fn rooted(network: &Network, at_highest: bool) -> Self {
         let mut folds = *network.folds();
         let site_count = network.site_count();
-        let root = root(&folds[..site_count]);
+        let root = root(&folds[..site_count], at_highest);
         let mut tree = RootedTree {
             root,
             site_count,
@@ -75,6 +80,12 @@ impl RootedTree {
         self.site_count
     }
 
+    /// The ends, in the order of their lines.
+    pub fn terminals(&self) -> impl Iterator<Item = u8> {
+        let sites = (0..self.site_count).map(|site| site as u8);
+        sites.filter(|&site| self.is_terminal(site))
+    }
+
     /// Every site but the root, each before its parent.
     pub fn leaves_first(&self) -> &[u8] {
         &self.leaves_first[..self.site_count - 1]
@@ -84,6 +95,16 @@ impl RootedTree {
     #[inline]
     pub fn parent(&self, site: u8) -> u8 {
         self.parent[usize::from(site)]
+    }
+
+    /// Of the two sites of a link the one that is the child.
+    #[inline]
+    pub fn child(&self, [first, second]: [u8; 2]) -> u8 {
+        if self.parent(first) == second {
+            first
+        } else {
+            second
+        }
     }
 
     /// The capacity of the link from a site to its parent; the root's is 0.
@@ -111,10 +132,20 @@ impl RootedTree {
     }
 }
 
+/// A tree of even capacities, for an error that can be planted.
+impl RootedTree {
+    pub fn with_even_capacities(&self) -> Self {
+        RootedTree {
+            capacity: self.capacity.map(|capacity| capacity & !1),
+            ..*self
+        }
+    }
+}
+
 /// The joint of lowest number, or the first site if there is no joint.
-fn root(folds: &[Fold]) -> u8 {
+fn root(folds: &[Fold], at_highest: bool) -> u8 {
     let is_joint = |fold: &Fold| fold.degree > 1;
-    let joint = if planted(Error::HighestRoot) {
+    let joint = if at_highest {
         folds.iter().rposition(is_joint)
     } else {
         folds.iter().position(is_joint)

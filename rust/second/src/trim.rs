@@ -13,6 +13,19 @@ pub struct Balanced {
 }
 
 impl Balanced {
+    /// Balanced capacities of the links from each site to its parent.
+    pub fn new(tree: &RootedTree, capacity: &[u32; SITES]) -> Self {
+        let mut sum = [0; SITES];
+        for &site in tree.leaves_first() {
+            sum[usize::from(site)] += capacity[usize::from(site)];
+            sum[usize::from(tree.parent(site))] += capacity[usize::from(site)];
+        }
+        Balanced {
+            capacity: *capacity,
+            sum,
+        }
+    }
+
     #[inline]
     pub fn capacity(&self, site: u8) -> u32 {
         self.capacity[usize::from(site)]

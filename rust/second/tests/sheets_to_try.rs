@@ -1,13 +1,16 @@
-//! The sheets to try of the scope document, against answers written out by hand.
+//! The sheets to try of the scope document and the cards, against answers written out by hand.
 
-use second::{Outcome, REPORT_BYTES, plan};
+use second::{Outcome, REPORT_BYTES, pair_lines, plan, whole};
 use sheets::tried::{ACCEPTED, refused, star};
+use sheets::whole::TRIED;
+
+type Planner = fn(&[u8], &mut [u8]) -> Outcome;
 
 /// Plans with a buffer of a known pattern and checks that nothing but the report changes in it.
-fn planned(sheet: &[u8], buffer_length: usize) -> (Outcome, Vec<u8>) {
+fn planned(planner: Planner, sheet: &[u8], buffer_length: usize) -> (Outcome, Vec<u8>) {
     let pattern: Vec<u8> = (0..buffer_length).map(|place| place as u8 | 0x80).collect();
     let mut buffer = pattern.clone();
-    let outcome = plan(sheet, &mut buffer);
+    let outcome = planner(sheet, &mut buffer);
     let length = match outcome {
         Outcome::Report { length } => length,
         Outcome::Refused { .. } => 0,
@@ -17,19 +20,62 @@ fn planned(sheet: &[u8], buffer_length: usize) -> (Outcome, Vec<u8>) {
     (outcome, buffer)
 }
 
+/// The report of a sheet that is accepted.
+fn report(planner: Planner, sheet: &[u8]) -> Vec<u8> {
+    let (outcome, report) = planned(planner, sheet, REPORT_BYTES);
+    assert!(matches!(outcome, Outcome::Report { .. }));
+    report
+}
+
 #[test]
 fn reports() {
     for tried in &ACCEPTED {
-        let (outcome, report) = planned(&tried.sheet(), REPORT_BYTES);
-        let length = tried.report().len();
-        assert_eq!(outcome, Outcome::Report { length }, "{}", tried.title);
         assert_eq!(
-            String::from_utf8_lossy(&report),
+            String::from_utf8_lossy(&report(plan, &tried.sheet())),
             String::from_utf8_lossy(&tried.report()),
             "{}",
             tried.title
         );
     }
+}
+
+#[test]
+fn reports_in_whole_circuits() {
+    for tried in &TRIED {
+        let report = report(whole, &tried.sheet());
+        assert!(
+            tried.agrees(&report),
+            "{}: {}",
+            tried.title,
+            String::from_utf8_lossy(&report)
+        );
+    }
+}
+
+/// One report in whole circuits to the last byte, with this planner's choice of loads.
+#[test]
+fn star_in_whole_circuits() {
+    let due = "whole 2 1\nL hub a 1 0\nL hub b 1 1\nL hub c 1 1\nN hub -\nN a a\nN b b\nN c c\n\
+               X a 1 1\nX b 1 1\nX c 1 1\nQ 1\nP b c 2\n";
+    let report = report(whole, &TRIED[0].sheet());
+    assert_eq!(String::from_utf8_lossy(&report).replace('\t', " "), due);
+}
+
+/// Of the three pairs of loads of a star 1, 1, 1 each gives its pair.
+#[test]
+fn pairs_of_loads() {
+    let sheet = TRIED[0].sheet();
+    let lines = |loads| {
+        let lines = pair_lines(&sheet, loads).expect("a tree with as many links");
+        String::from_utf8_lossy(&lines).replace('\t', " ")
+    };
+    assert_eq!(lines(&[1, 1, 0]), "P a b 2\n");
+    assert_eq!(lines(&[1, 0, 1]), "P a c 2\n");
+    assert_eq!(lines(&[0, 1, 1]), "P b c 2\n");
+    assert_eq!(lines(&[1, 1, 1]), "P a b 1\nP a c 1\nP b c 1\n");
+    assert_eq!(lines(&[0, 0, 0]), "");
+    assert_eq!(pair_lines(&sheet, &[1, 1]), None);
+    assert_eq!(pair_lines(b"network\t1\n", &[]), None);
 }
 
 #[test]
@@ -39,35 +85,40 @@ fn refusals() {
             number: tried.number,
             line: tried.line,
         };
-        let (outcome, _) = planned(&tried.sheet, REPORT_BYTES);
-        assert_eq!(outcome, expected, "{}", tried.title);
-        let (outcome, _) = planned(&tried.sheet, 0);
-        assert_eq!(outcome, expected, "{}, empty buffer", tried.title);
+        for planner in [plan, whole] {
+            let (outcome, _) = planned(planner, &tried.sheet, REPORT_BYTES);
+            assert_eq!(outcome, expected, "{}", tried.title);
+            let (outcome, _) = planned(planner, &tried.sheet, 0);
+            assert_eq!(outcome, expected, "{}, empty buffer", tried.title);
+        }
     }
 }
 
 #[test]
 fn buffers() {
     for tried in &ACCEPTED {
-        let length = tried.report().len();
-        for buffer_length in 0..length + 40 {
-            let (outcome, _) = planned(&tried.sheet(), buffer_length);
-            let expected = if buffer_length < length {
-                Outcome::Refused { number: 9, line: 0 }
-            } else {
-                Outcome::Report { length }
-            };
-            assert_eq!(outcome, expected, "{}", tried.title);
+        for planner in [plan, whole] {
+            let length = report(planner, &tried.sheet()).len();
+            for buffer_length in 0..length + 40 {
+                let (outcome, _) = planned(planner, &tried.sheet(), buffer_length);
+                let expected = if buffer_length < length {
+                    Outcome::Refused { number: 9, line: 0 }
+                } else {
+                    Outcome::Report { length }
+                };
+                assert_eq!(outcome, expected, "{}", tried.title);
+            }
         }
     }
 }
 
 #[test]
 fn most_sites() {
-    let (outcome, report) = planned(&star(256), REPORT_BYTES);
-    assert!(matches!(outcome, Outcome::Report { .. }));
     // Sizes 2 to 256: no link is larger than all others together, so nothing is trimmed.
     let total: u32 = (2..=256).sum();
     let heading = format!("plan\t{total}\t");
-    assert!(report.starts_with(heading.as_bytes()));
+    assert!(report(plan, &star(256)).starts_with(heading.as_bytes()));
+    // The sizes sum to an odd number: one half cannot be used by whole circuits.
+    let heading = format!("whole\t{}\t", total - 1);
+    assert!(report(whole, &star(256)).starts_with(heading.as_bytes()));
 }

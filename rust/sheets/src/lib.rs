@@ -6,6 +6,7 @@
 mod random;
 mod tree;
 pub mod tried;
+pub mod whole;
 
 pub use random::Random;
 pub use tree::{Layout, Names, Network, SHAPES, SIZES, Shape, Sizes, join_lines, prufer_links};

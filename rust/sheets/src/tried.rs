@@ -38,7 +38,7 @@ pub struct Refused {
     pub line: u32,
 }
 
-fn tabbed(text: &str) -> Vec<u8> {
+pub(crate) fn tabbed(text: &str) -> Vec<u8> {
     text.replace(' ', "\t").replace('~', " ").into_bytes()
 }
 

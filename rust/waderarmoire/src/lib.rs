@@ -3,7 +3,9 @@
 //! A network sheet lists the sites and links of a tree with the number of circuits each link
 //! holds. The planner trims every link to what can be used of it, shares the circuits out
 //! between the ends of the tree so that their total is the greatest, and shows by the end sets
-//! that no plan has more. Amounts are counted in halves of a circuit.
+//! that no plan has more. Amounts are counted in halves of a circuit. [`plan`] shares halves out,
+//! [`whole`] whole circuits alone: all its amounts are even, and its total is the greatest among
+//! such plans.
 //!
 //! ```
 //! let sheet = b"network\t1\nN\ta\nN\tb\nL\ta\tb\t4\n";
@@ -11,6 +13,16 @@
 //! let report = waderarmoire::plan(sheet, &mut buffer)?;
 //! assert!(report.starts_with(b"plan\t8\t1\n"));
 //! assert!(report.ends_with(b"P\ta\tb\t8\n"));
+//! # Ok::<(), waderarmoire::Refusal>(())
+//! ```
+//!
+//! Of a star of three links of size 1, three halves can be used, but one whole circuit only:
+//!
+//! ```
+//! let sheet = b"network\t1\nN\thub\nN\ta\nN\tb\nN\tc\nL\thub\ta\t1\nL\thub\tb\t1\nL\thub\tc\t1\n";
+//! let mut buffer = [0; waderarmoire::REPORT_BYTES];
+//! assert!(waderarmoire::plan(sheet, &mut buffer)?.starts_with(b"plan\t3\t3\n"));
+//! assert!(waderarmoire::whole(sheet, &mut buffer)?.starts_with(b"whole\t2\t1\n"));
 //! # Ok::<(), waderarmoire::Refusal>(())
 //! ```
 //!
@@ -25,9 +37,9 @@
 //!
 //! # What a call does
 //!
-//! [`plan`] is safe for every sheet and every buffer, and every call ends. It allocates nothing,
-//! keeps nothing between calls and has no global state: any number of threads may call it at
-//! once, each with a buffer of its own. The caller of this crate owes nothing more; what the
+//! [`plan`] and [`whole`] are safe for every sheet and every buffer, and every call ends. They
+//! allocate nothing, keep nothing between calls and have no global state: any number of threads may
+//! call them at once, each with a buffer of its own. The caller of this crate owes nothing more; what the
 //! library below asks, pointers that are not null and areas that do not overlap, slices have.
 //!
 //! A call needs stack: 128 KiB for a tree that is nowhere deep, up to 248 KiB for a path of 256
@@ -54,8 +66,18 @@ pub const REPORT_BYTES: usize = 65_536;
 /// A thread with a stack of this many bytes can plan every sheet.
 pub const STACK_BYTES: usize = 262_144;
 
+/// A function of the library: the sheet and the report buffer, each with its length.
+type Planner = unsafe extern "C" fn(*const u8, usize, *mut u8, usize) -> u64;
+
 unsafe extern "C" {
     fn waderarmoire_plan(
+        sheet: *const u8,
+        sheet_len: usize,
+        report: *mut u8,
+        report_len: usize,
+    ) -> u64;
+
+    fn waderarmoire_whole(
         sheet: *const u8,
         sheet_len: usize,
         report: *mut u8,
@@ -123,7 +145,8 @@ impl fmt::Display for Refusal {
 
 impl Error for Refusal {}
 
-/// Plans the network of `sheet`, writes the report to the start of `buffer` and returns it.
+/// Plans the network of `sheet` in halves of a circuit, writes the report headed `plan` to the start
+/// of `buffer` and returns it.
 ///
 /// The bytes after the report keep their values. Nothing is allocated, and threads may plan at
 /// once.
@@ -133,11 +156,34 @@ impl Error for Refusal {}
 /// The refusal, if the sheet has a fault or its report is longer than the buffer. The whole
 /// buffer then keeps its values.
 pub fn plan<'buffer>(sheet: &[u8], buffer: &'buffer mut [u8]) -> Result<&'buffer [u8], Refusal> {
+    call(waderarmoire_plan, sheet, buffer)
+}
+
+/// Plans the network of `sheet` in whole circuits, writes the report headed `whole` to the start of
+/// `buffer` and returns it.
+///
+/// The bytes after the report keep their values. Nothing is allocated, and threads may plan at
+/// once.
+///
+/// # Errors
+///
+/// The refusal, if the sheet has a fault or its report is longer than the buffer: for the faults of
+/// a sheet the same as [`plan`] tells. The whole buffer then keeps its values.
+pub fn whole<'buffer>(sheet: &[u8], buffer: &'buffer mut [u8]) -> Result<&'buffer [u8], Refusal> {
+    call(waderarmoire_whole, sheet, buffer)
+}
+
+/// Calls one of the two functions of the library.
+fn call<'buffer>(
+    planner: Planner,
+    sheet: &[u8],
+    buffer: &'buffer mut [u8],
+) -> Result<&'buffer [u8], Refusal> {
     // SAFETY: the pointers and lengths are those of two slices, which do not overlap as one of
     // them is borrowed mutably, and the pointer of an empty slice is not null either. The library
     // reads the sheet and writes the buffer within these lengths, and keeps neither.
     let answer = unsafe {
-        waderarmoire_plan(
+        planner(
             sheet.as_ptr(),
             sheet.len(),
             buffer.as_mut_ptr(),

@@ -1,20 +1,34 @@
-//! The proved library on the sheets to try of the scope document, against answers written out by
-//! hand.
+//! The proved library on the sheets to try of the scope document and the cards, against answers
+//! written out by hand.
 
 use sheets::tried::{ACCEPTED, refused};
-use waderarmoire::{REPORT_BYTES, Refusal, plan};
+use sheets::whole::TRIED;
+use waderarmoire::{REPORT_BYTES, Refusal, plan, whole};
+
+type Planner = for<'buffer> fn(&[u8], &'buffer mut [u8]) -> Result<&'buffer [u8], Refusal>;
+const PLANNERS: [Planner; 2] = [plan, whole];
+
+/// The report of a sheet that is accepted; the bytes past it must keep their values.
+fn report(planner: Planner, sheet: &[u8]) -> Vec<u8> {
+    let mut buffer = [0xee; REPORT_BYTES];
+    let report = planner(sheet, &mut buffer).expect("a tree").to_vec();
+    assert!(buffer[report.len()..].iter().all(|&byte| byte == 0xee));
+    report
+}
 
 #[test]
 fn reports() {
     for tried in &ACCEPTED {
-        let mut buffer = [0xee; REPORT_BYTES];
-        let report = plan(&tried.sheet(), &mut buffer).map(<[u8]>::to_vec);
-        assert_eq!(report, Ok(tried.report()), "{}", tried.title);
-        assert!(
-            buffer[tried.report().len()..]
-                .iter()
-                .all(|&byte| byte == 0xee)
-        );
+        let report = report(plan, &tried.sheet());
+        assert_eq!(report, tried.report(), "{}", tried.title);
+    }
+}
+
+#[test]
+fn reports_in_whole_circuits() {
+    for tried in &TRIED {
+        let report = report(whole, &tried.sheet());
+        assert!(tried.agrees(&report), "{}", tried.title);
     }
 }
 
@@ -25,15 +39,17 @@ fn refusals() {
             number: tried.number,
             line: tried.line,
         };
-        for length in [REPORT_BYTES, 0] {
-            let mut buffer = vec![0xee; length];
-            assert_eq!(
-                plan(&tried.sheet, &mut buffer),
-                Err(expected),
-                "{}",
-                tried.title
-            );
-            assert!(buffer.iter().all(|&byte| byte == 0xee));
+        for planner in PLANNERS {
+            for length in [REPORT_BYTES, 0] {
+                let mut buffer = vec![0xee; length];
+                assert_eq!(
+                    planner(&tried.sheet, &mut buffer),
+                    Err(expected),
+                    "{}",
+                    tried.title
+                );
+                assert!(buffer.iter().all(|&byte| byte == 0xee));
+            }
         }
     }
 }
@@ -42,16 +58,15 @@ fn refusals() {
 fn buffers() {
     let too_long = Refusal { number: 9, line: 0 };
     for tried in &ACCEPTED {
-        let length = tried.report().len();
-        let mut exact = vec![0; length];
-        assert_eq!(
-            plan(&tried.sheet(), &mut exact),
-            Ok(tried.report().as_slice())
-        );
-        for shorter in [0, 1, length - 1] {
-            let mut buffer = vec![0xee; shorter];
-            assert_eq!(plan(&tried.sheet(), &mut buffer), Err(too_long));
-            assert!(buffer.iter().all(|&byte| byte == 0xee));
+        for planner in PLANNERS {
+            let due = report(planner, &tried.sheet());
+            let mut exact = vec![0; due.len()];
+            assert_eq!(planner(&tried.sheet(), &mut exact), Ok(due.as_slice()));
+            for shorter in [0, 1, due.len() - 1] {
+                let mut buffer = vec![0xee; shorter];
+                assert_eq!(planner(&tried.sheet(), &mut buffer), Err(too_long));
+                assert!(buffer.iter().all(|&byte| byte == 0xee));
+            }
         }
     }
 }

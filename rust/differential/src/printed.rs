@@ -1,0 +1,213 @@
+//! A sheet and its report read back, and what reports of either heading must fulfil.
+
+use std::collections::HashMap;
+
+/// A network read back from a sheet that was accepted.
+pub struct Network<'sheet> {
+    pub names: Vec<&'sheet [u8]>,
+    pub number: HashMap<&'sheet [u8], usize>,
+    pub links: Vec<Link>,
+    /// For each site its links: their numbers and their other sites.
+    pub around: Vec<Vec<(usize, usize)>>,
+}
+
+pub struct Link {
+    pub sites: [usize; 2],
+    pub given: u64,
+}
+
+impl<'sheet> Network<'sheet> {
+    /// Reads a sheet that was accepted.
+    pub fn read(sheet: &'sheet [u8]) -> Result<Self, String> {
+        Self::read_lines(sheet).ok_or("the sheet cannot be read back".to_string())
+    }
+
+    fn read_lines(sheet: &'sheet [u8]) -> Option<Self> {
+        let mut network = Network {
+            names: Vec::new(),
+            number: HashMap::new(),
+            links: Vec::new(),
+            around: Vec::new(),
+        };
+        for line in sheet.split(|&byte| byte == b'\n').skip(1) {
+            let fields: Vec<&[u8]> = line.split(|&byte| byte == b'\t').collect();
+            match fields[..] {
+                [b"N", name] => {
+                    network.number.insert(name, network.names.len());
+                    network.names.push(name);
+                    network.around.push(Vec::new());
+                }
+                [b"L", first, second, size] => {
+                    let sites = [*network.number.get(first)?, *network.number.get(second)?];
+                    let link = network.links.len();
+                    network.around[sites[0]].push((link, sites[1]));
+                    network.around[sites[1]].push((link, sites[0]));
+                    let given = number(size)?;
+                    network.links.push(Link { sites, given });
+                }
+                _ => (),
+            }
+        }
+        Some(network)
+    }
+
+    pub fn is_end(&self, site: usize) -> bool {
+        self.around[site].len() == 1
+    }
+
+    pub fn ends(&self) -> impl Iterator<Item = usize> {
+        (0..self.names.len()).filter(|&site| self.is_end(site))
+    }
+
+    /// For each site its parent and the link to it, counted from site 0, and its depth.
+    fn parents(&self) -> (Vec<(usize, usize)>, Vec<usize>) {
+        let mut parent = vec![(usize::MAX, usize::MAX); self.names.len()];
+        let mut depth = vec![0; self.names.len()];
+        let mut reached = vec![0];
+        while let Some(site) = reached.pop() {
+            for &(link, other) in &self.around[site] {
+                if other != parent[site].0 {
+                    parent[other] = (site, link);
+                    depth[other] = depth[site] + 1;
+                    reached.push(other);
+                }
+            }
+        }
+        (parent, depth)
+    }
+
+    /// The load of each link, given the amount between each pair of sites.
+    pub fn loads(&self, pairs: &[([usize; 2], u64)]) -> Vec<u64> {
+        let (parent, depth) = self.parents();
+        let mut loads = vec![0; self.links.len()];
+        for &([mut one, mut other], amount) in pairs {
+            while one != other {
+                if depth[one] < depth[other] {
+                    (one, other) = (other, one);
+                }
+                let (above, link) = parent[one];
+                loads[link] += amount;
+                one = above;
+            }
+        }
+        loads
+    }
+}
+
+/// Reads a number written without a leading zero.
+fn number(text: &[u8]) -> Option<u64> {
+    let is_canonical = text == b"0" || text.first().is_some_and(|&digit| digit != b'0');
+    if !is_canonical || !text.iter().all(u8::is_ascii_digit) {
+        return None;
+    }
+    std::str::from_utf8(text).ok()?.parse().ok()
+}
+
+/// The lines of a report, taken one by one.
+pub struct Lines<'report> {
+    pub rest: &'report [u8],
+}
+
+impl<'report> Lines<'report> {
+    /// The fields of the next line after its first, which must be `letter`.
+    pub fn next<const COUNT: usize>(
+        &mut self,
+        letter: &str,
+    ) -> Result<[&'report [u8]; COUNT], String> {
+        let wrong = || format!("a line {letter} of {COUNT} fields is missing");
+        let length = self
+            .rest
+            .iter()
+            .position(|&byte| byte == b'\n')
+            .ok_or_else(wrong)?;
+        let (line, rest) = self.rest.split_at(length);
+        let mut fields = line.split(|&byte| byte == b'\t');
+        if fields.next() != Some(letter.as_bytes()) {
+            return Err(wrong());
+        }
+        let fields: Vec<&[u8]> = fields.collect();
+        self.rest = &rest[1..];
+        fields.try_into().map_err(|_| wrong())
+    }
+
+    /// The number behind the names and the given size of a link on its line.
+    pub fn link(&mut self, network: &Network, link: &Link) -> Result<u64, String> {
+        let [first, second, given, printed] = self.next("L")?;
+        let names = link.sites.map(|site| network.names[site]);
+        demand([first, second] == names, "a link has other names")?;
+        demand(read(given)? == link.given, "a link has another given size")?;
+        read(printed)
+    }
+
+    /// The sum of the sizes of all end sets on their lines, when `owner` tells the owner of each
+    /// site: an end, or none.
+    pub fn set_sizes(&mut self, network: &Network, owner: &[Option<usize>]) -> Result<u64, String> {
+        let mut sizes = vec![0; owner.len()];
+        let mut counts = vec![0; owner.len()];
+        for (site, own) in owner.iter().enumerate() {
+            let Some(end) = *own else { continue };
+            counts[end] += 1;
+            for &(link, other) in &network.around[site] {
+                if owner[other] != *own {
+                    sizes[end] += network.links[link].given;
+                }
+            }
+        }
+        for end in network.ends() {
+            let [name, size, count] = self.next("X")?;
+            demand(name == network.names[end], "an end set has another name")?;
+            demand(read(size)? == sizes[end], "an end set has another size")?;
+            demand(read(count)? == counts[end], "an end set has another count")?;
+        }
+        Ok(sizes.iter().sum())
+    }
+
+    /// The pairs that end the report: two ends each, the lower number first, ascending, at most as
+    /// many as links, with amounts above 0.
+    pub fn pairs(
+        &mut self,
+        network: &Network,
+        count: u64,
+    ) -> Result<Vec<([usize; 2], u64)>, String> {
+        demand(
+            count <= network.links.len() as u64,
+            "there are more pairs than links",
+        )?;
+        let mut pairs: Vec<([usize; 2], u64)> = Vec::new();
+        for _ in 0..count {
+            let [first, second, amount] = self.next("P")?;
+            let [first, second] = [first, second].map(|name| network.number.get(name).copied());
+            let (Some(first), Some(second)) = (first, second) else {
+                return Err("a pair has an unknown name".to_string());
+            };
+            let sites = [first, second];
+            demand(first < second, "a pair names its later site first")?;
+            demand(
+                pairs.last().is_none_or(|&(before, _)| before < sites),
+                "pairs are out of order",
+            )?;
+            demand(
+                network.is_end(first) && network.is_end(second),
+                "a pair names a joint",
+            )?;
+            pairs.push((sites, read(amount)?));
+            demand(read(amount)? > 0, "a pair has nothing")?;
+        }
+        demand(self.rest.is_empty(), "the report goes on after its pairs")?;
+        Ok(pairs)
+    }
+}
+
+/// Reads a printed number.
+pub fn read(text: &[u8]) -> Result<u64, String> {
+    number(text).ok_or("a number is written wrongly".to_string())
+}
+
+/// Says what is wrong unless a demand is fulfilled.
+pub fn demand(fulfilled: bool, text: &str) -> Result<(), String> {
+    if fulfilled {
+        Ok(())
+    } else {
+        Err(text.to_string())
+    }
+}

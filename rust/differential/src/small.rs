@@ -1,0 +1,188 @@
+//! The sheets of the scope document, and all small trees.
+
+use crate::card::Checked;
+use crate::compare::{Answer, Planners};
+use crate::exact::{self, Fraction};
+use crate::{Failure, circuits, demands, search};
+use second::REPORT_BYTES;
+use sheets::{Layout, Names, Network, Random, SHAPES, Sizes, prufer_links, tried, whole};
+use std::collections::HashSet;
+
+/// Both planners on the sheets of the scope document, against answers written by hand.
+pub fn tried_sheets() -> Result<(), Failure> {
+    let mut planners = Planners::new();
+    for tried in &tried::ACCEPTED {
+        let report = tried.report();
+        for length in [REPORT_BYTES, report.len(), report.len() - 1, 0] {
+            let answer = planners.plan(&tried.sheet(), length);
+            let is_right = match answer {
+                Ok(Answer::Report(answer)) => answer == report && length >= report.len(),
+                Ok(Answer::Refused(9, 0)) => length < report.len(),
+                _ => false,
+            };
+            if !is_right {
+                let what = format!("{}, buffer of {length} bytes: {answer:?}", tried.title);
+                return Err(failure(&tried.sheet(), what));
+            }
+        }
+    }
+    let refused = tried::refused();
+    for tried in &refused {
+        let answer = planners.plan(&tried.sheet, REPORT_BYTES);
+        if !matches!(answer, Ok(Answer::Refused(number, line))
+            if (number, line) == (tried.number, tried.line))
+        {
+            let what = format!("{}: {answer:?}", tried.title);
+            return Err(failure(&tried.sheet, what));
+        }
+    }
+    println!(
+        "sheets to try: {} reports and {} refusals as written by hand",
+        tried::ACCEPTED.len(),
+        refused.len()
+    );
+    tried_in_circuits(&mut planners)
+}
+
+/// Both planners in whole circuits, against totals and numbers of odd pieces written by hand.
+fn tried_in_circuits(planners: &mut Planners) -> Result<(), Failure> {
+    for tried in &whole::TRIED {
+        let sheet = tried.sheet();
+        let answer = circuits::accepted(planners, &sheet);
+        let is_right = answer.map(|(report, _)| tried.agrees(report));
+        if is_right != Ok(true) {
+            let what = format!("whole, {}: {is_right:?}", tried.title);
+            return Err(failure(&sheet, what));
+        }
+    }
+    println!("  whole: {} totals as written by hand", whole::TRIED.len());
+    Ok(())
+}
+
+/// Both planners on all trees of 2 to 5 sites: in halves with sizes 0 to 2, in whole circuits with
+/// sizes 0 to 3; and in whole circuits on some of 6 to 8 sites.
+pub fn small_trees() -> Result<(), Failure> {
+    let mut planners = Planners::new();
+    let counts = every_tree(3, |network, sheet| {
+        accepted(network, sheet, &mut planners, true).map(|_| ())
+    })?;
+    assert_eq!(counts, [3, 27, 432, 10_125]);
+    println!("small trees: 3, 27, 432 and 10,125 sheets, totals found by linear programming");
+
+    let counts = every_tree(4, |network, sheet| {
+        largest_whole(network, sheet, &mut planners)
+    })?;
+    assert_eq!(counts, [4, 48, 1_024, 32_000]);
+    let mut random = Random::new(1);
+    for _ in 0..LARGER_TREES {
+        let shape = *random.pick(&SHAPES);
+        let sites = random.between(6, 8);
+        let mut network = Network::random(shape, sites, Sizes::Small, Names::Counted, &mut random);
+        for size in &mut network.sizes {
+            *size %= 4;
+        }
+        let sheet = network.sheet(Layout::Mixed, &mut random);
+        largest_whole(&network, &sheet, &mut planners).map_err(|what| failure(&sheet, what))?;
+    }
+    println!(
+        "  whole: 4, 48, 1,024 and 32,000 sheets and {LARGER_TREES} of 6 to 8 sites, \
+         totals found by trying all plans"
+    );
+    Ok(())
+}
+
+/// How many trees of 6 to 8 sites are compared in whole circuits.
+const LARGER_TREES: usize = 20_000;
+
+fn failure(sheet: &[u8], what: String) -> Failure {
+    Failure {
+        sheet: Some(sheet.to_vec()),
+        index: None,
+        what,
+    }
+}
+
+/// Calls `see` with all trees of 2 to 5 sites whose sizes are below `sizes`, and returns how many
+/// there are of each number of sites.
+fn every_tree(
+    sizes: usize,
+    mut see: impl FnMut(&Network, &[u8]) -> Result<(), String>,
+) -> Result<Vec<usize>, Failure> {
+    let mut counts = Vec::new();
+    for sites in 2..=5_u32 {
+        let trees = u64::from(sites).pow(sites - 2);
+        let sizings = (sizes as u64).pow(sites - 1);
+        let mut different = HashSet::new();
+        for tree in 0..trees {
+            let sequence = digits(tree, sites as usize, sites as usize - 2);
+            let links = prufer_links(&sequence);
+            for sizing in 0..sizings {
+                let network = Network {
+                    names: (1..=sites).map(|site| format!("s{site}").into()).collect(),
+                    links: links.clone(),
+                    sizes: digits(sizing, sizes, links.len())
+                        .iter()
+                        .map(|&size| size as u32)
+                        .collect(),
+                };
+                let sheet = network.sheet(Layout::SitesFirst, &mut Random::new(0));
+                see(&network, &sheet).map_err(|what| failure(&sheet, what))?;
+                different.insert(network.sized_links());
+            }
+        }
+        counts.push(different.len());
+    }
+    Ok(counts)
+}
+
+/// Compares the planners in whole circuits on a tree, and their total with the largest of all
+/// plans.
+fn largest_whole(network: &Network, sheet: &[u8], planners: &mut Planners) -> Result<(), String> {
+    let (_, Checked { total, .. }) = circuits::accepted(planners, sheet)?;
+    let largest = u64::from(2 * search::largest_total(network));
+    if total != largest {
+        return Err(format!(
+            "whole: {total} halves are planned where {largest} is largest"
+        ));
+    }
+    Ok(())
+}
+
+/// The last `count` digits of a number to a base, the lowest first.
+fn digits(mut number: u64, base: usize, count: usize) -> Vec<usize> {
+    (0..count)
+        .map(|_| {
+            let digit = number % base as u64;
+            number /= base as u64;
+            digit as usize
+        })
+        .collect()
+}
+
+/// Compares the planners on a sheet that must be accepted, and checks the report; its total too,
+/// if `solve` says so. Returns the length of the report.
+pub fn accepted(
+    network: &Network,
+    sheet: &[u8],
+    planners: &mut Planners,
+    solve: bool,
+) -> Result<usize, String> {
+    let report = match planners.plan(sheet, REPORT_BYTES)? {
+        Answer::Report(report) => report,
+        Answer::Refused(number, line) => {
+            return Err(format!(
+                "both planners refuse a tree: {number} at line {line}"
+            ));
+        }
+    };
+    let total = demands::check(sheet, report)?;
+    if solve {
+        let greatest = exact::greatest_total(network);
+        if greatest + greatest != Fraction::whole(total) {
+            return Err(format!(
+                "{total} halves are planned where {greatest:?} is greatest"
+            ));
+        }
+    }
+    Ok(report.len())
+}

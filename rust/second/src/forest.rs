@@ -1,0 +1,87 @@
+//! What links of capacity 0 leave of the tree, rooted at ends.
+
+use crate::SITES;
+use crate::tree::RootedTree;
+
+/// The parts into which the tree falls without its links of capacity 0, each rooted at its end of
+/// lowest number. A part without an end is left out: it carries nothing.
+///
+/// What belongs to the link between a site and its parent is kept at the place of that site.
+pub struct Forest {
+    /// The sites of all parts, each after its parent.
+    roots_first: [u8; SITES],
+    count: usize,
+    /// The parent of each site; that of a root is the root.
+    parent: [u8; SITES],
+    capacity: [u32; SITES],
+}
+
+impl Forest {
+    /// Takes the parts of a tree, one end after the other.
+    pub fn new(tree: &RootedTree) -> Self {
+        let mut forest = Forest {
+            roots_first: [0; SITES],
+            count: 0,
+            parent: [0; SITES],
+            capacity: [0; SITES],
+        };
+        let mut is_reached = [false; SITES];
+        for end in tree.terminals() {
+            if !is_reached[usize::from(end)] {
+                forest.grow(tree, end, &mut is_reached);
+            }
+        }
+        forest
+    }
+
+    /// Adds the part around a root.
+    fn grow(&mut self, tree: &RootedTree, root: u8, is_reached: &mut [bool; SITES]) {
+        let mut next = self.count;
+        self.push(root, root, 0);
+        is_reached[usize::from(root)] = true;
+        while next < self.count {
+            let site = self.roots_first[next];
+            let above = tree.parent(site);
+            let mut reach = |other: u8, capacity| {
+                if capacity > 0 && !is_reached[usize::from(other)] {
+                    is_reached[usize::from(other)] = true;
+                    self.push(other, site, capacity);
+                }
+            };
+            for child in tree.children(site) {
+                reach(child, tree.capacity(child));
+            }
+            reach(above, tree.capacity(site));
+            next += 1;
+        }
+    }
+
+    fn push(&mut self, site: u8, parent: u8, capacity: u32) {
+        self.roots_first[self.count] = site;
+        self.count += 1;
+        self.parent[usize::from(site)] = parent;
+        self.capacity[usize::from(site)] = capacity;
+    }
+
+    /// Every site that is no root, each after its parent.
+    #[inline]
+    pub fn roots_first(&self) -> impl DoubleEndedIterator<Item = u8> {
+        let sites = self.roots_first[..self.count].iter().copied();
+        sites.filter(|&site| !self.is_root(site))
+    }
+
+    #[inline]
+    pub fn is_root(&self, site: u8) -> bool {
+        self.parent(site) == site
+    }
+
+    #[inline]
+    pub fn parent(&self, site: u8) -> u8 {
+        self.parent[usize::from(site)]
+    }
+
+    #[inline]
+    pub fn capacity(&self, site: u8) -> u32 {
+        self.capacity[usize::from(site)]
+    }
+}

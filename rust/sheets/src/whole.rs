@@ -1,0 +1,138 @@
+//! Sheets to plan in whole circuits, with what is due written out by hand: the total, and the
+//! number of odd pieces and the pairs where no choice of loads and end sets is left.
+
+use crate::tried::tabbed;
+
+/// An accepted sheet, and what is known of its report.
+pub struct Tried {
+    /// What the sheet is.
+    pub title: &'static str,
+    sheet: &'static str,
+    /// The total in halves.
+    pub total: u32,
+    odd_pieces: Option<u32>,
+    pairs: Option<&'static str>,
+}
+
+impl Tried {
+    /// The sheet.
+    #[must_use]
+    pub fn sheet(&self) -> Vec<u8> {
+        tabbed(self.sheet)
+    }
+
+    /// Whether a report has what is due.
+    #[must_use]
+    pub fn agrees(&self, report: &[u8]) -> bool {
+        let report = String::from_utf8_lossy(report);
+        let odd_pieces = report.lines().find_map(|line| line.strip_prefix("Q\t"));
+        let mut pairs = report.lines().filter(|line| line.starts_with("P\t"));
+        report.starts_with(&format!(
+            "whole\t{}\t{}\n",
+            self.total,
+            pairs.clone().count()
+        )) && self
+            .odd_pieces
+            .is_none_or(|due| odd_pieces == Some(due.to_string().as_str()))
+            && self.pairs.is_none_or(|due| {
+                let due = tabbed(due);
+                String::from_utf8_lossy(&due).lines().eq(pairs.by_ref())
+            })
+    }
+}
+
+/// The sheets.
+pub const TRIED: [Tried; 12] = [
+    Tried {
+        title: "star 1, 1, 1",
+        sheet: "network 1\nN hub\nN a\nN b\nN c\nL hub a 1\nL hub b 1\nL hub c 1\n",
+        total: 2,
+        odd_pieces: Some(1),
+        pairs: None,
+    },
+    Tried {
+        title: "star 5, 1, 1",
+        sheet: "network 1\nN hub\nN a\nN b\nN c\nL hub a 5\nL hub b 1\nL hub c 1\n",
+        total: 4,
+        odd_pieces: Some(0),
+        pairs: Some("P a b 2\nP a c 2\n"),
+    },
+    Tried {
+        title: "star 3, 1, 1, 1",
+        sheet: "network 1\nN hub\nN a\nN b\nN c\nN d\n\
+                L hub a 3\nL hub b 1\nL hub c 1\nL hub d 1\n",
+        total: 6,
+        odd_pieces: Some(0),
+        pairs: Some("P a b 2\nP a c 2\nP a d 2\n"),
+    },
+    Tried {
+        title: "star 2, 0, 0",
+        sheet: "network 1\nN hub\nN a\nN b\nN c\nL hub a 2\nL hub b 0\nL hub c 0\n",
+        total: 0,
+        odd_pieces: Some(0),
+        pairs: Some(""),
+    },
+    Tried {
+        title: "star 1, 0, 0",
+        sheet: "network 1\nN hub\nN a\nN b\nN c\nL hub a 1\nL hub b 0\nL hub c 0\n",
+        total: 0,
+        odd_pieces: None,
+        pairs: Some(""),
+    },
+    Tried {
+        title: "all sizes 0",
+        sheet: "network 1\nN h\nN k\nN a\nN b\nN c\nN d\n\
+                L h k 0\nL h a 0\nL h b 0\nL k c 0\nL k d 0\n",
+        total: 0,
+        odd_pieces: Some(0),
+        pairs: Some(""),
+    },
+    Tried {
+        title: "two sites, size 3",
+        sheet: "network 1\nN a\nN b\nL a b 3\n",
+        total: 6,
+        odd_pieces: Some(0),
+        pairs: Some("P a b 6\n"),
+    },
+    Tried {
+        title: "two sites, size 0",
+        sheet: "network 1\nN a\nN b\nL a b 0\n",
+        total: 0,
+        odd_pieces: Some(0),
+        pairs: Some(""),
+    },
+    Tried {
+        title: "path 7, 3, 5",
+        sheet: "network 1\nN a\nN h\nN k\nN b\nL a h 7\nL h k 3\nL k b 5\n",
+        total: 6,
+        odd_pieces: Some(0),
+        pairs: Some("P a b 6\n"),
+    },
+    // The end sets of the report in halves have sizes 6 together.
+    Tried {
+        title: "two odd joints that one link of size 2 cannot serve",
+        sheet: "network 1\nN v\nN t\nN x\nN y\nN a\nN b\nN c\nN d\nL v t 2\nL v x 1\nL v y 1\n\
+                L x a 1\nL x b 1\nL y c 1\nL y d 1\n",
+        total: 4,
+        odd_pieces: None,
+        pairs: None,
+    },
+    // Both joints are odd pieces of their own, as the link between them connects nothing.
+    Tried {
+        title: "two stars 1, 1, 1 joined by a link of size 0",
+        sheet: "network 1\nN h\nN k\nN a\nN b\nN c\nN d\nN e\nN f\nL h k 0\n\
+                L h a 1\nL h b 1\nL h c 1\nL k d 1\nL k e 1\nL k f 1\n",
+        total: 4,
+        odd_pieces: Some(2),
+        pairs: None,
+    },
+    // At each joint the two ends have no other choice than each other.
+    Tried {
+        title: "two stars joined by a link of size 1",
+        sheet: "network 1\nN h\nN k\nN a\nN b\nN c\nN d\nL h k 1\n\
+                L h a 1\nL h b 1\nL k c 1\nL k d 1\n",
+        total: 4,
+        odd_pieces: None,
+        pairs: Some("P a b 2\nP c d 2\n"),
+    },
+];
