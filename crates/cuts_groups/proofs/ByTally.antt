@@ -28,12 +28,12 @@ module _ (cut : ℕ → ℕ → ℕ) (labels start ends : List ℕ) where
   owners-none = refl
 
   -- a terminal claims the places of its cut, any other site none
-  owners-more : (k : ℕ) → look ends (suc k) ≡ 1
+  pub owners-more : (k : ℕ) → look ends (suc k) ≡ 1
       → ownersTo cut labels start ends (suc k) ≡ map (claim (ownersTo cut labels start ends k) (cut (look labels (suc k))) (suc k)) (upfrom 0 SITES)
   unfolding ownersTo
   owners-more k e = pick-same e _ _
 
-  owners-same : (k : ℕ) → look ends (suc k) ≢ 1 → ownersTo cut labels start ends (suc k) ≡ ownersTo cut labels start ends k
+  pub owners-same : (k : ℕ) → look ends (suc k) ≢ 1 → ownersTo cut labels start ends (suc k) ≡ ownersTo cut labels start ends k
   unfolding ownersTo
   owners-same k d = pick-other d _ _
 
@@ -60,17 +60,22 @@ module _ (cut cut′ : ℕ → ℕ → ℕ) (labels : List ℕ) (e : (l i : ℕ)
       ∙ sym (owners-more cut′ labels start ends k o))
       (λ d. owners-same cut labels start ends k d ∙ owners-alike start ends k ∙ sym (owners-same cut′ labels start ends k d))
 
+-- what is the same at a terminal is the same of terminals
+pub of-terminals : (terminal f g : ℕ → ℕ) (x : ℕ) → (terminal x ≡ 1 → f x ≡ g x) → ofTerminal terminal f x ≡ ofTerminal terminal g x
+of-terminals terminal f g x e = same? (terminal x) 1
+    (λ o. of-terminal terminal f x o ∙ e o ∙ sym (of-terminal terminal g x o))
+    (λ d. of-inner terminal f x d ∙ sym (of-inner terminal g x d))
+
+-- no place past the sites has a label
+pub labelled-past : (n : ℕ) (labels : List ℕ) (l k : ℕ) → n ≤ k → labelled n labels l k ≡ 0
+unfolding labelled
+labelled-past n labels l k h = rw (less-none {a = k} {b = n} (λ l. omega arith)) (omega arith)
+
 -- ---- the tally of a network
 
 module _ (ls : Links) (n : ℕ) (c t : ℕ → ℕ) (few : n ≤ SITES) {labels leaving : List ℕ} (ends : List ℕ) (made : Tallied ls c t labels leaving) where
   abbrev owners : ℕ → ℕ → ℕ
   owners k = ownerAmong ls c t (look ends) (sites k)
-
-  -- what is the same at a terminal is the same of terminals
-  of-terminals : (f g : ℕ → ℕ) (x : ℕ) → f x ≡ g x → ofTerminal (look ends) f x ≡ ofTerminal (look ends) g x
-  of-terminals f g x e = same? (look ends x) 1
-      (λ o. of-terminal (look ends) f x o ∙ e ∙ sym (of-terminal (look ends) g x o))
-      (λ d. of-inner (look ends) f x d ∙ sym (of-inner (look ends) g x d))
 
   -- the places of a cut
   module _ (i : ℕ) (lt : i < n) where
@@ -85,8 +90,7 @@ module _ (ls : Links) (n : ℕ) (c t : ℕ → ℕ) (few : n ≤ SITES) {labels 
         at x l = ap (λ r. look r (suc x)) (made .grouped) ∙ look-values (group ls c t) PLACES (suc x) (omega arith)
 
     cut-past : (k : ℕ) → n ≤ k → cut k ≡ 0
-    unfolding labelled
-    cut-past k h = rw (less-none {a = k} {b = n} (λ l. omega arith)) (omega arith)
+    cut-past = labelled-past n labels (look labels (suc i))
 
     members-count : members (labelled n labels) labels (suc i) ≡ cutCount ls c t n (suc i)
     unfolding members cutCount
@@ -123,7 +127,7 @@ module _ (ls : Links) (n : ℕ) (c t : ℕ → ℕ) (few : n ≤ SITES) {labels 
       rw (
         owners-are n (omega arith),
         places-upto (ofTerminal (look ends) size) (ofTerminal (look ends) (cutSize ls c t)) n few
-            (λ i h. of-terminals size (cutSize ls c t) (suc i) (made .sizes (suc i) (omega arith))),
+            (λ i h. of-terminals (look ends) size (cutSize ls c t) (suc i) (λ o. made .sizes (suc i) (omega arith))),
         places-upto (ofTerminal (look ends) (members (labelled n labels) labels)) (ofTerminal (look ends) (cutCount ls c t n)) n few
-            (λ i h. of-terminals (members (labelled n labels) labels) (cutCount ls c t n) (suc i) (members-count i h)),
+            (λ i h. of-terminals (look ends) (members (labelled n labels) labels) (cutCount ls c t n) (suc i) (λ o. members-count i h)),
       ) refl

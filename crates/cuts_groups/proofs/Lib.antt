@@ -4,3 +4,4 @@ pub mod Words
 pub mod Cut
 pub mod Owners
 pub mod ByTally
+pub mod ByOwners

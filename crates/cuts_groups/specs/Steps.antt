@@ -6,6 +6,7 @@ use Rattle.model.specs.Limits.{SITES}
 use Rattle.lists.specs.Numbers.{pick, sum, upfrom, look}
 use Rattle.model.specs.Flows.{Links}
 use Rattle.model.specs.Cuts.{cutSize, cutCount, owner}
+use Rattle.model.specs.Whole.{setSize, setCount}
 use Rattle.cuts_groups.specs.declared.Owned.{Owned}
 use Rattle.cuts_groups.specs.Groups.{labelled}
 use Rattle.cuts_groups.specs.Places.{places, ofTerminal}
@@ -41,4 +42,12 @@ owned ls n terminal c t = record {
   owner = places n (owner ls c t terminal n);
   size = places n (ofTerminal terminal (cutSize ls c t));
   count = places n (ofTerminal terminal (cutCount ls c t n));
+}
+
+-- the sets told by owners (02, Card 2): the owner of each site, and of each terminal the size and the count of its set
+unfoldable pub setsOf : Links → ℕ → (ℕ → ℕ) → (ℕ → ℕ) → (ℕ → ℕ) → Owned
+setsOf ls n terminal c owner = record {
+  owner = places n owner;
+  size = places n (ofTerminal terminal (setSize ls c owner));
+  count = places n (ofTerminal terminal (setCount n owner));
 }

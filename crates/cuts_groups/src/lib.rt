@@ -13,12 +13,13 @@ ghost use lib.ListN.{length};
 ghost use Rattle.model.specs.Limits.{PLACES, SITES};
 ghost use Rattle.lists.specs.Numbers.{upfrom, look};
 ghost use Rattle.model.specs.Cuts.{group};
+ghost use Rattle.model.specs.Whole.{EndSets};
 ghost use Rattle.tree.specs.Offer.{links};
 ghost use Rattle.tree_links.specs.Chains.{Placed, Limited};
 ghost use Rattle.tree_sets.specs.Members.{member};
 ghost use Rattle.cuts_groups.specs.Groups.{Addable, Tallied, leaves, leaving, labelled, inWords};
 ghost use Rattle.cuts_groups.specs.Places.{places, ofTerminal};
-ghost use Rattle.cuts_groups.specs.Steps.{members, claim, ownersTo, cutsBy, owned};
+ghost use Rattle.cuts_groups.specs.Steps.{members, claim, ownersTo, cutsBy, owned, setsOf};
 
 // At place x the label of site x, and at place l the sum of label l.
 struct Tally {
@@ -226,4 +227,22 @@ pub fn cuts_of(
     let labels = tally.labels;
     let leaving = tally.leaving;
     cuts_by(n, &labels, ends, &leaving)
+}
+
+// The sets of the terminals `ends` of n sites, where each site is labelled with the terminal whose set holds it, or with 0 where none does.
+pub fn sets_of(
+    n: usize,
+    ends: &[u8; PLACES],
+    one: &[usize],
+    two: &[usize],
+    capacity: &[u64],
+    labels: &[u16; PLACES],
+) -> Owned
+    requires { ⌜ (n ≤ SITES) × Placed (now one) (now two) × Limited (now one) (now capacity) × EndSets n (look (now ends)) (look (now labels))
+        × ((x : ℕ) → look (now labels) x ≤ SITES) ⌝ }
+    ensures { λ r. ⌜ r ≡ setsOf (links (now (one .entry)) (now (two .entry))) n (look (now (ends .entry))) (look (now (capacity .entry)))
+        (look (now (labels .entry))) ⌝ }
+{
+    let leaving = sums_leaving(one, two, capacity, labels);
+    cuts_by(n, labels, ends, &leaving)
 }
