@@ -8,5 +8,6 @@ pub mod Shows
 pub mod Ready
 pub mod Taken
 pub mod Works
+pub mod WholeWorks
 pub mod Fits
 pub mod Renumbered

@@ -116,7 +116,7 @@ module _ {s : List ℕ} {net : Network} (N : IsNetwork edition1 s net) (f : Figu
           rw (← (w .paired), getD-take (ps .count) (ps .list) i no-pair l) at named;
     }
 
-    figures-are-ready : {text : Reporter} → text s net ≡ reportOf (planShowing net s f) → readSheet edition1 s ≡ accepted net
+    pub figures-are-ready : {text : Reporter} → text s net ≡ reportOf (planShowing net s f) → readSheet edition1 s ≡ accepted net
         → ReadyBy text s (starts net) (stops net) (planBy net f s marks owners sizes counts before ps) ps
     figures-are-ready told read =
         let shows = the-lists-show-the-figures net f s ps w in
@@ -149,10 +149,10 @@ module _ {s : List ℕ} {net : Network} (N : IsNetwork edition1 s net) where
   abbrev t : ℕ → ℕ
   t = look (halves net .shown)
 
-  place : (g : ℕ → ℕ) (i : ℕ) → i < count → look (places count g) i ≡ g (1 + i)
+  pub place : (g : ℕ → ℕ) (i : ℕ) → i < count → look (places count g) i ≡ g (1 + i)
   place g i l = look-places g count i l ∙ ap g (sym (one-add i))
 
-  terminal-place : (g : ℕ → ℕ) (i : ℕ) → i < count → terminal net (1 + i) ≡ 1 → look (places count (ofTerminal (terminal net) g)) i ≡ g (1 + i)
+  pub terminal-place : (g : ℕ → ℕ) (i : ℕ) → i < count → terminal net (1 + i) ≡ 1 → look (places count (ofTerminal (terminal net) g)) i ≡ g (1 + i)
   terminal-place g i l e = place (ofTerminal (terminal net) g) i l ∙ of-terminal (terminal net) g (1 + i) e
 
   halves-are-worked-out : (marks : List ℕ) (cuts : Owned) (ps : List Pair) → look marks ≡ terminal net

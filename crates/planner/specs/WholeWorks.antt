@@ -1,0 +1,92 @@
+-- What is worked out of the lists of an accepted sheet in whole circuits is ready to be written: loads, sets, odd pieces and the pair list show its plan.
+use mathlib.Core.Path.{_≡_, refl, sym, ap, subst, _∙_}
+use mathlib.Core.List.{List, [], _∷_, append-nil}
+use Prim.Native.Nat.{ℕ, suc, _+_, _≤_, _<_}
+use native.Mathlib.Omega.{arith}
+use lib.ListN.{length, take, length-map}
+use Rattle.model.specs.Limits.{SITES}
+use Rattle.model.specs.Edition.{edition1, largest}
+use Rattle.lists.specs.Numbers.{look, upfrom}
+use Rattle.lists.specs.Places.{length-upfrom, look-values}
+use Rattle.model.specs.Flows.{Links, ends}
+use Rattle.model.specs.Trimming.{Balanced}
+use Rattle.model.specs.Pairing.{pairList}
+use Rattle.model.specs.Text.{bytes}
+use Rattle.model.specs.Whole.{setSize, setCount, oddPieces}
+use Rattle.model.specs.WholeLoads.{wholeLoads, wholeOwner}
+use Rattle.model.specs.declared.Pair.{Pair}
+use Rattle.model.specs.declared.Pairs.{Pairs}
+use Rattle.theory_trees.specs.Leaves.{Outer}
+use Rattle.theory_trees.specs.Ends.{ends-are-outer}
+use Rattle.tree.specs.Offer.{links}
+use Rattle.tree.specs.Links.{length-links}
+use Rattle.tree.specs.Accepted.{TreeWithin}
+use Rattle.cuts_groups.specs.Places.{ofTerminal, length-places}
+use Rattle.cuts_groups.specs.Steps.{setsOf}
+use Rattle.cuts_groups.specs.declared.Owned.{Owned}
+use Rattle.pairing_walk.specs.Visits.{Walkable}
+use Rattle.sheet.specs.Sheet.{Network}
+use Rattle.sheet.specs.SheetTheorem.{IsNetwork}
+use Rattle.report.specs.Report.{lines, oddLine, wholeReport}
+use Rattle.report.specs.Shown.{shownBy}
+use Rattle.planner.specs.Figures.{terminal, wholes, pairsBy, the-whole-report-shows-wholes}
+use Rattle.planner.specs.WholeFigures.{wholes-can-be-shown}
+use Rattle.planner.specs.Shows.{Works}
+use Rattle.planner.specs.Taken.{the-network-is-given, the-links-are-the-networks}
+use Rattle.planner.specs.Ready.{TakenApart, Charted, ReadyBy}
+use Rattle.planner.specs.Works.{place, terminal-place, figures-are-ready}
+
+module _ {s : List ℕ} {net : Network} (N : IsNetwork edition1 s net) where
+  abbrev n : ℕ
+  n = length (net .names)
+
+  abbrev c : ℕ → ℕ
+  c = look (net .capacities)
+
+  abbrev owner : ℕ → ℕ
+  owner = wholeOwner (net .links) n (terminal net) c
+
+  wholes-are-worked-out : (marks : List ℕ) (cuts : Owned) (before : List ℕ) (ps : List Pair) → look marks ≡ terminal net
+      → cuts ≡ setsOf (net .links) n (terminal net) c owner → before ≡ oddLine (oddPieces (net .links) n c owner) → ps ≡ pairsBy net (wholes net)
+      → Works net (wholes net) marks (cuts .owner) (cuts .size) (cuts .count) before ps
+  unfolding setsOf lines
+  wholes-are-worked-out marks cuts before ps marked cut line listed = record {
+    marked = marked;
+    own = λ i l. rw cut (place N owner i l);
+    cut = λ i l e. rw cut (terminal-place N (setSize (net .links) c owner) i l e);
+    members = λ i l e. rw cut (terminal-place N (setCount n owner) i l e);
+    lined = line ∙ sym (append-nil (oddLine (oddPieces (net .links) n c owner)));
+    paired = listed;
+  }
+
+-- there is a place for each site in the lists of sets
+sets-have-places : (ls : Links) (n : ℕ) (terminal c owner : ℕ → ℕ) → n ≤ SITES → (cuts : Owned) → cuts ≡ setsOf ls n terminal c owner
+    → (SITES ≤ length (cuts .owner)) × (SITES ≤ length (cuts .size)) × (SITES ≤ length (cuts .count))
+unfolding setsOf
+sets-have-places ls n terminal c owner few cuts e = rw e (
+  omega (arith, length-places owner n few),
+  omega (arith, length-places (ofTerminal terminal (setSize ls c owner)) n few),
+  omega (arith, length-places (ofTerminal terminal (setCount n owner)) n few),
+)
+
+-- the lists of an accepted sheet, and what is worked out of them in whole circuits
+pub whole-circuits-are-ready : {s starting stopping : List ℕ} {n : ℕ} {one two c : List ℕ} → TakenApart s starting stopping n one two c
+    → (shown marks : List ℕ) (cuts : Owned) (before : List ℕ) (ps : Pairs)
+    → look marks ≡ look (ends (links one two) n)
+    → shown ≡ wholeLoads (links one two) n (look marks) (look c)
+    → cuts ≡ setsOf (links one two) n (look marks) (look c) (wholeOwner (links one two) n (look marks) (look c))
+    → before ≡ oddLine (oddPieces (links one two) n (look c) (wholeOwner (links one two) n (look marks) (look c)))
+    → take (ps .count) (ps .list) ≡ pairList (links one two) n (look shown) (look marks)
+    → ps .count ≤ length (ps .list)
+    → ReadyBy wholeReport s starting stopping
+    (shownBy (bytes "whole") before s starting stopping n one two c shown marks (cuts .owner) (cuts .size) (cuts .count) ps) ps
+whole-circuits-are-ready {s} {starting} {stopping} {n} {one} {two} {c} a shown marks cuts before ps marked =
+    let ls = the-links-are-the-networks a in
+    let N = the-network-is-given a in
+    let told : look marks ≡ terminal (a .net) = rw (ls, a .counted) at marked in
+    rw (ls, told, a .counted, a .sizes, a .started, a .stopped, a .firsts, a .seconds) (λ e. rw e (λ cut line listed held.
+    figures-are-ready N (wholes (a .net)) (wholes-can-be-shown (a .net) (N .tree)) ps
+    (wholes-are-worked-out N marks cuts before (take (ps .count) (ps .list)) told cut line listed)
+    (sets-have-places (a .net .links) (length (a .net .names)) (terminal (a .net)) (look (a .net .capacities))
+    (wholeOwner (a .net .links) (length (a .net .names)) (terminal (a .net)) (look (a .net .capacities))) (N .few) cuts cut)
+    held (the-whole-report-shows-wholes (a .net) s) (a .read)))
