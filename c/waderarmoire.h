@@ -10,9 +10,9 @@
  * of its own. It reads the sheet and writes the buffer within their lengths and touches no
  * other memory of the caller's. Every call ends, whatever the sheet holds.
  *
- * A call needs stack: 128 KiB for a tree that is nowhere deep, up to 248 KiB for a path of 256
- * sites, which needs the most (both measured, with what a new thread itself needs). A thread of
- * WADERARMOIRE_STACK_BYTES has enough for every sheet.
+ * A call needs at most 108 KiB of stack, whatever the shape of the tree: nothing recurses
+ * (measured, with what a new thread itself needs). A thread of WADERARMOIRE_STACK_BYTES has
+ * enough for every sheet.
  */
 #ifndef WADERARMOIRE_H
 #define WADERARMOIRE_H
@@ -31,7 +31,7 @@ extern "C" {
 #define WADERARMOIRE_REPORT_BYTES 65536
 
 /* A thread with a stack of this length can plan every sheet. */
-#define WADERARMOIRE_STACK_BYTES 262144
+#define WADERARMOIRE_STACK_BYTES 131072
 
 /*
  * Plans the network of a sheet of sheet_len bytes in halves of a circuit and writes the report

@@ -11,7 +11,6 @@ use lib.Seq.{slice, slice-empty, slice-cons, getD-set-same, take-set-lt, drop-se
 use Rattle.model.specs.Limits.{PLACES}
 use Rattle.lists.specs.Numbers.{look}
 use Rattle.lists.specs.Tallies.{tally}
-use Rattle.model.specs.Flows.{Links}
 use Rattle.model.specs.Pairing.{put, between, children}
 use Rattle.tree.specs.Offer.{links}
 use Rattle.tree_sets.specs.Members.{member}
@@ -34,28 +33,25 @@ pub record Entry : Type 0 where
   pub pairs : List ℕ
 
 module _ (ends last before a b c : List ℕ) where
-  abbrev n : ℕ
-  n = suc (length a)
-
-  abbrev ls : Links
-  ls = links a b
+  abbrev sites : ℕ
+  sites = suc (length a)
 
   -- an inner site, entered so, with its children; the child to come is the first above one that is past
   pub record Open (fuel : ℕ) (f : Frame) (e : Entry) : Type 0 where
-    pub visit : Visit n ends last before a b c (suc fuel) (f .site) (f .link) (e .up) (f .down) (e .ups) (e .downs) (e .pairs) (f .base)
+    pub visit : Visit sites ends last before a b c (suc fuel) (f .site) (f .link) (e .up) (f .down) (e .ups) (e .downs) (e .pairs) (f .base)
     pub inner : look ends (f .site) ≢ 1
-    pub children : Below ls (f .site) (f .link) (f .below)
+    pub children : Below (links a b) (f .site) (f .link) (f .below)
     pub past : ℕ
     pub coming : NextSite (member (f .below)) past (f .next)
 
   -- the arrays hold what the children before the child to come handed back
   abbrev Gathered : ℕ → Frame → Entry → List ℕ → List ℕ → List ℕ → Tops → Type 0
   Gathered fuel f e u d p top =
-      Gathering n ends a b c fuel (f .site) (f .link) (f .down) (e .ups) (e .downs) (e .pairs) (f .base) u d p top (f .rest) (f .next)
+      Gathering sites ends a b c fuel (f .site) (f .link) (f .down) (e .ups) (e .downs) (e .pairs) (f .base) u d p top (f .rest) (f .next)
 
   -- the arrays hold what the walk from site v hands back
   abbrev Handed : ℕ → ℕ → ℕ → ℕ → Entry → Tops → List ℕ → List ℕ → List ℕ → Tops → Type 0
-  Handed fuel v j down e base x y z r = Visited (walkOf n ends a b c fuel v j (e .up) down) (e .ups) (e .downs) (e .pairs) base x y z r
+  Handed fuel v j down e base x y z r = Visited (walkOf sites ends a b c fuel v j (e .up) down) (e .ups) (e .downs) (e .pairs) base x y z r
 
   module _ (root : ℕ) (pairs : List ℕ) where
     -- what the walk from v hands back lets the frame before it go on, and so on to the root, whose pairs are the whole
@@ -77,16 +73,17 @@ module _ (ends last before a b c : List ℕ) where
 
   -- the turns that a frame is still to take: two for each site below, and one to be settled
   abbrev pub turns : Frame → ℕ
-  turns f = suc (2 * ahead n ls (f .site) (f .link) (f .next))
+  turns f = suc (2 * ahead sites (links a b) (f .site) (f .link) (f .next))
 
+module _ {ends last before a b c : List ℕ} where
   -- ---- a site that is entered
 
-  module _ {fuel v j up down : ℕ} {u d p : List ℕ} {top : Tops} (W : Visit n ends last before a b c (suc fuel) v j up down u d p top)
-      (inner : look ends v ≢ 1) {f : Frame} (E : Entered ls (look c) v j down top f) where
+  module _ {fuel v j up down : ℕ} {u d p : List ℕ} {top : Tops} (W : Visit (suc (length a)) ends last before a b c (suc fuel) v j up down u d p top)
+      (inner : look ends v ≢ 1) {f : Frame} (E : Entered (links a b) (look c) v j down top f) where
     abbrev entered : Entry
     entered = record { up = up; ups = u; downs = d; pairs = p }
 
-    enter-opens : Open fuel f entered
+    enter-opens : Open ends last before a b c fuel f entered
     enter-opens = record {
       visit = rw (E .site, E .link, E .comes, E .from) W;
       inner = rw (E .site) inner;
@@ -95,16 +92,22 @@ module _ (ends last before a b c : List ℕ) where
       coming = E .first;
     }
 
-    enter-gathers : Gathered fuel f entered u d p top
-    enter-gathers = rw (E .site, E .link, E .comes, E .from, E .remains)
-        (gathering-passes (gathering-starts n ends a b c fuel v j down u d p top) (f .next) (children-from-the-next (E .children) n 0 (f .next) (E .first)))
+    -- the children from the first on are all of them
+    all-come : children (links a b) v j 1 (suc (suc (length a)) - 1) ≡ children (links a b) v j (f .next) (suc (suc (length a)) - f .next)
+    all-come = children-from-the-next (E .children) (suc (length a)) 0 (f .next) (E .first)
 
-    enter-turns : turns f + 1 ≡ 2 * size ls n j v
-    enter-turns = rw (E .site, E .link) (omega (arith, size-below W, ap (sizes ls n) (children-from-the-next (E .children) n 0 (f .next) (E .first))))
+    enter-gathers : Gathered ends last before a b c fuel f entered u d p top
+    enter-gathers = rw (E .site, E .link, E .comes, E .from, E .remains)
+        (gathering-passes (gathering-starts (suc (length a)) ends a b c fuel v j down u d p top) (f .next) all-come)
+
+    enter-turns : turns ends last before a b c f + 1 ≡ 2 * size (links a b) (suc (length a)) j v
+    enter-turns = rw (E .site, E .link) (omega (arith, size-below W, ap (sizes (links a b) (suc (length a))) all-come))
 
   -- the walk starts at the root
-  pub walking-starts : {root level : ℕ} {u d p : List ℕ} → Visit n ends last before a b c n root (length a) 0 0 u d p bottom → look ends root ≢ 1
-      → level ≡ n → {f : Frame} → Entered ls (look c) root (length a) 0 bottom f → Walking root p [] level f u d p bottom
+  pub walking-starts : {root level : ℕ} {u d p : List ℕ}
+      → Visit (suc (length a)) ends last before a b c (suc (length a)) root (length a) 0 0 u d p bottom → look ends root ≢ 1
+      → level ≡ suc (length a) → {f : Frame} → Entered (links a b) (look c) root (length a) 0 bottom f
+      → Walking ends last before a b c root p [] level f u d p bottom
   unfolding Waiting
   walking-starts {u = u} {d} {p} W inner l E = record {
     fuel = length a;
@@ -118,33 +121,34 @@ module _ (ends last before a b c : List ℕ) where
   module _ {root : ℕ} {pairs : List ℕ} {fs : List Frame} {level : ℕ} {f : Frame} {u d p : List ℕ} {top : Tops} where
     -- ---- a child to come
 
-    module _ (w : Walking root pairs fs level f u d p top) (some : f .next < PLACES) where
+    module _ (w : Walking ends last before a b c root pairs fs level f u d p top) (some : f .next < PLACES) where
       abbrev k : ℕ
-      k = between ls (f .site) (f .next)
+      k = between (links a b) (f .site) (f .next)
 
-      pub joined : (k < length ls) × (k ≢ f .link)
+      pub joined : (k < length (links a b)) × (k ≢ f .link)
       joined = let o = w .opened in o .children .are (f .next) (omega (arith, o .coming .above)) (o .coming .hit some)
 
       abbrev up : ℕ
-      up = sent ls (look c) f
+      up = sent (links a b) (look c) f
 
       abbrev down : ℕ
       down = 2 * look c k - up
 
-      pub visits : Visit n ends last before a b c (w .fuel) (f .next) k up down u d p top
+      pub visits : Visit (suc (length a)) ends last before a b c (w .fuel) (f .next) k up down u d p top
       visits = gathering-visits (w .gathered) (w .opened .visit) k refl (joined .0) (joined .1) up down (omega arith)
 
       fuelled : w .fuel ≡ suc (w .fuel - 1)
       fuelled = some-fuel visits
 
-      pub child : Visit n ends last before a b c (suc (w .fuel - 1)) (f .next) k up down u d p top
+      pub child : Visit (suc (length a)) ends last before a b c (suc (w .fuel - 1)) (f .next) k up down u d p top
       child = rw fuelled at visits
 
       module _ {g : Frame} (P : Passed f up g) where
-        abbrev later : children ls (f .site) (f .link) (suc (f .next)) (suc n - suc (f .next)) ≡ children ls (f .site) (f .link) (g .next) (suc n - g .next)
-        later = children-from-the-next (w .opened .children) n (f .next) (g .next) (P .next)
+        abbrev later : children (links a b) (f .site) (f .link) (suc (f .next)) (suc (suc (length a)) - suc (f .next))
+            ≡ children (links a b) (f .site) (f .link) (g .next) (suc (suc (length a)) - g .next)
+        later = children-from-the-next (w .opened .children) (suc (length a)) (f .next) (g .next) (P .next)
 
-        pass-opens : Open (w .fuel) g (w .entry)
+        pass-opens : Open ends last before a b c (w .fuel) g (w .entry)
         pass-opens = let o = w .opened in record {
           visit = rw (P .site, P .link, P .comes, P .from) (o .visit);
           inner = rw (P .site) (o .inner);
@@ -153,21 +157,22 @@ module _ (ends last before a b c : List ℕ) where
           coming = rw (P .children) (P .next);
         }
 
-        pass-gathers : {x y z : List ℕ} {r : Tops} → Visited (walkOf n ends a b c (w .fuel) (f .next) k up down) u d p top x y z r
-            → Gathered (w .fuel) g (w .entry) x y z r
+        pass-gathers : {x y z : List ℕ} {r : Tops} → Visited (walkOf (suc (length a)) ends a b c (w .fuel) (f .next) k up down) u d p top x y z r
+            → Gathered ends last before a b c (w .fuel) g (w .entry) x y z r
         pass-gathers q = rw (P .site, P .link, P .comes, P .from, P .remains)
             (gathering-goes-on (w .gathered) (w .opened .visit) k refl (joined .0) (joined .1) (g .next) later q)
 
-        pass-waits : Waiting root pairs fs (suc (w .fuel)) (g .site) (g .link) (g .down) (w .entry) (g .base)
+        pass-waits : Waiting ends last before a b c root pairs fs (suc (w .fuel)) (g .site) (g .link) (g .down) (w .entry) (g .base)
         pass-waits = rw (P .site, P .link, P .comes, P .from) (w .waiting)
 
-        pass-turns : turns g + 2 * size ls n k (f .next) ≡ turns f
+        pass-turns : turns ends last before a b c g + 2 * size (links a b) (suc (length a)) k (f .next) ≡ turns ends last before a b c f
         pass-turns = rw (P .site, P .link)
-            (omega (arith, split (w .gathered) (w .opened .visit) k refl (joined .0) (joined .1), ap (sizes ls n) later))
+            (omega (arith, split (w .gathered) (w .opened .visit) k refl (joined .0) (joined .1), ap (sizes (links a b) (suc (length a))) later))
 
         -- a terminal is added
         pub walking-adds : look ends (f .next) ≡ 1 → {x y : List ℕ} {r : Tops} → Added u (top .ups) x (r .ups) (flat (put (f .next) up []))
-            → Added d (top .downs) y (r .downs) (flat (put (f .next) down [])) → r .pairs ≡ top .pairs → Walking root pairs fs level g x y p r
+            → Added d (top .downs) y (r .downs) (flat (put (f .next) down [])) → r .pairs ≡ top .pairs
+            → Walking ends last before a b c root pairs fs level g x y p r
         walking-adds e q s t = record {
           fuel = w .fuel;
           levelled = w .levelled;
@@ -177,12 +182,12 @@ module _ (ends last before a b c : List ℕ) where
           waiting = pass-waits;
         }
 
-        pub adds-turns : turns g < turns f
+        pub adds-turns : turns ends last before a b c g < turns ends last before a b c f
         adds-turns = omega (arith, pass-turns, size-below child)
 
         -- an inner site is entered
-        module _ (inner : look ends (f .next) ≢ 1) {h : Frame} (E : Entered ls (look c) (f .next) k down top h) where
-          pub walking-enters : Walking root pairs (g ∷ fs) (level - 1) h u d p top
+        module _ (inner : look ends (f .next) ≢ 1) {h : Frame} (E : Entered (links a b) (look c) (f .next) k down top h) where
+          pub walking-enters : Walking ends last before a b c root pairs (g ∷ fs) (level - 1) h u d p top
           unfolding Waiting
           walking-enters = record {
             fuel = w .fuel - 1;
@@ -194,26 +199,26 @@ module _ (ends last before a b c : List ℕ) where
                 rw (E .site, E .link, E .comes, E .from, ← fuelled) (w .entry, pass-opens, (λ x y z r q. pass-gathers q), pass-waits);
           }
 
-          pub enters-turns : turns h + turns g < turns f
+          pub enters-turns : turns ends last before a b c h + turns ends last before a b c g < turns ends last before a b c f
           enters-turns = omega (arith, pass-turns, enter-turns child inner E)
 
     -- ---- no child to come
 
-    module _ (w : Walking root pairs fs level f u d p top) (none : PLACES ≤ f .next) where
-      all-past : n < f .next
+    module _ (w : Walking ends last before a b c root pairs fs level f u d p top) (none : PLACES ≤ f .next) where
+      all-past : suc (length a) < f .next
       all-past = omega (arith, w .opened .visit .tree .few)
 
       pub walking-settles : Settling u d p (f .base) top (f .down)
       walking-settles = gathering-settles (w .opened .visit) (w .opened .inner) (w .gathered) all-past
 
       pub settles-handed : {x y z : List ℕ} {r : Tops} → Settled u d p (f .base) top (f .down) x y z r
-          → Handed (suc (w .fuel)) (f .site) (f .link) (f .down) (w .entry) (f .base) x y z r
+          → Handed ends last before a b c (suc (w .fuel)) (f .site) (f .link) (f .down) (w .entry) (f .base) x y z r
       settles-handed q = gathering-settled (w .opened .visit) (w .opened .inner) (w .gathered) all-past q
 
   module _ {root : ℕ} {pairs : List ℕ} {level : ℕ} {f : Frame} {u d p : List ℕ} {top : Tops} where
     -- the frame before it goes on
-    pub walking-returns : {g : Frame} {fs : List Frame} (w : Walking root pairs (g ∷ fs) level f u d p top) → PLACES ≤ f .next
-        → {x y z : List ℕ} {r : Tops} → Settled u d p (f .base) top (f .down) x y z r → Walking root pairs fs (suc level) g x y z r
+    pub walking-returns : {g : Frame} {fs : List Frame} (w : Walking ends last before a b c root pairs (g ∷ fs) level f u d p top) → PLACES ≤ f .next
+        → {x y z : List ℕ} {r : Tops} → Settled u d p (f .base) top (f .down) x y z r → Walking ends last before a b c root pairs fs (suc level) g x y z r
     unfolding Waiting
     walking-returns w none {x} {y} {z} {r} q = let o = w .waiting in record {
       fuel = suc (w .fuel);
@@ -225,7 +230,7 @@ module _ (ends last before a b c : List ℕ) where
     }
 
     -- the walk ends
-    pub walking-ends : (w : Walking root pairs [] level f u d p top) → PLACES ≤ f .next
+    pub walking-ends : (w : Walking ends last before a b c root pairs [] level f u d p top) → PLACES ≤ f .next
         → {x y z : List ℕ} {r : Tops} → Settled u d p (f .base) top (f .down) x y z r
         → Added pairs 0 z (r .pairs) (flatPairs (pairsBelow root ends a b c))
     unfolding Waiting
@@ -254,20 +259,20 @@ module _ (ends last before a b c : List ℕ) where
       pub downs-long : length d ≡ length d₀
       pub pairs-long : length p ≡ length p₀
 
-    pub framed-starts : Visit (suc (length a)) ends last before a b c (suc (length a)) root (length a) 0 0 u₀ d₀ p₀ bottom → look ends root ≢ 1
-        → (level : ℕ) → level ≡ suc (length a) → {f : Frame} → Entered (links a b) (look c) root (length a) 0 bottom f
-        → (fs : List Frame) → length fs ≡ PLACES → Framed u₀ d₀ p₀ level bottom f fs
-    framed-starts W inner level l E fs h = record {
-      walking = rw (l, slice-empty (suc (suc (length a))) fs) (walking-starts ends last before a b c W inner refl E);
-      levels = omega arith;
-      places = h;
-      ups-long = refl;
-      downs-long = refl;
-      pairs-long = refl;
-    }
+module _ {ends last before a b c : List ℕ} {root : ℕ} {u₀ d₀ p₀ : List ℕ} where
+  pub framed-starts : Visit (suc (length a)) ends last before a b c (suc (length a)) root (length a) 0 0 u₀ d₀ p₀ bottom → look ends root ≢ 1
+      → (level : ℕ) → level ≡ suc (length a) → {f : Frame} → Entered (links a b) (look c) root (length a) 0 bottom f
+      → (fs : List Frame) → length fs ≡ PLACES → Framed ends last before a b c root u₀ d₀ p₀ u₀ d₀ p₀ level bottom f fs
+  framed-starts W inner level l E fs h = record {
+    walking = rw (l, slice-empty (suc (suc (length a))) fs) (walking-starts W inner refl E);
+    levels = omega arith;
+    places = h;
+    ups-long = refl;
+    downs-long = refl;
+    pairs-long = refl;
+  }
 
-  module _ {root : ℕ} {u₀ d₀ p₀ u d p : List ℕ} {level : ℕ} {top : Tops} {f : Frame} {fs : List Frame}
-      (F : Framed root u₀ d₀ p₀ u d p level top f fs) where
+  module _ {u d p : List ℕ} {level : ℕ} {top : Tops} {f : Frame} {fs : List Frame} (F : Framed ends last before a b c root u₀ d₀ p₀ u d p level top f fs) where
     pub few : (level ≤ suc (length a)) × (suc (length a) < PLACES) × (1 ≤ level)
     few = (F .levels, omega (arith, F .walking .opened .visit .tree .few), omega (arith, F .walking .levelled))
 
@@ -275,9 +280,9 @@ module _ (ends last before a b c : List ℕ) where
       pub framed-adds : look ends (f .next) ≡ 1 → {x y : List ℕ} {r : Tops}
           → Added u (top .ups) x (r .ups) (flat (put (f .next) (sent (links a b) (look c) f) []))
           → Added d (top .downs) y (r .downs) (flat (put (f .next) (2 * look c (between (links a b) (f .site) (f .next)) - sent (links a b) (look c) f) []))
-          → r .pairs ≡ top .pairs → Framed root u₀ d₀ p₀ x y p level r g fs
+          → r .pairs ≡ top .pairs → Framed ends last before a b c root u₀ d₀ p₀ x y p level r g fs
       framed-adds e q s t = record {
-        walking = walking-adds ends last before a b c (F .walking) some P e q s t;
+        walking = walking-adds (F .walking) some P e q s t;
         levels = F .levels;
         places = F .places;
         ups-long = q .as-long ∙ F .ups-long;
@@ -285,8 +290,8 @@ module _ (ends last before a b c : List ℕ) where
         pairs-long = F .pairs-long;
       }
 
-      pub adds-owed : owed level g fs < owed level f fs
-      adds-owed = omega (arith, adds-turns ends last before a b c (F .walking) some P)
+      pub adds-owed : owed ends last before a b c level g fs < owed ends last before a b c level f fs
+      adds-owed = omega (arith, adds-turns (F .walking) some P)
 
       module _ (inner : look ends (f .next) ≢ 1) {h : Frame} (E : Entered (links a b) (look c) (f .next) (between (links a b) (f .site) (f .next))
           (2 * look c (between (links a b) (f .site) (f .next)) - sent (links a b) (look c) f) top h) where
@@ -295,9 +300,9 @@ module _ (ends last before a b c : List ℕ) where
             let here : suc (level - 1) ≡ level = omega (arith, few) in
             rw here (stored fs level (suc (suc (length a))) g (omega (arith, few)) (omega (arith, few, F .places)))
 
-        pub framed-enters : Framed root u₀ d₀ p₀ u d p (level - 1) top h (set fs level g)
+        pub framed-enters : Framed ends last before a b c root u₀ d₀ p₀ u d p (level - 1) top h (set fs level g)
         framed-enters = record {
-          walking = rw below (walking-enters ends last before a b c (F .walking) some P inner E);
+          walking = rw below (walking-enters (F .walking) some P inner E);
           levels = omega (arith, F .levels);
           places = length-set fs level g ∙ F .places;
           ups-long = F .ups-long;
@@ -305,23 +310,23 @@ module _ (ends last before a b c : List ℕ) where
           pairs-long = F .pairs-long;
         }
 
-        pub enters-owed : owed (level - 1) h (set fs level g) < owed level f fs
+        pub enters-owed : owed ends last before a b c (level - 1) h (set fs level g) < owed ends last before a b c level f fs
         unfolding tally
-        enters-owed = rw below (omega (arith, enters-turns ends last before a b c (F .walking) some P inner E))
+        enters-owed = rw below (omega (arith, enters-turns (F .walking) some P inner E))
 
     module _ (none : PLACES ≤ f .next) {x y z : List ℕ} {r : Tops} (q : Settled u d p (f .base) top (f .down) x y z r) where
       pub framed-ends : level ≡ suc (length a) → Added p₀ 0 z (r .pairs) (flatPairs (pairsBelow root ends a b c))
       framed-ends l =
           let last-one : slice (suc level) (suc (suc (length a))) fs ≡ [] = rw l (slice-empty (suc (suc (length a))) fs) in
-          walking-ends ends last before a b c (rw last-one at (F .walking)) none q
+          walking-ends (rw last-one at (F .walking)) none q
 
       module _ (l : level < suc (length a)) (o : Frame) where
         above : slice (suc level) (suc (suc (length a))) fs ≡ getD fs (suc level) o ∷ slice (suc (suc level)) (suc (suc (length a))) fs
         above = slice-cons (suc level) (suc (suc (length a))) fs o (omega arith) (omega (arith, few, F .places))
 
-        pub framed-returns : Framed root u₀ d₀ p₀ x y z (level + 1) r (getD fs (level + 1) o) fs
+        pub framed-returns : Framed ends last before a b c root u₀ d₀ p₀ x y z (level + 1) r (getD fs (level + 1) o) fs
         framed-returns = rw (add-one level) (record {
-          walking = walking-returns ends last before a b c (rw above at (F .walking)) none q;
+          walking = walking-returns (rw above at (F .walking)) none q;
           levels = l;
           places = F .places;
           ups-long = q .ups .as-long ∙ F .ups-long;
@@ -329,6 +334,6 @@ module _ (ends last before a b c : List ℕ) where
           pairs-long = q .pairs .as-long ∙ F .pairs-long;
         })
 
-        pub returns-owed : owed (level + 1) (getD fs (level + 1) o) fs < owed level f fs
+        pub returns-owed : owed ends last before a b c (level + 1) (getD fs (level + 1) o) fs < owed ends last before a b c level f fs
         unfolding tally
         returns-owed = rw (add-one level, above) (omega arith)

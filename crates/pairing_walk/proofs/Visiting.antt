@@ -5,7 +5,6 @@ use mathlib.Core.List.{List, [], _∷_, _++_, append-nil}
 use Prim.Native.Nat.{ℕ, suc, _+_, _-_, _*_, _≤_, _<_, min}
 use native.Mathlib.Omega.{arith}
 use lib.ListN.{length, length-append}
-use Rattle.model.specs.Limits.{SIZE}
 use Rattle.lists.specs.Numbers.{look}
 use Rattle.model.specs.Flows.{Links, sumAt}
 use Rattle.model.specs.Pairing.{Part, nothing, join, put, dropHalves, halves, match, between, children, gather, alone, settle}

@@ -1,11 +1,10 @@
 -- The frames of the walk: the sites from the root to the one at hand, each with what its children are still to send up.
 -- Document 01, "Pairing", step 1.
 use mathlib.Core.Path.{_≡_}
-use mathlib.Core.Logic.{_≢_}
 use mathlib.Core.List.{List}
-use Prim.Native.Nat.{ℕ, suc, _+_, _-_, _*_, _≤_, _<_, min}
+use Prim.Native.Nat.{ℕ, suc, _-_, _*_, _≤_, _<_, min}
 use lib.ListN.{length}
-use Rattle.model.specs.Limits.{SITES, SIZE}
+use Rattle.model.specs.Limits.{SITES}
 use Rattle.lists.specs.Numbers.{look}
 use Rattle.model.specs.Flows.{Links, sumAt}
 use Rattle.model.specs.Pairing.{between}

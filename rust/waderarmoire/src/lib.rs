@@ -42,10 +42,9 @@
 //! call them at once, each with a buffer of its own. The caller of this crate owes nothing more; what the
 //! library below asks, pointers that are not null and areas that do not overlap, slices have.
 //!
-//! A call needs stack: 128 KiB for a tree that is nowhere deep, up to 248 KiB for a path of 256
-//! sites, which needs the most (both measured, with what a new thread itself needs). A thread of
-//! [`STACK_BYTES`] has enough for every sheet; threads of the standard library have 2 MiB unless
-//! they are made with less.
+//! A call needs at most 108 KiB of stack, whatever the shape of the tree: nothing recurses
+//! (measured, with what a new thread itself needs). A thread of [`STACK_BYTES`] has enough for
+//! every sheet; threads of the standard library have 2 MiB unless they are made with less.
 //!
 //! # Building
 //!
@@ -64,7 +63,7 @@ pub const SHEET_BYTES: usize = 16_384;
 pub const REPORT_BYTES: usize = 65_536;
 
 /// A thread with a stack of this many bytes can plan every sheet.
-pub const STACK_BYTES: usize = 262_144;
+pub const STACK_BYTES: usize = 131_072;
 
 /// A function of the library: the sheet and the report buffer, each with its length.
 type Planner = unsafe extern "C" fn(*const u8, usize, *mut u8, usize) -> u64;

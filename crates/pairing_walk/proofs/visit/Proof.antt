@@ -1,6 +1,6 @@
 -- `pairing_walk::visit` meets its contract: each turn adds a terminal, enters a child, or settles a site and goes back.
-use mathlib.Core.Path.{_≡_, refl, _∙_}
-use Prim.Native.Nat.{ℕ, suc, _+_, _-_, _*_, _≤_, _<_}
+use mathlib.Core.Path.{refl, _∙_}
+use Prim.Native.Nat.{suc, _<_}
 use native.Mathlib.Omega.{arith}
 use native.Mathlib.Numerals.{add-one}
 use lib.ListN.{length}
@@ -9,17 +9,10 @@ use Rattle.lists.specs.Numbers.{look}
 use Rattle.tree.specs.Offer.{links}
 use Rattle.pairing_walk.specs.Frames.{sent, Passed}
 use Rattle.pairing_walk.proofs.Visiting.{alone-room, down-within}
-use Rattle.pairing_walk.proofs.Framing.{Framed, owed, joined, visits, child, walking-settles, few, framed-starts, framed-adds, framed-enters, framed-returns}
-use Rattle.pairing_walk.proofs.Framing.{framed-ends, adds-owed, enters-owed, returns-owed}
+use Rattle.pairing_walk.proofs.Framing.{Framed, owed, joined, visits, child, walking-settles, few, framed-starts, framed-adds, adds-owed}
+use Rattle.pairing_walk.proofs.Framing.{framed-enters, enters-owed, framed-returns, returns-owed, framed-ends}
 use Rattle.pairing_walk.proofs.visit.Statement.{statement}
 use Rattle.pairing_walk.proofs.visit.Tie as tie
-use Rattle.pairing_walk.proofs.visit.Reads as reads
-use Rattle.pairing_walk.proofs.visit.Lts as lts
-use Rattle.pairing_halves.proofs.alone.Reads as alone-reads
-use Rattle.pairing_halves.proofs.settle.Reads as settle-reads
-use Rattle.pairing_walk.proofs.child_of.Reads as child-of-reads
-use Rattle.pairing_walk.proofs.enter.Reads as enter-reads
-use Rattle.pairing_walk.proofs.pass.Reads as pass-reads
 
 abbrev Inv-loop : tie.InvT-loop
 Inv-loop root ends last before one two capacity ups₀ downs₀ pairs₀ sites level₀ top₀ frame₀ frames₀ ups downs pairs level top frame frames =
@@ -43,17 +36,11 @@ enter-requires c κs = let W = c .before .before .before .before .before .before
 loop-holds : tie.Need-loop-holds Inv-loop μ-loop
 loop-holds c =
     let s = c .before .before .before .before .before .before .before in
-    let a = s .args in
-    framed-starts (a .ends .now) (a .last .now) (a .before .now) (a .one .now) (a .two .now) (a .capacity .now) (a .root)
-    (a .ups .now) (a .downs .now) (a .pairs .now) (s .pre .0) (s .pre .1) _ (add-one (length (a .one .now))) (c .enter .ensures) _ refl
+    framed-starts (s .pre .0) (s .pre .1) _ (add-one (length (s .args .one .now))) (c .enter .ensures) _ refl
 
 -- the function's start, from the loop
 abbrev start : tie.At-loop Inv-loop μ-loop → tie.Start Inv-loop μ-loop
 start c = c .before .before .before .before .before .before .before .before
-
--- a child is to come
-abbrev Child : Type 0
-Child = tie.Then1 Inv-loop μ-loop
 
 child-of-requires : tie.Need-child-of-requires Inv-loop μ-loop
 child-of-requires c κs =
@@ -63,7 +50,7 @@ child-of-requires c κs =
       tree = W .tree;
       chained = W .chained;
       site = omega (arith, c .if1 .taken);
-      joined = joined _ _ _ _ _ _ (F .walking) (c .if1 .taken) .0;
+      joined = joined (F .walking) (c .if1 .taken) .0;
     }
 
 pass-requires : tie.Need-pass-requires Inv-loop μ-loop
@@ -79,12 +66,12 @@ passed c = rw (c .before .child-of .ensures) at (c .pass .ensures)
 
 alone-requires : tie.Need-alone-requires Inv-loop μ-loop
 alone-requires c κs = let t = c .before .before .before .before .before .before in
-    alone-room (child _ _ _ _ _ _ (t .before .loop .inv .walking) (t .if1 .taken))
+    alone-room (child (t .before .loop .inv .walking) (t .if1 .taken))
 
 loop-less : tie.Need-loop-less Inv-loop μ-loop
 loop-less c =
     let t = c .before .before .before .before .before .before .before .before .before in
-    adds-owed _ _ _ _ _ _ (t .before .before .before .loop .inv) (t .before .before .if1 .taken) (passed t)
+    adds-owed (t .before .before .before .loop .inv) (t .before .before .if1 .taken) (passed t)
 
 loop-again : tie.Need-loop-again Inv-loop μ-loop
 loop-again c =
@@ -92,21 +79,21 @@ loop-again c =
     let i = r .before .before .before in
     let t = i .before .before in
     let e = rw (t .before .child-of .ensures) at (r .alone .ensures) in
-    framed-adds _ _ _ _ _ _ (t .before .before .before .loop .inv) (t .before .before .if1 .taken) (passed t) (i .if2 .taken) (e .0) (e .1 .0) (e .1 .1)
+    framed-adds (t .before .before .before .loop .inv) (t .before .before .if1 .taken) (passed t) (i .if2 .taken) (e .0) (e .1 .0) (e .1 .1)
 
 mul-frames : tie.Need-mul-frames Inv-loop μ-loop
-mul-frames c = omega (arith, few _ _ _ _ _ _ (c .before .before .before .before .before .loop .inv))
+mul-frames c = omega (arith, few (c .before .before .before .before .before .loop .inv))
 
 array-set-from-frames : tie.Need-array-set-from-frames Inv-loop μ-loop
-array-set-from-frames c = omega (arith, few _ _ _ _ _ _ (c .before .before .before .before .before .loop .inv))
+array-set-from-frames c = omega (arith, few (c .before .before .before .before .before .loop .inv))
 
 sub-level : tie.Need-sub-level Inv-loop μ-loop
-sub-level c = omega (arith, few _ _ _ _ _ _ (c .before .before .before .before .before .loop .inv))
+sub-level c = omega (arith, few (c .before .before .before .before .before .loop .inv))
 
 enter-requires-2 : tie.Need-enter-requires-2 Inv-loop μ-loop
 enter-requires-2 c κs =
     let t = c .before .before in
-    let W = visits _ _ _ _ _ _ (t .before .before .before .loop .inv .walking) (t .before .before .if1 .taken) in
+    let W = visits (t .before .before .before .loop .inv .walking) (t .before .before .if1 .taken) in
     record {
       tree = W .tree;
       chained = W .chained;
@@ -117,18 +104,18 @@ enter-requires-2 c κs =
 loop-less-2 : tie.Need-loop-less-2 Inv-loop μ-loop
 loop-less-2 c =
     let t = c .before .before .before in
-    enters-owed _ _ _ _ _ _ (t .before .before .before .loop .inv) (t .before .before .if1 .taken) (passed t) (c .before .if2 .left)
+    enters-owed (t .before .before .before .loop .inv) (t .before .before .if1 .taken) (passed t) (c .before .if2 .left)
     (rw (t .before .child-of .ensures) at (c .enter2 .ensures))
 
 loop-again-2 : tie.Need-loop-again-2 Inv-loop μ-loop
 loop-again-2 c =
     let t = c .before .before .before in
-    framed-enters _ _ _ _ _ _ (t .before .before .before .loop .inv) (t .before .before .if1 .taken) (passed t) (c .before .if2 .left)
+    framed-enters (t .before .before .before .loop .inv) (t .before .before .if1 .taken) (passed t) (c .before .if2 .left)
     (rw (t .before .child-of .ensures) at (c .enter2 .ensures))
 
 settle-requires : tie.Need-settle-requires Inv-loop μ-loop
 settle-requires c κs = let e = c .before .before .before .before in
-    walking-settles _ _ _ _ _ _ (e .before .loop .inv .walking) (e .if1 .left)
+    walking-settles (e .before .loop .inv .walking) (e .if1 .left)
 
 -- a site has been settled
 abbrev settled : tie.After-slice-known8 Inv-loop μ-loop → tie.After-settle Inv-loop μ-loop
@@ -149,14 +136,14 @@ same-length-3 c = let s = settled (c .before) in s .settle .kept .1 .1 .1 .0 ∙
 returns : tie.Need-returns Inv-loop μ-loop
 returns c =
     let s = settled (c .before) in
-    framed-ends _ _ _ _ _ _ (past s .before .loop .inv) (past s .if1 .left) (s .settle .ensures) (omega (arith, c .if3 .taken))
+    framed-ends (past s .before .loop .inv) (past s .if1 .left) (s .settle .ensures) (omega (arith, c .if3 .taken))
 
 -- the frame above is that of a site, not above the root's
 not-root : (c : tie.Else3 Inv-loop μ-loop) → let e = past (settled (c .before)) .before in
     (e .loop .level < suc (length (start e .args .one .now))) × (suc (length (start e .args .one .now)) < PLACES)
 not-root c =
     let e = past (settled (c .before)) .before in
-    let f = few _ _ _ _ _ _ (e .loop .inv) in
+    let f = few (e .loop .inv) in
     (omega (arith, f .0, c .if3 .left), f .1)
 
 add-level : tie.Need-add-level Inv-loop μ-loop
@@ -171,12 +158,12 @@ array-copy-out-frame c = omega (arith, not-root c)
 loop-less-3 : tie.Need-loop-less-3 Inv-loop μ-loop
 loop-less-3 c =
     let s = settled (c .before .before) in
-    returns-owed _ _ _ _ _ _ (past s .before .loop .inv) (past s .if1 .left) (s .settle .ensures) (not-root (c .before) .0) _
+    returns-owed (past s .before .loop .inv) (past s .if1 .left) (s .settle .ensures) (not-root (c .before) .0) _
 
 loop-again-3 : tie.Need-loop-again-3 Inv-loop μ-loop
 loop-again-3 c =
     let s = settled (c .before .before) in
-    framed-returns _ _ _ _ _ _ (past s .before .loop .inv) (past s .if1 .left) (s .settle .ensures) (not-root (c .before) .0) _
+    framed-returns (past s .before .loop .inv) (past s .if1 .left) (s .settle .ensures) (not-root (c .before) .0) _
 
 pub visit-spec : {M : Type 1} → statement M
 visit-spec =
