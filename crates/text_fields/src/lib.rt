@@ -2,16 +2,64 @@
 ghost use mathlib.Core.Path.{_≡_};
 ghost use mathlib.Core.List.{[], _∷_};
 ghost use mathlib.Core.Bool.{_&&_};
+ghost use Prim.Native.Nat.{_+_, _≤_, _<_};
 ghost use lib.Dec.{leb};
-ghost use Rattle.text_fields.specs.Fields.{same, all, isDigit, isLetterOrDigit, isName, isNumber};
+ghost use lib.ListN.{length};
+ghost use Rattle.text_fields.specs.Fields.{same, word, all, isDigit, isLetterOrDigit, isName, isNumber};
+ghost use Rattle.text_fields.specs.Words.{HalfWord, SameWord};
 
-// Whether two byte strings are the same.
-pub fn same(a: &[u8], b: &[u8]) -> bool
+// A byte as a wider number.
+fn wide(b: u8) -> u64
+    ensures { λ r. ⌜ (r ≡ b) × (r < 256) ⌝ }
+{
+    b as u64
+}
+
+// Four bytes of a string from a place on, as one number.
+fn half_word(s: &[u8], at: usize) -> u64
+    requires { ⌜ at + 4 ≤ length (now s) ⌝ }
+    ensures { λ r. ⌜ HalfWord (now (s .entry)) at r ⌝ }
+{
+    wide(s[at]) + 256 * wide(s[at + 1]) + 65536 * wide(s[at + 2]) + 16777216 * wide(s[at + 3])
+}
+
+// Eight bytes of a string from a place on, as one number. Only the planner's own crates call it.
+pub fn word(s: &[u8], at: usize) -> u64
+    requires { ⌜ at + 8 ≤ length (now s) ⌝ }
+    ensures { λ r. ⌜ r ≡ word (now (s .entry)) at ⌝ }
+{
+    half_word(s, at) + 4294967296 * half_word(s, at + 4)
+}
+
+// Whether eight bytes of two strings are the same, from a place on.
+fn same_word(a: &[u8], b: &[u8], at: usize) -> bool
+    requires { ⌜ (at + 8 ≤ length (now a)) × (at + 8 ≤ length (now b)) ⌝ }
+    ensures { λ r. ⌜ SameWord (now (a .entry)) (now (b .entry)) at r ⌝ }
+{
+    half_word(a, at) == half_word(b, at) && half_word(a, at + 4) == half_word(b, at + 4)
+}
+
+// Whether two strings of one length, eight bytes or more, are the same: word by word, the last word ending with them.
+fn same_words(a: &[u8], b: &[u8]) -> bool
+    requires { ⌜ (length (now a) ≡ length (now b)) × (8 ≤ length (now a)) ⌝ }
     ensures { λ r. ⌜ r ≡ same (now (a .entry)) (now (b .entry)) ⌝ }
 {
-    if a.len() != b.len() {
-        return false;
+    let last = a.len() - 8;
+    let mut at = 0;
+    while at < last {
+        if !same_word(a, b, at) {
+            return false;
+        }
+        at += 8;
     }
+    same_word(a, b, last)
+}
+
+// Whether two strings of one length are the same, byte by byte.
+fn same_bytes(a: &[u8], b: &[u8]) -> bool
+    requires { ⌜ length (now a) ≡ length (now b) ⌝ }
+    ensures { λ r. ⌜ r ≡ same (now (a .entry)) (now (b .entry)) ⌝ }
+{
     let mut at = 0;
     while at < a.len() {
         if a[at] != b[at] {
@@ -20,6 +68,19 @@ pub fn same(a: &[u8], b: &[u8]) -> bool
         at += 1;
     }
     true
+}
+
+// Whether two byte strings are the same.
+pub fn same(a: &[u8], b: &[u8]) -> bool
+    ensures { λ r. ⌜ r ≡ same (now (a .entry)) (now (b .entry)) ⌝ }
+{
+    if a.len() != b.len() {
+        return false;
+    }
+    if a.len() < 8 {
+        return same_bytes(a, b);
+    }
+    same_words(a, b)
 }
 
 // Whether a field is one byte, the given one.
