@@ -5,7 +5,7 @@ ghost use mathlib.Core.Bool.{_&&_};
 ghost use Prim.Native.Nat.{_+_, _≤_, _<_};
 ghost use lib.Dec.{leb};
 ghost use lib.ListN.{length};
-ghost use Rattle.text_fields.specs.Fields.{same, word, all, isDigit, isLetterOrDigit, isName, isNumber};
+ghost use Rattle.text_fields.specs.Fields.{same, word, lastWord, all, isDigit, isLetterOrDigit, isName, isNumber};
 ghost use Rattle.text_fields.specs.Words.{HalfWord, SameWord};
 
 // A byte as a wider number.
@@ -23,12 +23,22 @@ fn half_word(s: &[u8], at: usize) -> u64
     wide(s[at]) + 256 * wide(s[at + 1]) + 65536 * wide(s[at + 2]) + 16777216 * wide(s[at + 3])
 }
 
-// Eight bytes of a string from a place on, as one number. Only the planner's own crates call it.
-pub fn word(s: &[u8], at: usize) -> u64
+// Eight bytes of a string from a place on, as one number.
+fn word(s: &[u8], at: usize) -> u64
     requires { ⌜ at + 8 ≤ length (now s) ⌝ }
     ensures { λ r. ⌜ r ≡ word (now (s .entry)) at ⌝ }
 {
     half_word(s, at) + 4294967296 * half_word(s, at + 4)
+}
+
+// The last eight bytes of a string as one number, and 0 for a string of fewer.
+pub fn last_word(s: &[u8]) -> u64
+    ensures { λ r. ⌜ r ≡ lastWord (now (s .entry)) ⌝ }
+{
+    if s.len() < 8 {
+        return 0;
+    }
+    word(s, s.len() - 8)
 }
 
 // Whether eight bytes of two strings are the same, from a place on.
@@ -45,12 +55,12 @@ fn same_words(a: &[u8], b: &[u8]) -> bool
     ensures { λ r. ⌜ r ≡ same (now (a .entry)) (now (b .entry)) ⌝ }
 {
     let last = a.len() - 8;
-    let mut at = 0;
-    while at < last {
-        if !same_word(a, b, at) {
+    let mut place = 0;
+    while place < last {
+        if !same_word(a, b, place) {
             return false;
         }
-        at += 8;
+        place += 8;
     }
     same_word(a, b, last)
 }

@@ -1,4 +1,4 @@
--- `same_words` meets its contract. The invariant: the bytes before place `at` are the same.
+-- `same_words` meets its contract. The invariant: the bytes before the place are the same.
 use mathlib.Core.Path.{_≡_, sym}
 use Prim.Native.Nat.{ℕ, _≤_, _<_, _-_}
 use native.Mathlib.Decide.{decLt}
@@ -11,10 +11,10 @@ use Rattle.text_fields.proofs.same_words.Statement.{statement}
 use Rattle.text_fields.proofs.same_words.Tie as tie
 
 abbrev Inv-loop : tie.InvT-loop
-Inv-loop a b last at₀ at = (at ≤ length a) × ((k : ℕ) → k < at → getD a k 0 ≡ getD b k 0)
+Inv-loop a b last place₀ place = (place ≤ length a) × ((k : ℕ) → k < place → getD a k 0 ≡ getD b k 0)
 
 abbrev μ-loop : tie.MeasureT-loop
-μ-loop a b last at₀ at = last - at
+μ-loop a b last place₀ place = last - place
 
 loop-holds : tie.Need-loop-holds Inv-loop μ-loop
 loop-holds c = (omega arith, λ k l. absurd (omega arith))
@@ -26,7 +26,7 @@ loop-again : tie.Need-loop-again Inv-loop μ-loop
 loop-again c =
     let l = c .before .before .before .loop in
     let more = c .before .same-word .ensures .yes (not-false _ (c .if1 .left)) in
-    (omega arith, λ k h. elim (decLt k (l .at)) [ | yes s ↦ l .inv .1 k s | no s ↦ more k (omega arith) h ])
+    (omega arith, λ k h. elim (decLt k (l .place)) [ yes s ↦ l .inv .1 k s | no s ↦ more k (omega arith) h ])
 
 returns-2 : tie.Need-returns-2 Inv-loop μ-loop
 returns-2 c =
@@ -34,7 +34,7 @@ returns-2 c =
     let s = top .before .before .before .args in
     let last = c .same-word2 .ensures in
     same-by (c .same-word2 .result) (s .a .now) (s .b .now) (top .before .before .before .pre .0)
-    (λ e k h. elim (decLt k (top .loop .at)) [ | yes q ↦ top .loop .inv .1 k q | no q ↦ last .yes e k (omega arith) (omega arith) ])
+    (λ e k h. elim (decLt k (top .loop .place)) [ yes q ↦ top .loop .inv .1 k q | no q ↦ last .yes e k (omega arith) (omega arith) ])
     (last .no)
 
 pub same-words-spec : {M : Type 1} → statement M
