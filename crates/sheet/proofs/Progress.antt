@@ -15,7 +15,7 @@ use Rattle.model.specs.declared.Edition.{Edition}
 use Rattle.tree_labels.specs.Labels.{linked, whole}
 use Rattle.tree_labels.specs.LabelPlaces.{whole-sites}
 use Rattle.text_lines.specs.Lines.{afterLine}
-use Rattle.sheet_names.specs.Names.{HASHES, part, ranges, hash, entered, Indexes}
+use Rattle.sheet_names.specs.Names.{TABLE, part, ranges, hash, entered, Indexes}
 use Rattle.sheet_names.specs.TableLaws.{no-sites, site-entered}
 use Rattle.sheet.specs.Sheet.{Network, empty, refused, accepted, stepOf, added, readLine, readLines, andThen, finish}
 use Rattle.sheet.specs.Reading.{padded, lists, reading}
@@ -72,7 +72,7 @@ pub record Progress (ed : Edition) (s : List ℕ) (net : Lists) (table marks : L
   pub numbered : number ≤ at + 1
   pub rest : readLines ed s (length s) 1 0 empty ≡ readLines ed s (length s - at) number at read
 
-pub start : (ed : Edition) → ed .sites ≤ SITES → (s : List ℕ) → Progress ed s (lists empty) (replicate HASHES 0) (upfrom 0 PLACES) 0 1
+pub start : (ed : Edition) → ed .sites ≤ SITES → (s : List ℕ) → Progress ed s (lists empty) (replicate TABLE 0) (upfrom 0 PLACES) 0 1
 start ed h s = record {
   fits = h;
   read = empty;
@@ -155,7 +155,7 @@ module _ {ed : Edition} {s table marks : List ℕ} {net : Lists} {at number : �
         let room : length names < SITES = omega (arith, sites-are, site-fits a b q) in
         on (record { names = names ++ ((a, b) ∷ []); links = P .read .links; capacities = P .read .capacities }) (ap (added (P .read)) q) _
         (rw (P .lists-are, placed (λ r. r .0) names (a, b) room, placed (λ r. r .1) names (a, b) room, length-append names ((a, b) ∷ [])))
-        entries (rw (e, sites-are) (site-entered (P .indexed) (a, b)))
+        entries (rw (e, sites-are) (site-entered (P .indexed) (a, b) room (sound-next _ (ap (added (P .read)) q) .different)))
         marks (P .labels-are)
 
     -- a link takes the next place of the links, and joins its sites

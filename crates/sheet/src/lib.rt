@@ -12,7 +12,7 @@ mod stepping;
 
 use model::Edition;
 use model::SITES;
-use sheet_names::HASHES;
+use sheet_names::TABLE;
 use stepping::Step;
 
 // What a sheet is answered: accepted, or refused with the refusal's number and its line.
@@ -70,7 +70,7 @@ fn read_lines(sheet: &[u8], edition: Edition) -> Reading
     ensures { λ r. ⌜ r ≡ reading (andThen (readLines edition (now (sheet .entry)) (length (now (sheet .entry))) 1 0 empty) finish) ⌝ }
 {
     let mut net = nothing();
-    let mut table = [0u16; HASHES];
+    let mut table = [0u16; TABLE];
     let mut labels = tree_labels::own_labels();
     let mut at = 0;
     let mut number = 1;

@@ -15,7 +15,7 @@ use model::PLACES;
 use model::SITES;
 use sheet_kinds::Line;
 use sheet_names::Found;
-use sheet_names::HASHES;
+use sheet_names::TABLE;
 
 // What a line adds to the network, or its refusal: the number and the line.
 pub enum Step {
@@ -103,7 +103,7 @@ fn record_step(
     starts: &[usize; SITES],
     ends: &[usize; SITES],
     sites: usize,
-    table: &[u16; HASHES],
+    table: &[u16; TABLE],
     labels: &[u16; PLACES],
     at: usize,
     line: Line,
@@ -155,7 +155,7 @@ pub fn step_at<'a>(
     starts: &'a [usize; SITES],
     ends: &'a [usize; SITES],
     sites: usize,
-    table: &[u16; HASHES],
+    table: &[u16; TABLE],
     labels: &[u16; PLACES],
     number: usize,
     at: usize,

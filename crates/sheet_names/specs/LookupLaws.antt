@@ -3,8 +3,7 @@ use mathlib.Core.Bool.{Bool, true, false, cond, true≢false}
 use mathlib.Core.List.{List, [], _∷_}
 use mathlib.Core.Logic.{_≢_}
 use mathlib.Core.Path.{_≡_, refl, sym, ap, _∙_}
-use Prim.Native.Nat.{ℕ, zero, suc, _+_, _-_, _≤_, _<_}
-use native.Mathlib.Numerals.{add-one}
+use Prim.Native.Nat.{ℕ, zero, suc, _+_, _<_}
 use native.Mathlib.Omega.{arith}
 use native.Mathlib.Nat.{zero-add}
 use lib.ListN.{length, getD}
@@ -50,19 +49,6 @@ module _ (s f : List ℕ) where
       rw (not-same (part s r) f (d 0 (omega arith))) (first-is-found rs (suc k) i (omega arith) e (λ j b. d (suc j) (omega arith)) ∙ ap At (omega arith))
 
 -- ---- names in two lists
-
--- the look-up over the ranges from place i on, by the range at i
-pub lookup-step : (s f starts ends : List ℕ) (i n : ℕ) → i < n
-    → lookupFrom s (ranges starts ends i (n - i)) (i + 1) f
-    ≡ cond (same (part s (look starts i, look ends i)) f) (At (i + 1)) (lookupFrom s (ranges starts ends (i + 1) (n - (i + 1))) (i + 1 + 1) f)
-unfolding ranges lookupFrom
-lookup-step s f starts ends i n l =
-    let more : n - i ≡ suc (n - suc i) = omega arith in
-    rw (more, add-one i, add-one (suc i))
-
-pub lookup-end : (s f starts ends : List ℕ) (i n k : ℕ) → n ≤ i → lookupFrom s (ranges starts ends i (n - i)) k f ≡ Absent
-unfolding ranges lookupFrom
-lookup-end s f starts ends i n k l = let none : n - i ≡ 0 = omega arith in rw none
 
 pub length-ranges : (starts ends : List ℕ) (i n : ℕ) → length (ranges starts ends i n) ≡ n
 unfolding ranges

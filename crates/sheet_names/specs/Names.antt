@@ -2,13 +2,15 @@
 -- Document 01, "The network sheet" (a name given above).
 use mathlib.Core.Bool.{cond}
 use mathlib.Core.List.{List, [], _∷_}
+use mathlib.Core.Logic.{_≢_}
 use mathlib.Core.Path.{_≡_}
 use Prim.Native.Nat.{ℕ, zero, suc, _+_, _-_, _*_, _%_, _≤_, _<_, min}
-use lib.Dec.{eqb}
+use lib.Dec.{ltb}
 use lib.ListN.{length, getD, take, drop, set}
 use denote.Ref.{RefT, ptr, now}
 use Rattle.lists.specs.Numbers.{look}
-use Rattle.text_fields.specs.Fields.{same}
+use Rattle.model.specs.Limits.{PLACES, SITES}
+use Rattle.text_fields.specs.Fields.{same, lastWord}
 use Rattle.sheet_names.specs.declared.Found.{Found}
 use Rattle.sheet_names.specs.declared.Found.the-variants.{At, Absent}
 
@@ -47,23 +49,38 @@ nameAt s rs i = part s (getD rs i (0, 0))
 
 -- the number of hashes
 abbrev pub HASHES : ℕ
-HASHES = 16384
+HASHES = 4 * SITES
 
--- the hash of a name, a number below HASHES; from the bytes after those that make h
+-- the places of the table: one for each hash, and behind those one for each site
+abbrev pub TABLE : ℕ
+TABLE = HASHES + PLACES
+
+-- the hash of a few bytes, after those that make h
 unfoldable pub hashFrom : ℕ → List ℕ → ℕ
 hashFrom h [] = h
 hashFrom h (b ∷ bs) = hashFrom ((h * 31 + b) % HASHES) bs
 
--- of a name, its last eight bytes; all bytes of a shorter one
-abbrev pub hash : List ℕ → ℕ
-hash f = hashFrom 0 (drop (length f - 8) f)
+-- the hash of a name, a number below HASHES: that of its last eight bytes, or of all of fewer
+unfoldable pub hash : List ℕ → ℕ
+hash f = cond (ltb (length f) 8) (hashFrom 0 f) (lastWord f % 65521 % HASHES)
 
--- the table with one site more, whose name has the hash h: the first site with a hash keeps the place
-unfoldable pub entered : List ℕ → ℕ → ℕ → List ℕ
-entered table h site = cond (eqb (look table h) 0) (set table h site) table
+-- the table with one site more, whose name has the hash h: it is the newest with that hash, and the one that was comes before it
+abbrev pub entered : List ℕ → ℕ → ℕ → List ℕ
+entered table h site = set (set table (HASHES + site) (look table h)) h site
 
--- a table of the names: at every hash a site, or 0; and at the hash of a name no site after the one of that name
+-- v is the newest of the first n sites whose names have the hash h, or 0 where there is none
+pub record Newest (s : List ℕ) (names : List (ℕ × ℕ)) (h n v : ℕ) : Type 0 where
+  pub within : v ≤ n
+  pub own : 1 ≤ v → hash (nameAt s names (v - 1)) ≡ h
+  pub after : (i : ℕ) → v ≤ i → i < n → hash (nameAt s names i) ≢ h
+
+-- no two sites have one name
+abbrev pub Different : List ℕ → List (ℕ × ℕ) → Type 0
+Different s names = (j : ℕ) → j < length names → (i : ℕ) → i < j → nameAt s names i ≢ nameAt s names j
+
+-- a table of different names: at every hash the newest site with it, and for every site the newest before it with the same hash
 pub record Indexes (s : List ℕ) (names : List (ℕ × ℕ)) (table : List ℕ) : Type 0 where
-  pub long : length table ≡ HASHES
-  pub sites : (h : ℕ) → look table h ≤ length names
-  pub first : (i : ℕ) → i < length names → (1 ≤ look table (hash (nameAt s names i))) × (look table (hash (nameAt s names i)) ≤ i + 1)
+  pub different : Different s names
+  pub long : length table ≡ TABLE
+  pub newest : (h : ℕ) → h < HASHES → Newest s names h (length names) (look table h)
+  pub older : (i : ℕ) → i < length names → Newest s names (hash (nameAt s names i)) i (look table (HASHES + (i + 1)))

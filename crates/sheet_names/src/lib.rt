@@ -1,12 +1,16 @@
-// Inner: the names of sites, as ranges of a sheet, and their look-up: by a table of hashes, and site by site where two names have one hash.
+// Inner: the names of sites, as ranges of a sheet, and their look-up by a table of hashes. Sites whose names have one hash are chained.
 ghost use mathlib.Core.Path.{_≡_};
-ghost use Prim.Native.Nat.{_-_, _≤_, min};
+ghost use Prim.Native.Nat.{_≤_, min};
 ghost use Rattle.model.specs.Limits.{SITES};
-ghost use Rattle.sheet_names.specs.Names.{part, IsPart, lookup, ranges, hash, entered, Indexes};
+ghost use Rattle.sheet_names.specs.Names.{part, IsPart, lookup, ranges, hashFrom, hash, entered, Indexes};
+use model::PLACES;
 use model::SITES;
 
-// The number of hashes. specs/Names.antt has it by the same name.
-pub const HASHES: usize = 16384;
+// The number of hashes. specs/Names.antt has this and the next by the same names.
+pub const HASHES: usize = 4 * SITES;
+
+// The places of the table: for each hash the newest site with it, and behind those, for each site the newest site before it with the same hash.
+pub const TABLE: usize = HASHES + PLACES;
 
 // What the look-up of a name finds: the number of the site, or that no site above has the name.
 pub enum Found {
@@ -32,19 +36,12 @@ pub fn part(sheet: &[u8], start: usize, end: usize) -> &[u8]
     &sheet[start..stop]
 }
 
-// The place from which a name of so many bytes is hashed: its last eight bytes are, or all of fewer.
-fn hashed_from(length: usize) -> usize
-    ensures { λ r. ⌜ r ≡ length - 8 ⌝ }
-{
-    if length < 8 { 0 } else { length - 8 }
-}
-
-// The hash of a name.
-fn hash(name: &[u8]) -> usize
-    ensures { λ r. ⌜ r ≡ hash (now (name .entry)) ⌝ }
+// The hash of a name of a few bytes.
+fn hash_bytes(name: &[u8]) -> usize
+    ensures { λ r. ⌜ r ≡ hashFrom 0 (now (name .entry)) ⌝ }
 {
     let mut value = 0;
-    let mut i = hashed_from(name.len());
+    let mut i = 0;
     while i < name.len() {
         value = (value * 31 + name[i] as usize) % HASHES;
         i += 1;
@@ -52,47 +49,35 @@ fn hash(name: &[u8]) -> usize
     value
 }
 
-// The table with one site more, whose name is the part from a start to an end: the first site with a hash keeps the place.
+// The hash of a name: that of its last eight bytes, or of all of fewer.
+fn hash(name: &[u8]) -> usize
+    ensures { λ r. ⌜ r ≡ hash (now (name .entry)) ⌝ }
+{
+    if name.len() < 8 {
+        return hash_bytes(name);
+    }
+    (text_fields::last_word(name) % 65521) as usize % HASHES
+}
+
+// The table with one site more, whose name is the part from a start to an end: it is the newest with its hash, and the one that was comes before it.
 // Only the planner's own crates call it.
-pub fn enter(table: &mut [u16; HASHES], sheet: &[u8], start: usize, end: usize, site: usize)
+pub fn enter(table: &mut [u16; TABLE], sheet: &[u8], start: usize, end: usize, site: usize)
     requires { ⌜ site ≤ SITES ⌝ }
     ensures { λ _. ⌜ now (table .exit) ≡ entered (now (table .entry)) (hash (part (now (sheet .entry)) (start, end))) site ⌝ }
 {
     let place = hash(part(sheet, start, end));
-    if table[place] == 0 {
-        table[place] = site as u16;
-    }
+    table[HASHES + site] = table[place];
+    table[place] = site as u16;
 }
 
-// The number of the site whose name is given, site by site.
-fn scan(
-    sheet: &[u8],
-    starts: &[usize; SITES],
-    ends: &[usize; SITES],
-    sites: usize,
-    name: &[u8],
-) -> Found
-    requires { ⌜ sites ≤ SITES ⌝ }
-    ensures { λ r. ⌜ r ≡ lookup (now (sheet .entry)) (ranges (now (starts .entry)) (now (ends .entry)) 0 sites) (now (name .entry)) ⌝ }
-{
-    let mut i = 0;
-    while i < sites {
-        if text_fields::same(part(sheet, starts[i], ends[i]), name) {
-            return Found::At(i + 1);
-        }
-        i += 1;
-    }
-    Found::Absent
-}
-
-// The number of the site whose name is the part from a start to an end, the names of the sites being ranges of the sheet, by the table
-// of their hashes. Only the planner's own crates call it.
+// The number of the site whose name is the part from a start to an end, the names of the sites being ranges of the sheet, by the table:
+// from the newest site with the name's hash back to the oldest. Only the planner's own crates call it.
 pub fn find(
     sheet: &[u8],
     starts: &[usize; SITES],
     ends: &[usize; SITES],
     sites: usize,
-    table: &[u16; HASHES],
+    table: &[u16; TABLE],
     start: usize,
     end: usize,
 ) -> Found
@@ -100,14 +85,13 @@ pub fn find(
     ensures { λ r. ⌜ r ≡ lookup (now (sheet .entry)) (ranges (now (starts .entry)) (now (ends .entry)) 0 sites) (part (now (sheet .entry)) (start, end)) ⌝ }
 {
     let name = part(sheet, start, end);
-    let site = table[hash(name)] as usize;
-    if site == 0 {
-        return Found::Absent;
+    let mut site = table[hash(name)] as usize;
+    while 0 < site {
+        let i = site - 1;
+        if text_fields::same(part(sheet, starts[i], ends[i]), name) {
+            return Found::At(site);
+        }
+        site = table[HASHES + site] as usize;
     }
-    let i = site - 1;
-    let held = part(sheet, starts[i], ends[i]);
-    if text_fields::same(held, name) {
-        return Found::At(site);
-    }
-    scan(sheet, starts, ends, sites, name)
+    Found::Absent
 }

@@ -13,6 +13,18 @@ same [] (y ∷ ys) = false
 same (x ∷ xs) [] = false
 same (x ∷ xs) (y ∷ ys) = eqb x y && same xs ys
 
+-- four bytes from place i on as one number, the first of them lowest
+unfoldable pub halfWord : List ℕ → ℕ → ℕ
+halfWord s i = getD s i 0 + 256 * getD s (i + 1) 0 + 65536 * getD s (i + 2) 0 + 16777216 * getD s (i + 3) 0
+
+-- so for eight bytes
+unfoldable pub word : List ℕ → ℕ → ℕ
+word s i = halfWord s i + 4294967296 * halfWord s (i + 4)
+
+-- the last eight bytes of a string, and 0 for a string of fewer
+unfoldable pub lastWord : List ℕ → ℕ
+lastWord s = cond (ltb (length s) 8) 0 (word s (length s - 8))
+
 -- a byte in front of the first field
 unfoldable pub push : ℕ → List (List ℕ) → List (List ℕ)
 push b [] = (b ∷ []) ∷ []

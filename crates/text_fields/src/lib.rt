@@ -2,16 +2,74 @@
 ghost use mathlib.Core.Path.{_≡_};
 ghost use mathlib.Core.List.{[], _∷_};
 ghost use mathlib.Core.Bool.{_&&_};
+ghost use Prim.Native.Nat.{_+_, _≤_, _<_};
 ghost use lib.Dec.{leb};
-ghost use Rattle.text_fields.specs.Fields.{same, all, isDigit, isLetterOrDigit, isName, isNumber};
+ghost use lib.ListN.{length};
+ghost use Rattle.text_fields.specs.Fields.{same, word, lastWord, all, isDigit, isLetterOrDigit, isName, isNumber};
+ghost use Rattle.text_fields.specs.Words.{HalfWord, SameWord};
 
-// Whether two byte strings are the same.
-pub fn same(a: &[u8], b: &[u8]) -> bool
+// A byte as a wider number.
+fn wide(b: u8) -> u64
+    ensures { λ r. ⌜ (r ≡ b) × (r < 256) ⌝ }
+{
+    b as u64
+}
+
+// Four bytes of a string from a place on, as one number.
+fn half_word(s: &[u8], at: usize) -> u64
+    requires { ⌜ at + 4 ≤ length (now s) ⌝ }
+    ensures { λ r. ⌜ HalfWord (now (s .entry)) at r ⌝ }
+{
+    wide(s[at]) + 256 * wide(s[at + 1]) + 65536 * wide(s[at + 2]) + 16777216 * wide(s[at + 3])
+}
+
+// Eight bytes of a string from a place on, as one number.
+fn word(s: &[u8], at: usize) -> u64
+    requires { ⌜ at + 8 ≤ length (now s) ⌝ }
+    ensures { λ r. ⌜ r ≡ word (now (s .entry)) at ⌝ }
+{
+    half_word(s, at) + 4294967296 * half_word(s, at + 4)
+}
+
+// The last eight bytes of a string as one number, and 0 for a string of fewer.
+pub fn last_word(s: &[u8]) -> u64
+    ensures { λ r. ⌜ r ≡ lastWord (now (s .entry)) ⌝ }
+{
+    if s.len() < 8 {
+        return 0;
+    }
+    word(s, s.len() - 8)
+}
+
+// Whether eight bytes of two strings are the same, from a place on.
+fn same_word(a: &[u8], b: &[u8], at: usize) -> bool
+    requires { ⌜ (at + 8 ≤ length (now a)) × (at + 8 ≤ length (now b)) ⌝ }
+    ensures { λ r. ⌜ SameWord (now (a .entry)) (now (b .entry)) at r ⌝ }
+{
+    half_word(a, at) == half_word(b, at) && half_word(a, at + 4) == half_word(b, at + 4)
+}
+
+// Whether two strings of one length, eight bytes or more, are the same: word by word, the last word ending with them.
+fn same_words(a: &[u8], b: &[u8]) -> bool
+    requires { ⌜ (length (now a) ≡ length (now b)) × (8 ≤ length (now a)) ⌝ }
     ensures { λ r. ⌜ r ≡ same (now (a .entry)) (now (b .entry)) ⌝ }
 {
-    if a.len() != b.len() {
-        return false;
+    let last = a.len() - 8;
+    let mut place = 0;
+    while place < last {
+        if !same_word(a, b, place) {
+            return false;
+        }
+        place += 8;
     }
+    same_word(a, b, last)
+}
+
+// Whether two strings of one length are the same, byte by byte.
+fn same_bytes(a: &[u8], b: &[u8]) -> bool
+    requires { ⌜ length (now a) ≡ length (now b) ⌝ }
+    ensures { λ r. ⌜ r ≡ same (now (a .entry)) (now (b .entry)) ⌝ }
+{
     let mut at = 0;
     while at < a.len() {
         if a[at] != b[at] {
@@ -20,6 +78,19 @@ pub fn same(a: &[u8], b: &[u8]) -> bool
         at += 1;
     }
     true
+}
+
+// Whether two byte strings are the same.
+pub fn same(a: &[u8], b: &[u8]) -> bool
+    ensures { λ r. ⌜ r ≡ same (now (a .entry)) (now (b .entry)) ⌝ }
+{
+    if a.len() != b.len() {
+        return false;
+    }
+    if a.len() < 8 {
+        return same_bytes(a, b);
+    }
+    same_words(a, b)
 }
 
 // Whether a field is one byte, the given one.
@@ -59,18 +130,17 @@ fn is_letter_or_digit(b: u8) -> bool
     is_digit(b)
 }
 
-// Whether every byte of a string is one of A-Z, a-z, 0-9.
+// Whether every byte of a string is one of A-Z, a-z, 0-9, without a branch for each byte.
 fn letters_or_digits(s: &[u8]) -> bool
     ensures { λ r. ⌜ r ≡ all isLetterOrDigit (now (s .entry)) ⌝ }
 {
+    let mut good = true;
     let mut i = 0;
     while i < s.len() {
-        if !is_letter_or_digit(s[i]) {
-            return false;
-        }
+        good = good & is_letter_or_digit(s[i]);
         i += 1;
     }
-    true
+    good
 }
 
 // Whether every byte of a string is one of 0-9.

@@ -1,12 +1,13 @@
 -- What a reading of a sheet may use of its lines: a line stays on the sheet, holds no byte 10, ends at one or at the end of the sheet,
 -- and the lines with their bytes 10 are the whole sheet. By induction over the bytes: the first one is 10, or belongs to the line.
-use mathlib.Core.Bool.{Bool, true, false}
+use mathlib.Core.Bool.{Bool, true, false, _||_, true≢false}
 use mathlib.Core.List.{List, [], _∷_, _++_}
 use mathlib.Core.Logic.{_⊎_, inl, inr, ⊎-elim, _≢_}
 use mathlib.Core.Path.{_≡_, refl, sym, ap, _∙_}
 use Prim.Native.Nat.{ℕ, zero, suc, _+_, _-_, _≤_, _<_, min}
 use native.Mathlib.Nat.{min-zero, suc-min-suc, add-sub-cancel-left}
 use native.Mathlib.Numerals.{add-one}
+use native.Mathlib.Decide.{decLt}
 use native.Mathlib.Omega.{arith}
 use lib.Dec.{eqb, ltb}
 use lib.ListN.{length, getD, take, drop, take-append-drop, length-take, length-drop, drop-of-length-le}
@@ -62,6 +63,27 @@ line-past-the-sheet-is-empty s at l = rw (drop-of-length-le s l)
 pub line-length-step : (s : List ℕ) (at : ℕ) → at < length s
     → ((getD s at 0 ≡ 10) × (lineLength (drop at s) ≡ 0)) ⊎ ((getD s at 0 ≢ 10) × (lineLength (drop at s) ≡ suc (lineLength (drop (at + 1) s))))
 line-length-step s at l = rw (drop-cons s at 0 l, add-one) (first-byte (getD s at 0) (drop (suc at) s))
+
+-- none of m bytes from an offset on is 10
+abbrev pub NoTen : List ℕ → ℕ → ℕ → Type 0
+NoTen s at m = (k : ℕ) → at ≤ k → k < at + m → getD s k 0 ≢ 10
+
+-- so for one byte more, by its test
+pub no-ten-more : (s : List ℕ) (at m : ℕ) (any : Bool) → (any ≡ false → NoTen s at m) → (any || eqb (getD s (at + m) 0) 10) ≡ false → NoTen s at (m + 1)
+no-ten-more s at m true h e = absurd (true≢false e)
+no-ten-more s at m false h e = λ k l b. elim (decLt k (at + m)) [
+  | yes q ↦ h refl k l q
+  | no q ↦ let here : k ≡ at + m = omega arith in rw here (eqb-false _ _ e)
+]
+
+-- bytes that are not 10 are passed over
+pub bytes-on : (s : List ℕ) (at m : ℕ) → at + m ≤ length s → NoTen s at m → at + m + lineLength (drop (at + m) s) ≡ at + lineLength (drop at s)
+bytes-on s at zero l h = let here : at + 0 ≡ at = omega arith in rw here
+bytes-on s at (suc m) l h = ⊎-elim
+    (λ t. absurd (h at (omega arith) (omega arith) (t .0)))
+    (λ t. let there : at + suc m ≡ at + 1 + m = omega arith in
+    rw there (omega (arith, bytes-on s (at + 1) m (omega arith) (λ k p q. h k (omega arith) (omega arith)), t .1)))
+    (line-length-step s at (omega arith))
 
 -- two bytes that are not 10 are passed over
 pub two-bytes-on : (s : List ℕ) (at : ℕ) → at + 1 < length s → getD s at 0 ≢ 10 → getD s (at + 1) 0 ≢ 10

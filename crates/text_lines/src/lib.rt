@@ -1,9 +1,11 @@
 // The line reader (document 01, "The network sheet"): it stands over a lent sheet at an offset and hands out the line there as that very
 // part of the sheet. The work is done by covered functions on slice and offset; the methods are thin and proved by hand.
+ghost use mathlib.Core.Bool.{false};
 ghost use mathlib.Core.Path.{_≡_};
 ghost use Prim.Native.Nat.{_+_, _≤_};
 ghost use lib.ListN.{length, drop};
 ghost use Rattle.text_lines.specs.Lines.{lineLength, lineStart, lineEnd, afterLine, hasLine, IsLine};
+ghost use Rattle.text_lines.specs.LineLaws.{NoTen};
 
 // The offset at which the line at an offset starts: that offset, or the end of the sheet if it is past it.
 fn line_start(sheet: &[u8], at: usize) -> usize
@@ -26,11 +28,42 @@ fn last_end(sheet: &[u8], end: usize) -> usize
     end + 1
 }
 
+// Whether byte 10 is one of the eight bytes at an offset, without a branch for each byte.
+fn has_ten(sheet: &[u8], at: usize) -> bool
+    requires { ⌜ at + 8 ≤ length (now sheet) ⌝ }
+    ensures { λ r. ⌜ (r ≡ false → NoTen (now (sheet .entry)) at 8) ⌝ }
+{
+    let mut any = false;
+    let mut i = 0;
+    while i < 8 {
+        any = any | (sheet[at + i] == b'\n');
+        i += 1;
+    }
+    any
+}
+
+// An offset from which on a line ends where it does from a given one on: eight bytes without byte 10 are passed over at a time.
+fn pass_over(sheet: &[u8], from: usize) -> usize
+    requires { ⌜ from ≤ length (now sheet) ⌝ }
+    ensures { λ r. ⌜ (r ≤ length (now (sheet .entry)))
+        × (r + lineLength (drop r (now (sheet .entry))) ≡ from + lineLength (drop from (now (sheet .entry)))) ⌝ }
+{
+    let length = sheet.len();
+    let mut end = from;
+    while 7 < length - end {
+        if has_ten(sheet, end) {
+            return end;
+        }
+        end += 8;
+    }
+    end
+}
+
 // The offset at which the line at an offset ends: that of its byte 10, or the end of the sheet.
 fn line_end(sheet: &[u8], at: usize) -> usize
     ensures { λ r. ⌜ r ≡ lineEnd (now (sheet .entry)) at ⌝ }
 {
-    let mut end = line_start(sheet, at);
+    let mut end = pass_over(sheet, line_start(sheet, at));
     let length = sheet.len();
     while 1 < length - end {
         if sheet[end] == b'\n' {

@@ -1,10 +1,9 @@
--- `enter` meets its contract: the place is free, or it is taken.
+-- `enter` meets its contract: one place after the other.
 use mathlib.Core.Path.{_≡_}
 use Prim.Native.Nat.{_<_}
 use native.Mathlib.Omega.{arith}
 use borrow.Author.Needs.{needs}
-use borrow.Author.Tests.{eq-eqb, ne-eqb}
-use Rattle.sheet_names.specs.Names.{HASHES, part, hash, entered}
+use Rattle.sheet_names.specs.Names.{HASHES, part, hash}
 use Rattle.sheet_names.specs.TableLaws.{hash-below}
 use Rattle.sheet_names.proofs.enter.Statement.{statement}
 use Rattle.sheet_names.proofs.enter.Tie as tie
@@ -17,12 +16,7 @@ place : (c : tie.After-hash) → c .hash .result < HASHES
 place c = let a = c .before .before .before .args in rw (hash-is c) (hash-below (part (a .sheet .now) (a .start, a .end)))
 
 returns : tie.Need-returns
-unfolding entered
-returns c = rw (← (hash-is (c .before .before)), eq-eqb _ _ (c .if1 .taken))
-
-returns-2 : tie.Need-returns-2
-unfolding entered
-returns-2 c = rw (← (hash-is (c .before .before)), ne-eqb _ _ (c .if1 .left))
+returns c = rw (← (hash-is (c .before)))
 
 pub enter-spec : {M : Type 1} → statement M
 enter-spec =
@@ -31,9 +25,11 @@ enter-spec =
     (λ c κs. search needs)
     (λ c κs. search needs)
     (λ c. omega (arith, place c))
-    (λ c. place c)
+    (λ c. omega (arith, place c))
     (λ c. omega arith)
-    (λ c. omega (arith, place (c .before .before)))
-    (λ c. place (c .before .before))
-    returns
-    returns-2)
+    (λ c. omega arith)
+    (λ c. omega arith)
+    (λ c. omega arith)
+    (λ c. omega (arith, place (c .before)))
+    (λ c. omega (arith, place (c .before)))
+    returns)

@@ -1,72 +1,108 @@
--- `find` meets its contract: nothing stands at the place of the hash, or the site there has the name, or the sites are scanned.
+-- `find` meets its contract. The invariant: the sites from the one on the way back do not have the name.
+use mathlib.Core.Bool.{true≢false}
 use mathlib.Core.Path.{_≡_, sym, ap, _∙_}
-use Prim.Native.Nat.{_≤_, _<_, _-_}
+use Prim.Native.Nat.{_≤_, _<_, _+_, _-_}
 use native.Mathlib.Omega.{arith}
 use borrow.Author.Needs.{needs}
 use Rattle.lists.specs.Numbers.{look}
-use Rattle.text_fields.specs.FieldLaws.{same-are-equal}
-use Rattle.sheet_names.specs.Names.{HASHES, part, hash}
+use Rattle.text_fields.specs.Fields.{same}
+use Rattle.text_fields.specs.FieldLaws.{same-are-equal, equal-are-same}
+use Rattle.sheet_names.specs.Names.{HASHES, part, ranges, nameAt, hash}
 use Rattle.sheet_names.specs.LookupLaws.{length-ranges, range-at}
-use Rattle.sheet_names.specs.TableLaws.{hash-below, none-there, site-there}
+use Rattle.sheet_names.specs.TableLaws.{hash-below, Back, back-from, back-to, goes-back, none-there, site-there}
 use Rattle.sheet_names.proofs.find.Statement.{statement}
 use Rattle.sheet_names.proofs.find.Tie as tie
 
+abbrev Inv-loop : tie.InvT-loop
+Inv-loop sheet starts ends sites table start end name site₀ site =
+    (site ≤ sites) × Back sheet (ranges starts ends 0 sites) (part sheet (start, end)) site
+
+abbrev μ-loop : tie.MeasureT-loop
+μ-loop sheet starts ends sites table start end name site₀ site = site
+
 -- the hash is that of the name, and a place of the table
-hash-is : (c : tie.After-hash) → let a = c .before .before .before .args in c .hash .result ≡ hash (part (a .sheet .now) (a .start, a .end))
+hash-is : (c : tie.After-hash Inv-loop μ-loop) → let a = c .before .before .before .args in
+    c .hash .result ≡ hash (part (a .sheet .now) (a .start, a .end))
 hash-is c = rw (c .before .part .ensures .bytes) at (c .hash .ensures)
 
-place : (c : tie.After-hash) → c .hash .result < HASHES
+place : (c : tie.After-hash Inv-loop μ-loop) → c .hash .result < HASHES
 place c = let a = c .before .before .before .args in rw (hash-is c) (hash-below (part (a .sheet .now) (a .start, a .end)))
 
--- what stands there is a site
-there : (c : tie.After-site) → let a = c .before .before .before .before .args in look (a .table .now) (c .before .hash .result) ≤ a .sites
-there c =
-    let a = c .before .before .before .before .args in
-    omega (arith, c .before .before .before .before .pre .1 .sites (c .before .hash .result), length-ranges (a .starts .now) (a .ends .now) 0 (a .sites))
+-- the way back starts at what stands there
+starts-there : (c : tie.After-hash Inv-loop μ-loop) → let a = c .before .before .before .args in let v = look (a .table .now) (c .hash .result) in
+    (v ≤ a .sites) × Back (a .sheet .now) (ranges (a .starts .now) (a .ends .now) 0 (a .sites)) (part (a .sheet .now) (a .start, a .end)) v
+starts-there c =
+    let start = c .before .before .before in
+    let a = start .args in
+    let from = back-from (start .pre .1) (part (a .sheet .now) (a .start, a .end)) in
+    rw (hash-is c) (omega (arith, from .within, length-ranges (a .starts .now) (a .ends .now) 0 (a .sites)), from)
 
-returns : tie.Need-returns
+-- what the test says: whether the site has the name
+tested : (c : tie.After-same Inv-loop μ-loop) → let top = c .before .before .before .before .before in let a = top .before .before .before .before .before .args in
+    c .same .result ≡ same (nameAt (a .sheet .now) (ranges (a .starts .now) (a .ends .now) 0 (a .sites)) (top .loop .site - 1)) (part (a .sheet .now) (a .start, a .end))
+tested c =
+    let top = c .before .before .before .before .before in
+    let a = top .before .before .before .before .before .args in
+    rw (range-at (a .starts .now) (a .ends .now) (a .sites) (top .loop .site - 1) (omega arith))
+    (rw (c .before .part2 .ensures .bytes, top .before .before .before .part .ensures .bytes) at (c .same .ensures))
+
+-- the next site is an older one
+next : (c : tie.After-site2 Inv-loop μ-loop) → let top = c .before .before .before .before .before .before .before in
+    look (top .before .before .before .before .before .args .table .now) (HASHES + top .loop .site) < top .loop .site
+next c =
+    let top = c .before .before .before .before .before .before .before in
+    let start = top .before .before .before .before .before in
+    goes-back (start .pre .1) (part (start .args .sheet .now) (start .args .start, start .args .end)) (top .loop .site) (omega arith) (top .loop .inv .1 .within)
+
+returns : tie.Need-returns Inv-loop μ-loop
 returns c =
-    let start = c .before .before .before .before .before in
-    let a = start .args in
-    sym (none-there (start .pre .1) (part (a .sheet .now) (a .start, a .end)) (ap (look (a .table .now)) (sym (hash-is (c .before .before))) ∙ c .if1 .taken))
+    let top = c .before .before .before .before .before .before in
+    let start = top .before .before .before .before .before in
+    sym (site-there (start .pre .1) (part (start .args .sheet .now) (start .args .start, start .args .end)) (top .loop .site) (omega arith)
+    (top .loop .inv .1 .within) (same-are-equal _ _ (sym (tested (c .before)) ∙ c .if1 .taken)))
 
-returns-2 : tie.Need-returns-2
+loop-again : tie.Need-loop-again Inv-loop μ-loop
+loop-again c =
+    let test = c .before in
+    let top = c .before .before .before .before .before .before .before in
+    let start = top .before .before .before .before .before in
+    let f = part (start .args .sheet .now) (start .args .start, start .args .end) in (
+      omega (arith, next c),
+      back-to (start .pre .1) f (top .loop .site) (top .loop .inv .1) (omega arith)
+          (λ e. true≢false (sym (equal-are-same f) ∙ ap (λ g. same g f) (sym e) ∙ sym (tested (test .before)) ∙ test .if1 .left)),
+    )
+
+returns-2 : tie.Need-returns-2 Inv-loop μ-loop
 returns-2 c =
-    let start = c .before .before .before .before .before .before .before .before .before .before in
-    let a = start .args in
-    let name = part (a .sheet .now) (a .start, a .end) in
-    let site = c .before .before .before .before .before .before in
-    let v = look (a .table .now) (site .before .hash .result) in
-    let one : 1 ≤ v = omega (arith, c .before .before .before .before .before .if1 .left) in
-    let named : part (a .sheet .now) (look (a .starts .now) (v - 1), look (a .ends .now) (v - 1)) ≡ name
-    = same-are-equal _ _
-    (sym (rw (c .before .before .part2 .ensures .bytes, site .before .before .part .ensures .bytes) at (c .before .same .ensures)) ∙ c .if2 .taken) in
-    sym (site-there (start .pre .1) name v one (ap (look (a .table .now)) (sym (hash-is (site .before))))
-    (ap (part (a .sheet .now)) (range-at (a .starts .now) (a .ends .now) (a .sites) (v - 1) (omega (arith, there site))) ∙ named))
-
--- the sites scanned for the name
-returns-3 : tie.Need-returns-3
-returns-3 c =
-    let at-part = c .before .before .before .before .before .before .before .before .before in
-    rw (at-part .part .ensures .bytes) at (c .scan .ensures)
+    let top = c .before in
+    let start = top .before .before .before .before .before in
+    let over : top .loop .site ≡ 0 = omega arith in
+    sym (none-there (start .pre .1) (part (start .args .sheet .now) (start .args .start, start .args .end)) (rw over at (top .loop .inv .1)))
 
 pub find-spec : {M : Type 1} → statement M
 find-spec =
     tie.close
     (tie.spec
+    Inv-loop
+    μ-loop
     (λ c κs. search needs)
     (λ c κs. search needs)
     (λ c. omega (arith, place c))
-    (λ c. place c)
-    (λ c. omega (arith, there c))
+    (λ c. omega (arith, place c))
+    (λ c. omega (arith, starts-there (c .before) .0))
+    (λ c. starts-there (c .before))
+    (λ c. omega arith)
+    (λ c. omega arith)
+    (λ c. omega arith)
+    (λ c. omega arith)
+    (λ c. omega arith)
+    (λ c κs. search needs)
+    (λ c κs. search needs)
     returns
-    (λ c. search needs)
-    (λ c. omega (arith, there (c .before)))
-    (λ c. omega (arith, there (c .before)))
-    (λ c. omega (arith, there (c .before .before)))
-    (λ c. omega (arith, there (c .before .before)))
-    (λ c κs. search needs)
-    (λ c κs. search needs)
-    returns-2
-    (λ c κs. search needs)
-    returns-3)
+    (λ c. omega arith)
+    (λ c. omega arith)
+    (λ c. omega arith)
+    (λ c. omega (arith, next c))
+    (λ c. next c)
+    loop-again
+    returns-2)

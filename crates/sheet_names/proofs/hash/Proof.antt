@@ -1,57 +1,19 @@
--- `hash` meets its contract. The invariant: the hash is that of the bytes from place i on, after those that make the value.
-use mathlib.Core.Path.{_≡_, sym, ap, _∙_}
-use Prim.Native.Nat.{_≤_, _<_, _+_, _*_, _-_}
-use native.Mathlib.Nat.{mod-lt}
-use native.Mathlib.Omega.{arith}
-use lib.ListN.{length, drop}
+-- `hash` meets its contract: there are fewer than eight bytes, or the last eight are hashed.
+use mathlib.Core.Path.{ap, _∙_}
+use Prim.Native.Nat.{_%_}
 use borrow.Author.Needs.{needs}
-use Rattle.lists.specs.Numbers.{look}
-use Rattle.sheet_names.specs.Names.{HASHES, hashFrom, hash}
-use Rattle.sheet_names.specs.TableLaws.{hash-step, hash-end}
+use borrow.Author.Tests.{lt-ltb, le-ltb}
+use Rattle.sheet_names.specs.Names.{hash}
 use Rattle.sheet_names.proofs.hash.Statement.{statement}
 use Rattle.sheet_names.proofs.hash.Tie as tie
 
-abbrev Inv-loop : tie.InvT-loop
-Inv-loop name value₀ i₀ value i = (i ≤ length name) × (value < HASHES) × (hash name ≡ hashFrom value (drop i name))
+returns : tie.Need-returns
+unfolding hash
+returns c = rw (lt-ltb _ _ (c .before .if1 .taken)) (c .hash-bytes .ensures)
 
-abbrev μ-loop : tie.MeasureT-loop
-μ-loop name value₀ i₀ value i = length name - i
-
-loop-holds : tie.Need-loop-holds Inv-loop μ-loop
-loop-holds c =
-    let name = c .before .before .args .name .now in
-    (omega (arith, c .hashed-from .ensures), omega arith, ap (λ k. hashFrom 0 (drop k name)) (sym (c .hashed-from .ensures)))
-
-cast-value : tie.Need-cast-value Inv-loop μ-loop
-cast-value c = omega (arith, c .shared-slice-known2 .given (c .before .before .loop .i))
-
-add-value : tie.Need-add-value Inv-loop μ-loop
-add-value c = omega (arith, c .shared-slice-known2 .given (c .before .before .loop .i))
-
-loop-again : tie.Need-loop-again Inv-loop μ-loop
-loop-again c =
-    let name = c .before .before .before .before .before .args .name .now in
-    let l = c .before .before .loop in
-    (omega arith, mod-lt (l .value * 31 + look name (l .i)) (omega arith), l .inv .2 ∙ hash-step (l .value) name (l .i) (omega arith))
-
-returns : tie.Need-returns Inv-loop μ-loop
-returns c =
-    let l = c .before .loop in
-    sym (l .inv .2 ∙ hash-end (l .value) (c .before .before .before .before .args .name .now) (l .i) (omega arith))
+returns-2 : tie.Need-returns-2
+unfolding hash
+returns-2 c = rw (le-ltb _ _ (c .before .if1 .left), c .last-word .ensures)
 
 pub hash-spec : {M : Type 1} → statement M
-hash-spec =
-    tie.close
-    (tie.spec
-    Inv-loop
-    μ-loop
-    (λ c κs. search needs)
-    loop-holds
-    (λ c. omega arith)
-    (λ c. omega arith)
-    cast-value
-    add-value
-    (λ c. omega arith)
-    (λ c. omega arith)
-    loop-again
-    returns)
+hash-spec = tie.close (tie.spec (λ c κs. search needs) returns (λ c κs. search needs) returns-2)

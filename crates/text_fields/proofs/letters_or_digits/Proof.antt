@@ -1,8 +1,8 @@
--- `letters_or_digits` meets its contract. The invariant: all bytes pass just if those from place i on do.
+-- `letters_or_digits` meets its contract. The invariant: all bytes pass just if those before place i did and those from i on do.
+use mathlib.Core.Bool.{_&&_, and-true, and-assoc}
 use mathlib.Core.Path.{_≡_, refl, sym, _∙_}
-use Prim.Native.Nat.{_≤_, _-_}
-use lib.ListN.{length, drop, drop-of-length-le}
-use borrow.Author.Tests.{not-true, not-false}
+use Prim.Native.Nat.{_+_, _≤_, _-_}
+use lib.ListN.{length, getD, drop, drop-of-length-le}
 use Rattle.text_fields.specs.Fields.{all, isLetterOrDigit}
 use Rattle.text_fields.specs.FieldLaws.{all-step}
 use native.Mathlib.Omega.{arith}
@@ -11,43 +11,29 @@ use Rattle.text_fields.proofs.letters_or_digits.Statement.{statement}
 use Rattle.text_fields.proofs.letters_or_digits.Tie as tie
 
 abbrev Inv-loop : tie.InvT-loop
-Inv-loop s i₀ i = (i ≤ length s) × (all isLetterOrDigit s ≡ all isLetterOrDigit (drop i s))
+Inv-loop s good₀ i₀ good i = (i ≤ length s) × (all isLetterOrDigit s ≡ (good && all isLetterOrDigit (drop i s)))
 
 abbrev μ-loop : tie.MeasureT-loop
-μ-loop s i₀ i = length s - i
+μ-loop s good₀ i₀ good i = length s - i
 
 loop-holds : tie.Need-loop-holds Inv-loop μ-loop
 loop-holds c = (omega arith, refl)
 
-shared-slice-read-is-letter-or-digit :
-    tie.Need-shared-slice-read-is-letter-or-digit Inv-loop μ-loop
-shared-slice-read-is-letter-or-digit c = omega arith
-
-is-letter-or-digit-requires : tie.Need-is-letter-or-digit-requires Inv-loop μ-loop
-is-letter-or-digit-requires c κs = search needs
-
-returns : tie.Need-returns Inv-loop μ-loop
-returns c =
-    let s = c .before .before .before .before .before .before .args .s .now in
-    let l = c .before .before .before .before .loop in
-    rw (l .inv .1, all-step isLetterOrDigit s (l .i) (omega arith), sym (c .before .is-letter-or-digit .ensures) ∙ not-true _ (c .if1 .taken))
-
-add-i : tie.Need-add-i Inv-loop μ-loop
-add-i c = omega arith
-
-loop-less : tie.Need-loop-less Inv-loop μ-loop
-loop-less c = omega arith
-
 loop-again : tie.Need-loop-again Inv-loop μ-loop
 loop-again c =
-    let s = c .before .before .before .before .before .before .args .s .now in
-    let l = c .before .before .before .before .loop in
-    (omega arith, l .inv .1 ∙ rw (all-step isLetterOrDigit s (l .i) (omega arith), sym (c .before .is-letter-or-digit .ensures) ∙ not-false _ (c .if1 .left)))
+    let s = c .before .before .before .before .before .args .s .now in
+    let l = c .before .before .before .loop in (
+      omega arith,
+      l .inv .1
+          ∙ rw (all-step isLetterOrDigit s (l .i) (omega arith), c .is-letter-or-digit .ensures)
+          (sym (and-assoc (l .good) (isLetterOrDigit (getD s (l .i) 0)) (all isLetterOrDigit (drop (l .i + 1) s)))),
+    )
 
-returns-2 : tie.Need-returns-2 Inv-loop μ-loop
+returns : tie.Need-returns Inv-loop μ-loop
 unfolding all
-returns-2 c =
-    rw (c .before .loop .inv .1, drop-of-length-le (c .before .before .before .args .s .now) {i = c .before .loop .i} (omega arith))
+returns c =
+    let over = drop-of-length-le (c .before .before .before .args .s .now) {i = c .before .loop .i} (omega arith) in
+    sym (c .before .loop .inv .1 ∙ rw over (and-true (c .before .loop .good)))
 
 pub letters-or-digits-spec : {M : Type 1} → statement M
 letters-or-digits-spec =
@@ -56,10 +42,9 @@ letters-or-digits-spec =
     Inv-loop
     μ-loop
     loop-holds
-    shared-slice-read-is-letter-or-digit
-    is-letter-or-digit-requires
-    returns
-    add-i
-    loop-less
+    (λ c. omega arith)
+    (λ c κs. search needs)
+    (λ c. omega arith)
+    (λ c. omega arith)
     loop-again
-    returns-2)
+    returns)

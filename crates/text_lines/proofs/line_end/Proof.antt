@@ -18,18 +18,20 @@ abbrev μ-loop : tie.MeasureT-loop
 
 loop-holds : tie.Need-loop-holds Inv-loop μ-loop
 unfolding lineEnd
-loop-holds c = (omega arith, rw (c .line-start .ensures, sheet-from-the-start))
+loop-holds c =
+    let over = c .pass-over .ensures in
+    (over .0, over .1 ∙ rw (c .before .line-start .ensures, sheet-from-the-start))
 
 first-is-ten : tie.Need-returns Inv-loop μ-loop
 first-is-ten c =
     let top = c .before .before .before in
-    let sheet = top .before .before .before .args .sheet .now in
+    let sheet = top .before .before .before .before .args .sheet .now in
     ⊎-elim (λ h. omega (arith, h .1)) (λ h. absurd (h .0 (c .if1 .taken))) (line-length-step sheet (top .loop .end) (omega arith))
 
 second-is-ten : tie.Need-returns-2 Inv-loop μ-loop
 second-is-ten c =
     let top = c .before .before .before .before .before in
-    let sheet = top .before .before .before .args .sheet .now in
+    let sheet = top .before .before .before .before .args .sheet .now in
     let end = top .loop .end in
     ⊎-elim (λ h. absurd (c .before .before .if1 .left (h .0)))
     (λ h. ⊎-elim (λ k. omega (arith, h .1, k .1)) (λ k. absurd (k .0 (c .if2 .taken))) (line-length-step sheet (end + 1) (omega arith)))
@@ -38,7 +40,7 @@ second-is-ten c =
 loop-again : tie.Need-loop-again Inv-loop μ-loop
 loop-again c =
     let top = c .before .before .before .before .before in
-    let sheet = top .before .before .before .args .sheet .now in
+    let sheet = top .before .before .before .before .args .sheet .now in
     let end = top .loop .end in
     (omega arith, two-bytes-on sheet end (omega arith) (c .before .before .if1 .left) (c .if2 .left) ∙ top .loop .inv .1)
 
@@ -52,6 +54,7 @@ line-end-spec =
     Inv-loop
     μ-loop
     (λ c κs. search needs)
+    (λ c κs. omega (arith, c .line-start .ensures))
     loop-holds
     (λ c. search needs)
     (λ c. omega arith)
