@@ -5,13 +5,14 @@ use Prim.Native.Nat.{ℕ, _+_, _-_, _≤_}
 use native.Mathlib.Omega.{arith}
 use lib.ListN.{length}
 use Rattle.lists.specs.Numbers.{look}
-use Rattle.model.specs.Flows.{Links, Site, Tree, sites, leaf, total}
+use Rattle.model.specs.Flows.{Links, Site, Tree, sites, total}
 use Rattle.model.specs.Text.{bytes}
 use Rattle.model.specs.Whole.{WholePlan, EndSets, setSizes, oddPieces}
 use Rattle.model.specs.declared.Edition.{Edition}
 use Rattle.model.specs.declared.Pair.{Pair}
 use Rattle.theory_trees.specs.Ends.{ends-are-outer, an-end-is-a-leaf}
 use Rattle.theory_whole.specs.Circuits.{PairsWhole, the-pairs-of-whole-loads}
+use Rattle.theory_whole.specs.Duality.{no-sets-do-better}
 use Rattle.sheet.specs.Sheet.{Network, accepted, readSheet}
 use Rattle.sheet.specs.SheetTheorem.{IsNetwork, an-accepted-sheet-is-a-tree}
 use Rattle.report.specs.Report.{wholeReport}
@@ -33,10 +34,6 @@ wholeSays net = figuresSay net (wholes net)
 pub whole-report-read-back : {ed : Edition} {s : List ℕ} {net : Network} → IsNetwork ed s net → readReport s net (wholeReport s net) ≡ wholeSays net
 whole-report-read-back {ed} {s} {net} N = ap (readReport s net) (the-whole-report-shows-wholes net s)
     ∙ figures-read-back N (wholes net) (wholes-can-be-shown net (N .tree))
-
-no-sets-do-better : {ls : Links} {n : ℕ} → Tree ls n → (terminal : ℕ → ℕ) → ((v : ℕ) → Site n v → leaf ls v ≡ 1 → terminal v ≡ 1) → (c owner : ℕ → ℕ)
-    → EndSets n terminal owner → (es : List Pair) → WholePlan ls n terminal c es → total es + oddPieces ls n c owner ≤ setSizes ls n terminal c owner
-no-sets-do-better = ?
 
 module _ (net : Network) (T : Tree (net .links) (siteCount net)) where
   abbrev ls : Links
