@@ -1,13 +1,13 @@
 -- Owners that agree at the sites have the same sets and the same pieces: every definition asks for the owner of a site of the network alone.
-use mathlib.Core.Path.{_≡_, refl, sym, ap}
+use mathlib.Core.Path.{_≡_, refl, ap}
 use mathlib.Core.List.{[], _∷_}
-use Prim.Native.Nat.{ℕ, zero, suc, _*_, _%_, _<_}
+use Prim.Native.Nat.{ℕ, suc, _*_, _%_, _<_}
 use native.Mathlib.Omega.{arith}
 use lib.ListN.{length}
 use Rattle.lists.specs.Numbers.{is, differ}
 use Rattle.model.specs.Flows.{Links, Site, Tree, sites, one, two, label}
 use Rattle.model.specs.Cuts.{kept}
-use Rattle.model.specs.Whole.{setSize, setCount, setSizes, connects, piece, inPiece, leavingPiece, oddPieces}
+use Rattle.model.specs.Whole.{setSize, connects, piece, inPiece, leavingPiece, oddPieces}
 use Rattle.lists.specs.Sums.{sum-eq}
 use Rattle.lists.specs.Places.{over-eq}
 use Rattle.theory_trees.specs.Sites.{sites-site}
@@ -29,10 +29,6 @@ module _ {ls : Links} {n : ℕ} (T : Tree ls n) (c own told : ℕ → ℕ) (agre
   set-sizes-agree a = sum-eq (length ls) (λ j. differ (is (told (one ls j)) a) (is (told (two ls j)) a) * c j)
       (λ j. differ (is (own (one ls j)) a) (is (own (two ls j)) a) * c j)
       (λ j l. rw (at-one j l, at-two j l))
-
-  pub set-counts-agree : (a : ℕ) → setCount n told a ≡ setCount n own a
-  unfolding setCount
-  set-counts-agree a = over-eq (sites n) (λ x. is (told x) a) (λ x. is (own x) a) (λ x q. rw (agree x (sites-site n x q)))
 
   connections-agree : (j : ℕ) → j < length ls → connects ls c told j ≡ connects ls c own j
   unfolding connects

@@ -2,11 +2,8 @@
 use mathlib.Core.Path.{_≡_, refl, sym, ap, _∙_}
 use mathlib.Core.List.{List, [], _∷_, map}
 use Prim.Native.Nat.{ℕ, _+_, _-_, _≤_}
-use native.Mathlib.Omega.{arith}
-use lib.ListN.{length}
 use Rattle.lists.specs.Numbers.{look}
 use Rattle.model.specs.Flows.{Links, Site, Tree, sites, total}
-use Rattle.model.specs.Text.{bytes}
 use Rattle.model.specs.Whole.{WholePlan, EndSets, setSizes, oddPieces}
 use Rattle.model.specs.declared.Edition.{Edition}
 use Rattle.model.specs.declared.Pair.{Pair}
@@ -19,7 +16,6 @@ use Rattle.report.specs.Report.{wholeReport}
 use Rattle.planner.specs.Figures.{wholes, pairsBy, the-whole-report-shows-wholes}
 use Rattle.planner.specs.WholeFigures.{wholes-are-largest, wholes-can-be-shown}
 use Rattle.demands.specs.Printed.{siteCount, isEnd, endsAmong, Printed, readReport, sizeSum}
-use Rattle.demands.specs.Asked.{ShowsSheet, InOrder}
 use Rattle.demands.specs.AskedWhole.{FittingWhole, LargestPlan, PrintedSets, IsWholeReport}
 use Rattle.demands.specs.Agree.{odd-pieces-agree}
 use Rattle.demands.specs.Plans.{multiflow-is-plan, plan-is-multiflow}

@@ -1,6 +1,6 @@
 -- The figures that a report shows of a network, and the plan that shows them: `planOf` shows the figures in halves, `wholeOf` those in whole circuits.
 -- What holds of figures that can be shown is shown once, for both reports.
-use mathlib.Core.Path.{_≡_, refl, ap}
+use mathlib.Core.Path.{_≡_, refl}
 use mathlib.Core.Logic.{_⊎_, inl, inr}
 use mathlib.Core.List.{List, [], _∷_, map, append-nil}
 use Prim.Native.Nat.{ℕ, _-_, _*_, _≤_}

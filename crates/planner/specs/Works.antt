@@ -1,7 +1,7 @@
--- What is worked out of the lists of an accepted sheet is ready to be written: balanced capacities, terminal cuts and the pair list show its plan.
+-- What is worked out of the lists of an accepted sheet is ready to be written: sizes, sets and pairs show its figures. For either report.
 use mathlib.Core.Path.{_≡_, refl, sym, ap, subst, _∙_}
 use mathlib.Core.Logic.{inl, inr}
-use mathlib.Core.List.{List, [], _∷_, _++_, map}
+use mathlib.Core.List.{List, [], _∷_, _++_, map, append-nil}
 use Prim.Native.Nat.{ℕ, zero, suc, _+_, _-_, _≤_, _<_}
 use native.Mathlib.Omega.{arith}
 use native.Mathlib.Numerals.{one-add}
@@ -12,15 +12,14 @@ use Rattle.model.specs.Edition.{edition1, largest}
 use Rattle.lists.specs.Numbers.{look, Each}
 use Rattle.model.specs.Flows.{Links, Site, Route, one, two, ends}
 use Rattle.model.specs.Trimming.{Balanced, balanced}
-use Rattle.model.specs.Cuts.{cutSize, cutCount, owner}
 use Rattle.model.specs.Pairing.{pairList, ordered}
 use Rattle.model.specs.Text.{bytes}
+use Rattle.model.specs.Whole.{setSize, setCount, oddPieces}
+use Rattle.model.specs.WholeLoads.{wholeLoads, wholeOwner}
 use Rattle.model.specs.declared.Pair.{Pair}
 use Rattle.model.specs.declared.Pairs.{Pairs}
-use Rattle.theory_trees.specs.Owners.{owner-or-none}
 use Rattle.theory_trees.specs.Leaves.{Outer}
 use Rattle.theory_trees.specs.Ends.{ends-are-outer}
-use Rattle.theory_trees.specs.Greatest.{balanced-has-each-link}
 use Rattle.tree.specs.Offer.{links}
 use Rattle.tree.specs.Accepted.{TreeWithin}
 use Rattle.trimming.specs.Outcome.{capacities}
@@ -32,11 +31,24 @@ use Rattle.pairing_walk.specs.Visits.{Walkable, Listing}
 use Rattle.pairing_order.specs.Laws.{ordering-keeps-length}
 use Rattle.sheet.specs.Sheet.{Network, accepted, readSheet}
 use Rattle.sheet.specs.SheetTheorem.{IsNetwork}
+use Rattle.report.specs.Report.{lines, oddLine, reportOf, report, wholeReport}
 use Rattle.report.specs.Shown.{Named, AllNamed, Links as Linked, Owners, Paired, no-pair, shownBy}
-use Rattle.planner.specs.Small.{pairs-are-sound, few-links, total-within, a-report-is-small}
-use Rattle.planner.specs.Shows.{starts, stops, ranges, trimmed, Works, planBy, the-lists-show-the-plan}
+use Rattle.planner.specs.Outcome.{Reporter}
+use Rattle.planner.specs.Figures.{Figures, terminal, halves, wholes, pairsBy, planShowing, Showable}
+use Rattle.planner.specs.Figures.{the-report-shows-halves, the-whole-report-shows-wholes, halves-can-be-shown}
+use Rattle.planner.specs.WholeFigures.{wholes-can-be-shown}
+use Rattle.planner.specs.Small.{few-links, pairs-shown-are-sound, total-shown-within, figures-are-small}
+use Rattle.planner.specs.Shows.{starts, stops, ranges, Works, planBy, the-lists-show-the-figures}
 use Rattle.planner.specs.Taken.{padded-length, the-network-is-given, the-links-are-the-networks}
-use Rattle.planner.specs.Ready.{TakenApart, Charted, Ready}
+use Rattle.planner.specs.Ready.{TakenApart, Charted, Ready, ReadyBy}
+
+-- of each site its owner, and of each terminal the size and the count of its set, in lists with a place for each site
+abbrev pub setsBy : ℕ → (ℕ → ℕ) → (ℕ → ℕ) → (ℕ → ℕ) → (ℕ → ℕ) → Owned
+setsBy n terminal owner size count = record {
+  owner = places n owner;
+  size = places n (ofTerminal terminal size);
+  count = places n (ofTerminal terminal count);
+}
 
 module _ {s : List ℕ} {net : Network} (N : IsNetwork edition1 s net) where
   abbrev size : ℕ
@@ -44,15 +56,6 @@ module _ {s : List ℕ} {net : Network} (N : IsNetwork edition1 s net) where
 
   abbrev ls : Links
   ls = net .links
-
-  abbrev c : ℕ → ℕ
-  c = look (net .capacities)
-
-  abbrev terminal : ℕ → ℕ
-  terminal = look (ends ls size)
-
-  abbrev t : ℕ → ℕ
-  t = look (trimmed net)
 
   -- ---- names
 
@@ -75,97 +78,93 @@ module _ {s : List ℕ} {net : Network} (N : IsNetwork edition1 s net) where
   named-site : (v : ℕ) → Site size v → Named s (starts net) (stops net) v
   named-site v p = sites-are-named v (p .0) (p .1)
 
-  -- ---- links
-
-  links-join-named-sites : Linked s (starts net) (stops net) (map (λ l. l .0) ls) (map (λ l. l .1) ls) (net .capacities) (trimmed net)
-  links-join-named-sites =
-      let o = length-map ls (λ l. l .0) in
-      record {
-        twos-length = length-map ls (λ l. l .1) ∙ sym o;
-        capacities-length = N .capacities ∙ sym o;
-        shown-length = balanced-has-each-link (N .tree) terminal (net .capacities) ∙ sym o;
-        named = λ j l. let k : j < length ls = omega arith in
-            rw (List·getD-map (λ l. l .0) ls j (0, 0), List·getD-map (λ l. l .1) ls j (0, 0))
-            (named-site (one ls j) (N .tree .ends j k .0), named-site (two ls j) (N .tree .ends j k .1));
-      }
-
-  -- ---- pairs
-
-  pairs-join-named-sites : (es : List Pair) → Each (Route ls size terminal) es → (i : ℕ) → i < length es
+  pairs-join-named-sites : (es : List Pair) → Each (Route ls size (terminal net)) es → (i : ℕ) → i < length es
       → Named s (starts net) (stops net) (getD es i no-pair .first) × Named s (starts net) (stops net) (getD es i no-pair .second)
   pairs-join-named-sites [] r i l = absurd (omega arith)
   pairs-join-named-sites (e ∷ es) r zero l = (named-site (e .first) (r .0 .first-site), named-site (e .second) (r .0 .second-site))
   pairs-join-named-sites (e ∷ es) r (suc i) l = pairs-join-named-sites es (r .1) i (omega arith)
 
-  -- ---- all of it
+  -- ---- figures that can be shown, in lists
 
-  module _ (marks : List ℕ) (cuts : Owned) (ps : Pairs)
-      (marked : look marks ≡ terminal)
-      (cut : cuts ≡ owned ls size terminal c t)
-      (listed : take (ps .count) (ps .list) ≡ pairList ls size t terminal)
-      (held : ps .count ≤ length (ps .list)) where
-    place : (f : ℕ → ℕ) (i : ℕ) → i < size → look (places size f) i ≡ f (1 + i)
-    place f i l = look-places f size i l ∙ ap f (sym (one-add i))
-
-    terminal-place : (f : ℕ → ℕ) (i : ℕ) → i < size → terminal (1 + i) ≡ 1 → look (places size (ofTerminal terminal f)) i ≡ f (1 + i)
-    terminal-place f i l e = place (ofTerminal terminal f) i l ∙ of-terminal terminal f (1 + i) e
-
-    works : Works net marks (cuts .owner) (cuts .size) (cuts .count) (take (ps .count) (ps .list))
-    unfolding owned
-    works = record {
-      marked = marked;
-      own = λ i l. rw cut (place (owner ls c t terminal size) i l);
-      cut = λ i l e. rw cut (terminal-place (cutSize ls c t) i l e);
-      members = λ i l e. rw cut (terminal-place (cutCount ls c t size) i l e);
-      paired = listed;
-    }
-
-    pairs-are-few : ps .count ≤ length ls
-    pairs-are-few = omega (arith, pairs-are-sound N .few, ap length listed, length-take-le (ps .count) (ps .list) held)
-
-    owners-are-named : Owners s (starts net) (stops net) (cuts .owner) size
-    unfolding owned
-    owners-are-named = record {
-      held = rw cut (omega (arith, length-places (owner ls c t terminal size) size (N .few), N .few));
-      named = λ i l d. rw (works .own i l) (elim (owner-or-none ls c t terminal (1 + i) size) [
-        | inl r ↦ absurd (d (works .own i l ∙ r .0))
-        | inr r ↦ named-site _ (r .0)
-      ]);
-    }
-
-    pairs-can-be-written : Paired s (starts net) (stops net) (ps .list) (ps .count)
-    pairs-can-be-written = record {
-      few = omega (arith, pairs-are-few, few-links N);
-      held = held;
-      named = λ i l.
-          let named = pairs-join-named-sites (pairList ls size t terminal) (pairs-are-sound N .routes) i
-          (omega (arith, ap length listed, length-take-le (ps .count) (ps .list) held)) in
-          rw (← listed, getD-take (ps .count) (ps .list) i no-pair l) at named;
-    }
-
-    the-report-is-ready : readSheet edition1 s ≡ accepted net
-        → Ready s (starts net) (stops net) (planBy net s marks (cuts .owner) (cuts .size) (cuts .count) ps) ps
-    unfolding owned
-    the-report-is-ready read =
-        let shows = the-lists-show-the-plan net s ps works in
+  module _ (f : Figures) (h : Showable net f) where
+    links-join-named-sites : Linked s (starts net) (stops net) (map (λ l. l .0) ls) (map (λ l. l .1) ls) (net .capacities) (f .shown)
+    links-join-named-sites =
+        let o = length-map ls (λ l. l .0) in
         record {
-          net = net;
-          read = read;
-          shows = shows;
-          writable = record {
-            few = N .few;
-            named = sites-are-named;
-            linked = links-join-named-sites;
-            owned = owners-are-named;
-            sized = rw cut (omega (arith, length-places (ofTerminal terminal (cutSize ls c t)) size (N .few), N .few));
-            counted = rw cut (omega (arith, length-places (ofTerminal terminal (cutCount ls c t size)) size (N .few), N .few));
-            paired = pairs-can-be-written;
-            small = rw listed (total-within N);
-            room = rw shows (omega (arith, a-report-is-small N));
-          };
+          twos-length = length-map ls (λ l. l .1) ∙ sym o;
+          capacities-length = N .capacities ∙ sym o;
+          shown-length = h .each-link ∙ sym o;
+          named = λ j l. let k : j < length ls = omega arith in
+              rw (List·getD-map (λ l. l .0) ls j (0, 0), List·getD-map (λ l. l .1) ls j (0, 0))
+              (named-site (one ls j) (N .tree .ends j k .0), named-site (two ls j) (N .tree .ends j k .1));
         }
 
--- the lists of an accepted sheet, and what is worked out of them
+    module _ (marks before : List ℕ) (cuts : Owned) (ps : Pairs)
+        (marked : look marks ≡ terminal net)
+        (cut : cuts ≡ setsBy size (terminal net) (f .owner) (f .size) (f .count))
+        (odd : before ≡ lines oddLine (f .pieces))
+        (listed : take (ps .count) (ps .list) ≡ pairsBy net f)
+        (held : ps .count ≤ length (ps .list)) where
+      place : (g : ℕ → ℕ) (i : ℕ) → i < size → look (places size g) i ≡ g (1 + i)
+      place g i l = look-places g size i l ∙ ap g (sym (one-add i))
+
+      terminal-place : (g : ℕ → ℕ) (i : ℕ) → i < size → terminal net (1 + i) ≡ 1 → look (places size (ofTerminal (terminal net) g)) i ≡ g (1 + i)
+      terminal-place g i l e = place (ofTerminal (terminal net) g) i l ∙ of-terminal (terminal net) g (1 + i) e
+
+      works : Works net f marks (cuts .owner) (cuts .size) (cuts .count) before (take (ps .count) (ps .list))
+      works = record {
+        marked = marked;
+        own = λ i l. rw cut (place (f .owner) i l);
+        cut = λ i l e. rw cut (terminal-place (f .size) i l e);
+        members = λ i l e. rw cut (terminal-place (f .count) i l e);
+        odd = odd;
+        paired = listed;
+      }
+
+      pairs-are-few : ps .count ≤ length ls
+      pairs-are-few = omega (arith, pairs-shown-are-sound N f h .few, ap length listed, length-take-le (ps .count) (ps .list) held)
+
+      owners-are-named : Owners s (starts net) (stops net) (cuts .owner) size
+      owners-are-named = record {
+        held = rw cut (omega (arith, length-places (f .owner) size (N .few), N .few));
+        named = λ i l d. rw (works .own i l) (elim (h .owned (1 + i) (omega arith, omega arith)) [
+          | inl e ↦ absurd (d (works .own i l ∙ e))
+          | inr r ↦ named-site _ (r .0)
+        ]);
+      }
+
+      pairs-can-be-written : Paired s (starts net) (stops net) (ps .list) (ps .count)
+      pairs-can-be-written = record {
+        few = omega (arith, pairs-are-few, few-links N);
+        held = held;
+        named = λ i l.
+            let named = pairs-join-named-sites (pairsBy net f) (pairs-shown-are-sound N f h .routes) i
+            (omega (arith, ap length listed, length-take-le (ps .count) (ps .list) held)) in
+            rw (← listed, getD-take (ps .count) (ps .list) i no-pair l) at named;
+      }
+
+      the-figures-are-ready : (text : Reporter) → text s net ≡ reportOf (planShowing net s f) → readSheet edition1 s ≡ accepted net
+          → ReadyBy text s (starts net) (stops net) (planBy net f s marks (cuts .owner) (cuts .size) (cuts .count) before ps) ps
+      the-figures-are-ready text said read =
+          let shows = the-lists-show-the-figures net f s ps works in
+          record {
+            net = net;
+            read = read;
+            shows = shows ∙ sym said;
+            writable = record {
+              few = N .few;
+              named = sites-are-named;
+              linked = links-join-named-sites;
+              owned = owners-are-named;
+              sized = rw cut (omega (arith, length-places (ofTerminal (terminal net) (f .size)) size (N .few), N .few));
+              counted = rw cut (omega (arith, length-places (ofTerminal (terminal net) (f .count)) size (N .few), N .few));
+              paired = pairs-can-be-written;
+              small = rw listed (total-shown-within N f h);
+              room = rw shows (omega (arith, figures-are-small N f h));
+            };
+          }
+
+-- the lists of an accepted sheet, and what is worked out of them: in halves
 pub what-is-worked-out-is-ready : {s starting stopping : List ℕ} {n : ℕ} {one two c : List ℕ} → TakenApart s starting stopping n one two c
     → (shown marks : List ℕ) (cuts : Owned) (ps : Pairs)
     → look marks ≡ look (ends (links one two) n)
@@ -174,11 +173,37 @@ pub what-is-worked-out-is-ready : {s starting stopping : List ℕ} {n : ℕ} {on
     → take (ps .count) (ps .list) ≡ pairList (links one two) n (look shown) (look marks)
     → ps .count ≤ length (ps .list)
     → Ready s starting stopping (shownBy (bytes "plan") [] s starting stopping n one two c shown marks (cuts .owner) (cuts .size) (cuts .count) ps) ps
-what-is-worked-out-is-ready {s} {starting} {stopping} {n} {one} {two} {c} a shown marks cuts ps marked =
+unfolding owned lines
+what-is-worked-out-is-ready {s} a shown marks cuts ps marked =
     let ls = the-links-are-the-networks a in
-    let told : look marks ≡ look (ends (a .net .links) (length (a .net .names))) = rw (ls, a .counted) at marked in
+    let net = a .net in
+    let N = the-network-is-given a in
+    let told : look marks ≡ look (ends (net .links) (length (net .names))) = rw (ls, a .counted) at marked in
     rw (ls, told, a .counted, a .sizes, a .started, a .stopped, a .firsts, a .seconds) (λ e. rw e (λ cut listed held.
-    the-report-is-ready (the-network-is-given a) marks cuts ps told cut listed held (a .read)))
+    the-figures-are-ready N (halves net) (halves-can-be-shown net (N .tree)) marks [] cuts ps told cut refl listed held report (the-report-shows-halves net s) (a .read)))
+
+-- and in whole circuits
+pub what-is-worked-out-whole-is-ready : {s starting stopping : List ℕ} {n : ℕ} {one two c : List ℕ} → TakenApart s starting stopping n one two c
+    → (shown marks before : List ℕ) (cuts : Owned) (ps : Pairs)
+    → look marks ≡ look (ends (links one two) n)
+    → shown ≡ wholeLoads (links one two) n (look marks) (look c)
+    → cuts ≡ setsBy n (look marks) (wholeOwner (links one two) n (look marks) (look c))
+    (setSize (links one two) (look c) (wholeOwner (links one two) n (look marks) (look c)))
+    (setCount n (wholeOwner (links one two) n (look marks) (look c)))
+    → before ≡ oddLine (oddPieces (links one two) n (look c) (wholeOwner (links one two) n (look marks) (look c)))
+    → take (ps .count) (ps .list) ≡ pairList (links one two) n (look shown) (look marks)
+    → ps .count ≤ length (ps .list)
+    → ReadyBy wholeReport s starting stopping
+    (shownBy (bytes "whole") before s starting stopping n one two c shown marks (cuts .owner) (cuts .size) (cuts .count) ps) ps
+unfolding lines
+what-is-worked-out-whole-is-ready {s} a shown marks before cuts ps marked =
+    let ls = the-links-are-the-networks a in
+    let net = a .net in
+    let N = the-network-is-given a in
+    let told : look marks ≡ look (ends (net .links) (length (net .names))) = rw (ls, a .counted) at marked in
+    rw (ls, told, a .counted, a .sizes, a .started, a .stopped, a .firsts, a .seconds) (λ e. rw e (λ cut odd listed held.
+    the-figures-are-ready N (wholes net) (wholes-can-be-shown net (N .tree)) marks before cuts ps told cut (odd ∙ sym (append-nil _)) listed held
+    wholeReport (the-whole-report-shows-wholes net s) (a .read)))
 
 -- ---- from what the inner functions promise
 
