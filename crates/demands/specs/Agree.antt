@@ -50,5 +50,6 @@ module _ {ls : Links} {n : ℕ} (T : Tree ls n) (c own told : ℕ → ℕ) (agre
 
   pub odd-pieces-agree : oddPieces ls n c told ≡ oddPieces ls n c own
   unfolding oddPieces
-  odd-pieces-agree = over-eq (sites n) (λ p. inPiece ls c told p p * (leavingPiece ls c told p % 2)) (λ p. inPiece ls c own p p * (leavingPiece ls c own p % 2))
+  odd-pieces-agree = over-eq (sites n) (λ p. inPiece ls c told p p * (leavingPiece ls c told p % 2))
+      (λ p. inPiece ls c own p p * (leavingPiece ls c own p % 2))
       (λ p q. rw (members-agree p p (sites-site n p q), leaving-agrees p))

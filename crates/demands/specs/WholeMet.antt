@@ -60,13 +60,16 @@ module _ (net : Network) (T : Tree (net .links) (siteCount net)) where
   no-whole-plan-passes-any-sets owner sets fs h = no-sets-do-better T end (λ v p e. an-end-is-a-leaf T v ∙ e) c owner sets fs (fitting-is-whole fs h)
 
   -- the pairs of the loads taken
-  pairs : PairsWhole ls n end c (look (wholes net .shown)) own (pairsBy net (wholes net))
+  abbrev taken : List Pair
+  taken = pairsBy net (wholes net)
+
+  pairs : PairsWhole ls n end c (look (wholes net .shown)) own taken
   pairs = the-pairs-of-whole-loads T (ends-are-outer T) (wholes-are-largest net T)
 
   pub whole-has-a-largest-plan : LargestPlan net (wholeSays net)
   unfolding figuresSay
   whole-has-a-largest-plan = record {
-    printed-plan = whole-is-fitting (pairsBy net (wholes net)) (pairs .plan);
+    printed-plan = whole-is-fitting taken (pairs .plan);
     reached = refl;
     largest = λ fs h. pairs .largest fs (fitting-is-whole fs h);
     loaded = pairs .sound .loads;
@@ -86,13 +89,13 @@ module _ (net : Network) (T : Tree (net .links) (siteCount net)) where
 
   told-sets : EndSets n end told
   told-sets =
-      let taken = wholes-are-largest net T .sets in
+      let sets = wholes-are-largest net T .sets in
       record {
-        own = λ a p e. told-is-own a p ∙ taken .own a p e;
-        owned = λ x q. rw (told-is-own x q) (taken .owned x q);
+        own = λ a p e. told-is-own a p ∙ sets .own a p e;
+        owned = λ x q. rw (told-is-own x q) (sets .owned x q);
       }
 
-  sizes-less-pieces : sizeSum (map (setBy (wholes net)) (endsAmong end (sites n))) ≡ total (pairsBy net (wholes net)) + oddPieces ls n c own
+  sizes-less-pieces : sizeSum (map (setBy (wholes net)) (endsAmong end (sites n))) ≡ total taken + oddPieces ls n c own
   unfolding setSizes
   sizes-less-pieces = sizes-summed end (setBy (wholes net)) (sites n) ∙ pairs .sizes
 
@@ -104,7 +107,7 @@ module _ (net : Network) (T : Tree (net .links) (siteCount net)) where
     size-of-each-set = told-sets-are-owned T end c (wholes net) (record { sized = λ a p e. refl; counted = λ a p e. refl });
     one-line-of-pieces = ap (λ k. k ∷ []) (sym (odd-pieces-agree T c own told told-is-own));
     sizes-less-pieces = sizes-less-pieces;
-    no-sets-do-better = λ owner sets. no-whole-plan-passes-any-sets owner sets (pairsBy net (wholes net)) (whole-is-fitting (pairsBy net (wholes net)) (pairs .plan));
+    no-sets-do-better = λ owner sets. no-whole-plan-passes-any-sets owner sets taken (whole-is-fitting taken (pairs .plan));
   }
 
 pub the-whole-report-is-full : (ed : Edition) (s : List ℕ) (net : Network) → readSheet ed s ≡ accepted net → IsWholeReport ed s (wholeReport s net)

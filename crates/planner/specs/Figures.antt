@@ -28,7 +28,8 @@ use Rattle.report.specs.Report.{Plan, lines, oddLine, planOf, wholeOf, reportOf
 
 -- ---- figures
 
--- the heading; a size for each link; of each site the end whose set holds it, or 0; of each end the size and the count of its set; the numbers of the `Q` lines
+-- the heading; a size for each link; of each site the end whose set holds it, or 0; of each end the size and the count of its set;
+-- the numbers of the `Q` lines
 pub record Figures : Type 0 where
   pub word : List ℕ
   pub shown : List ℕ

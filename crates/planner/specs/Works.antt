@@ -180,7 +180,8 @@ what-is-worked-out-is-ready {s} a shown marks cuts ps marked =
     let N = the-network-is-given a in
     let told : look marks ≡ look (ends (net .links) (length (net .names))) = rw (ls, a .counted) at marked in
     rw (ls, told, a .counted, a .sizes, a .started, a .stopped, a .firsts, a .seconds) (λ e. rw e (λ cut listed held.
-    the-figures-are-ready N (halves net) (halves-can-be-shown net (N .tree)) marks [] cuts ps told cut refl listed held report (the-report-shows-halves net s) (a .read)))
+    the-figures-are-ready N (halves net) (halves-can-be-shown net (N .tree)) marks [] cuts ps told cut refl listed held
+    report (the-report-shows-halves net s) (a .read)))
 
 -- and in whole circuits
 pub what-is-worked-out-whole-is-ready : {s starting stopping : List ℕ} {n : ℕ} {one two c : List ℕ} → TakenApart s starting stopping n one two c
