@@ -34,7 +34,7 @@ twins = (1, 2) ∷ (1, 3) ∷ (1, 4) ∷ (1, 5) ∷ (2, 6) ∷ (2, 7) ∷ (2, 8)
 found : Links → ℕ → List ℕ → List ℕ × List ℕ
 found ls n c = (wholeLoads ls n (look (ends ls n)) (look c), map (wholeOwner ls n (look (ends ls n)) (look c)) (sites n))
 
--- star 1, 1, 1; cross 1, 1, 1, 1, whose piece is even; a star of zeros; two sites of size 3; the tree of 2 at its end and 1s; twins of 1s whose joints a link of size 0 links
+-- star 1, 1, 1; cross 1, 1, 1, 1, whose piece is even; a star of zeros; two sites of size 3; the tree of 2 and 1s; twins of 1s, 0 between the joints
 found-examples :
     found star 4 (1 ∷ 1 ∷ 1 ∷ []) ∷ found cross 5 (1 ∷ 1 ∷ 1 ∷ 1 ∷ []) ∷ found star 4 (0 ∷ 0 ∷ 0 ∷ []) ∷ found link 2 (3 ∷ [])
     ∷ found tree 8 (2 ∷ 1 ∷ 1 ∷ 1 ∷ 1 ∷ 1 ∷ 1 ∷ []) ∷ found twins 8 (0 ∷ 1 ∷ 1 ∷ 1 ∷ 1 ∷ 1 ∷ 1 ∷ []) ∷ []

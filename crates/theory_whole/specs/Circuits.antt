@@ -32,7 +32,8 @@ module _ {ls : Links} {n : ℕ} (T : Tree ls n) (terminal : ℕ → ℕ) (leaves
   joints : (v : ℕ) → Site n v → terminal v ≢ 1 → 2 ≤ sumAt ls v (λ i. 1)
   unfolding leaf sumAt
   joints v p m =
-      let x : (x : ℕ) × Site n x × (x ≢ v) = same? v 1 (λ e. (2, (omega arith, T .big), λ q. omega arith)) (λ d. (1, (omega arith, omega arith), λ q. d (sym q))) in
+      let x : (x : ℕ) × Site n x × (x ≢ v)
+      = same? v 1 (λ e. (2, (omega arith, T .big), λ q. omega arith)) (λ d. (1, (omega arith, omega arith), λ q. d (sym q))) in
       let r = local-one T v (x .0) p (x .1) (x .2) in
       let some = rw (r .2) at (sum-ge (length ls) (r .0) (λ i. at ls v i * 1) (r .1)) in
       same? (sumAt ls v (λ i. 1)) 1 (λ e. absurd (m (leaves v p (is-same e)))) (λ d. omega arith)

@@ -1,12 +1,12 @@
 -- Pieces are classes: sites of one piece are what connecting links join, and the site that tells a piece is one of its sites. For any sets.
 use mathlib.Core.Path.{_≡_, sym, _∙_}
 use mathlib.Core.Logic.{_≢_, _↔_}
-use Prim.Native.Nat.{ℕ, _*_, _<_, _≤_}
+use Prim.Native.Nat.{ℕ, _*_, _<_}
 use native.Mathlib.Omega.{arith}
 use lib.ListN.{length}
 use Rattle.lists.specs.Numbers.{is, differ}
 use Rattle.lists.specs.Sums.{is-same, is-one, is-le, product-one, differ-same, differ-other}
-use Rattle.model.specs.Flows.{Links, Ends, Site, Joined, one, two}
+use Rattle.model.specs.Flows.{Links, Joined, one, two}
 use Rattle.model.specs.Cuts.{kept}
 use Rattle.model.specs.Whole.{connects, piece}
 use Rattle.theory_trees.specs.Labels.{label-label, joined-label, label-joined}

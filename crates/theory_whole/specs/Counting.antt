@@ -14,16 +14,16 @@ module _ (parent c most owner : ℕ → ℕ) where
 
   pub odd-owned : (v : ℕ) → owner v ≢ 0 → oddAt v ≡ 0
   unfolding oddAt
-  odd-owned v d = let odd = (most v + c v) % 2 in pick-other d (pick (owner (parent v)) 0 (pick (c v) 0 odd 0) odd) 0
+  odd-owned v d = rw (pick-other d)
 
   pub odd-up : (v : ℕ) → owner v ≡ 0 → owner (parent v) ≢ 0 → oddAt v ≡ (most v + c v) % 2
   unfolding oddAt
-  odd-up v e d = let odd = (most v + c v) % 2 in rw (pick-same e) (pick-other d (pick (c v) 0 odd 0) odd)
+  odd-up v e d = rw (pick-same e, pick-other d)
 
   pub odd-zero : (v : ℕ) → owner v ≡ 0 → owner (parent v) ≡ 0 → c v ≡ 0 → oddAt v ≡ most v % 2
   unfolding oddAt
-  odd-zero v e f z = let odd = (most v + c v) % 2 in rw (pick-same e, pick-same f, pick-same z) (omega arith)
+  odd-zero v e f z = rw (pick-same e, pick-same f) (omega (arith, pick-same z ((most v + c v) % 2) 0))
 
   pub odd-more : (v : ℕ) → owner v ≡ 0 → owner (parent v) ≡ 0 → c v ≢ 0 → oddAt v ≡ 0
   unfolding oddAt
-  odd-more v e f d = let odd = (most v + c v) % 2 in rw (pick-same e, pick-same f) (pick-other d odd 0)
+  odd-more v e f d = rw (pick-same e, pick-same f) (omega (arith, pick-other d ((most v + c v) % 2) 0))

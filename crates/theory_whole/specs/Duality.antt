@@ -9,7 +9,7 @@ use native.Mathlib.Omega.{arith}
 use native.Mathlib.Nat.{mul-le-mul-left, mul-le-mul-right}
 use lib.ListN.{length}
 use Rattle.lists.specs.Numbers.{is, differ, sum, count, over}
-use Rattle.lists.specs.Sums.{is-same, is-other, is-one, is-le, same?, differ-same, differ-other, differ-comm, sum-none, sum-add, sum-mul, sum-eq, sum-le, sum-single}
+use Rattle.lists.specs.Sums.{is-same, is-other, is-one, is-le, same?, differ-same, differ-other, sum-add, sum-mul, sum-eq, sum-le, sum-single}
 use Rattle.lists.specs.Places.{over-add, over-eq, over-le, over-is}
 use Rattle.model.specs.Flows.{Links, Site, Tree, Route, Multiflow, sites, one, two, sumAt, leaf, side, separates, load, total}
 use Rattle.model.specs.Whole.{WholePlan, WholeLoads, EndSets, setSize, piece, inPiece, leavingPiece, setSizes, oddPieces}
@@ -88,7 +88,7 @@ module _ {ls : Links} {n : ℕ} (T : Tree ls n) (f : ℕ → ℕ) (small : (x : 
       none : crossings s ≡ 0
       none = unfold crossings in sum-zero (length ls) (λ j. border j * separates ls j s s) (λ j l. rw (separates-self ls j s) (omega arith))
 
-  pub crosses : (x : ℕ) → Site n x → f x ≢ f s → 1 ≤ sum (length ls) (λ j. border j * separates ls j x s)
+  crosses : (x : ℕ) → Site n x → f x ≢ f s → 1 ≤ sum (length ls) (λ j. border j * separates ls j x s)
   unfolding crossings
   crosses x p d = omega (arith, crossings-even x p, differ-other d)
 

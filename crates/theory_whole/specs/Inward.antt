@@ -8,9 +8,8 @@ use native.Mathlib.Omega.{arith}
 use native.Mathlib.Decide.{decLt}
 use lib.ListN.{length, getD, set}
 use lib.Seq.{getD-set-same, getD-set-other}
-use Rattle.lists.specs.Numbers.{pick, is, count}
+use Rattle.lists.specs.Numbers.{pick, count}
 use Rattle.lists.specs.Sums.{pick-same, pick-other, pick-const, is-same, is-other, same?, cases}
-use Rattle.lists.specs.Places.{over-one, over-mul, over-le}
 use Rattle.model.specs.WholeLoads.{put, lowest, highest, Intervals, noIntervals, newTop, leastAt, take, takeAll}
 use Rattle.theory_whole.specs.Numbers.{Link}
 use Rattle.theory_whole.specs.Rooted.{children, Child, children-eq, children-eq-but, children-none, Rooted}
@@ -152,7 +151,8 @@ module _ (par c term : ℕ → ℕ) where
       best-parent : term (par v) ≢ 1 → par v ≢ 0 → Best (v ∷ vs) (s .high) (par v) (s .top (par v)) → Best vs (s′ .high) (par v) (s′ .top (par v))
       unfolding newTop
       best-parent m n (inl r) =
-          let e : s′ .top (par v) ≡ v = top-new ∙ rw (pick-other n, pick-other m) (pick-same (r .0) v (ite (decLt (s .high (s .top (par v))) hi) v (s .top (par v)))) in
+          let old = s .top (par v) in
+          let e : s′ .top (par v) ≡ v = top-new ∙ rw (pick-other n, pick-other m) (pick-same (r .0) v (ite (decLt (s .high old) hi) v old)) in
           rw e (inr (
             record { site = q; parent = refl },
             h .0,
@@ -229,7 +229,8 @@ module _ (par c term : ℕ → ℕ) where
             least-is = eA ∙ r .least-is ∙ sym (cong-A (top-old x d) eB ea (b-old t nt));
             low-is = put-other (s .low) (lowest A (c v)) n ∙ r .low-is ∙ ap (λ y. lowest y (c x)) (sym eA);
             high-is = b-old x n ∙ r .high-is ∙ ap₂ (λ y w. highest y w (c x)) (sym eA) (sym eB);
-            goal-is = put-other (s .goal) (pick (term v) 1 v (s .goal (s .top v))) n ∙ r .goal-is ∙ ap (pick (term x) 1 x) (sym (ap (s′ .goal) (top-old x d) ∙ ed));
+            goal-is = put-other (s .goal) (pick (term v) 1 v (s .goal (s .top v))) n ∙ r .goal-is
+                ∙ ap (pick (term x) 1 x) (sym (ap (s′ .goal) (top-old x d) ∙ ed));
           }
         where
           cong-A : s′ .top x ≡ s .top x → s′ .most x ≡ s .most x → s′ .low (s .top x) ≡ s .low (s .top x) → s′ .high (s .top x) ≡ s .high (s .top x)
@@ -269,23 +270,6 @@ module _ (par c term : ℕ → ℕ) where
       best = λ p k m. inl (refl, λ w i. i .site);
       rows = λ v p z. absurd (omega arith);
     }
-
-    -- the numbers stay small: no sum is above the number of sites times the greatest capacity
-    pub inv-small : {rest : List ℕ} {s : Intervals} → Inv rest s → (M : ℕ) → ((v : ℕ) → 1 ≤ count us v → c v ≤ M) → (p : ℕ) → s .most p ≤ M * length us
-    unfolding children
-    inv-small {rest} {s} i M h p = omega (
-      arith,
-      i .sum p,
-      over-one us,
-      over-mul us M (λ x. 1),
-      over-le us (λ w. is (par w) p * s .high w) (λ w. M * 1) (λ w k. same? (count rest w) 0
-          (λ z. part w (omega (arith, i .rows w k z .high-is, high-le (s .least w) (s .most w) (c w), h w k)))
-          (λ d. part w (omega (arith, i .untaken w (omega arith))))),
-      ap (λ z. M * z) (over-one us),
-    )
-      where
-        part : (w : ℕ) → s .high w ≤ M → is (par w) p * s .high w ≤ M * 1
-        part w l = same? (par w) p (λ e. rw (is-same e) (omega arith)) (λ d. rw (is-other d) (omega arith))
 
   -- however many sites are taken, `most` has grown by at most the greatest capacity for each
   pub most-is-small : (M : ℕ) → ((v : ℕ) → c v ≤ M) → (vs : List ℕ) (s : Intervals) (p : ℕ) → takeAll par c term vs s .most p ≤ s .most p + M * length vs

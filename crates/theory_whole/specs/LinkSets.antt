@@ -1,5 +1,6 @@
 -- The sets and the pieces along the order are those told by links: set sizes, the links that leave a piece, and the count of odd pieces.
--- By one sum over parent links that is a sum over links, and by two ways to choose a site of each piece: its first, seen from the root, and the one that tells it.
+-- By one sum over parent links that is a sum over links, and by two ways to choose a site of each piece: its first, seen from the root, and the one that tells
+-- it.
 use mathlib.Core.Path.{_≡_, refl, sym, ap, ap₂, _∙_}
 use mathlib.Core.Logic.{_≢_, _⊎_, inl, inr}
 use mathlib.Core.List.{List}

@@ -3,7 +3,7 @@
 use mathlib.Core.Path.{_≡_, refl, sym, ap, ap₂, _∙_}
 use mathlib.Core.Logic.{_≢_, _⊎_, inl, inr, if-pos, if-neg}
 use mathlib.Core.List.{List, [], _∷_}
-use Prim.Native.Nat.{ℕ, zero, _+_, _*_, _-_, _≤_, _<_}
+use Prim.Native.Nat.{ℕ, _+_, _*_, _-_, _≤_, _<_}
 use native.Mathlib.Omega.{arith}
 use native.Mathlib.Decide.{ℕ-discrete}
 use lib.ListN.{length}
@@ -129,14 +129,6 @@ module _ (ls : Links) where
     pub above : (us : List ℕ) → Inward ls us → (v : ℕ) → 1 ≤ count us v → Above us v
     above us h v p = above-one us v (inward-one us h v p)
 
-    -- what stands from v on stands in the list
-    pub from-count : (us : List ℕ) (v x : ℕ) → count (from us v) x ≤ count us x
-    unfolding from count
-    from-count [] v x = omega arith
-    from-count (u ∷ us) v x = same? u v
-        (λ e. rw (if-pos (ℕ-discrete u v) e) (omega arith))
-        (λ d. rw (if-neg (ℕ-discrete u v) d) (omega (arith, from-count us v x)))
-
     pub single : (us : List ℕ) → Inward ls us → (x : ℕ) → count us x ≤ 1
     unfolding count
     single [] h x = omega arith
@@ -240,7 +232,10 @@ module _ (ls : Links) where
         let t = taken-of (parentOf ls (u ∷ us)) (u ∷ us) h z (λ v q. refl) in
         let n : u ≢ 0 = λ q. absurd (omega (arith, is-same q)) in
         same? u w
-        (λ q. elim (t .2) [ inl y ↦ n (sym e ∙ ap (parentOf ls (u ∷ us)) (sym q) ∙ y) | inr y ↦ omega (arith, h .0, rw (ap (parentOf ls (u ∷ us)) q ∙ e) at y) ])
+        (λ q. elim (t .2) [
+          | inl y ↦ n (sym e ∙ ap (parentOf ls (u ∷ us)) (sym q) ∙ y)
+          | inr y ↦ omega (arith, h .0, rw (ap (parentOf ls (u ∷ us)) q ∙ e) at y)
+        ])
         (λ q. omega (arith, h .0, rw e at (taken-home (parentOf ls (u ∷ us)) us (t .3) w (omega (arith, is-other q)) (λ y. n (sym e ∙ y)))))
 
     pub children-links : (us : List ℕ) → Inward ls us → count us 0 ≡ 0 → (v : ℕ) → 1 ≤ count us v → (f : ℕ → ℕ)

@@ -1,4 +1,6 @@
--- Whole circuits on a tree: intervals of loads from the ends inward, loads from the root outward, and why they are largest.
+-- Intervals of loads from the terminals inward, loads from the root outward, and why they are largest: by two inductions, children first, on what a load of
+-- the link to the parent brings to the terminals below. A, B: least and most that the children of a site bring together; a, b: low and high, what the link to the
+-- parent, of capacity c, lets through; K, S: what comes to the terminals below; us: the sites, par: their parents, term: 1 at a terminal; x: loads.
 use mathlib.Core.Path.{_≡_, refl, ap, ap₂, _∙_}
 use mathlib.Core.Logic.{_≢_}
 use mathlib.Core.List.{List}
@@ -9,8 +11,8 @@ use Rattle.lists.specs.Numbers.{pick, is, count, over}
 use Rattle.lists.specs.Sums.{pick-same, pick-other, is-same, is-other, same?, cases}
 use Rattle.theory_whole.specs.Numbers.{Link, interval, Upper, Value, upper-closed, upper-link, upper-site}
 use Rattle.theory_whole.specs.Numbers.{value-closed, value-link, value-site, choice, choice-other, interval-site, odd-le}
-use Rattle.theory_whole.specs.Rooted.{children, Child, children-add, children-le, children-eq, children-none, children-mod, children-le-but, children-eq-but, children-ge, children-two}
-use Rattle.theory_whole.specs.Rooted.{tree-sum, Rooted, children-first, parent-first, gather, times, fixed}
+use Rattle.theory_whole.specs.Rooted.{children, Child, children-add, children-le, children-eq, children-none, children-mod, children-le-but}
+use Rattle.theory_whole.specs.Rooted.{children-eq-but, children-ge, children-two, tree-sum, Rooted, children-first, parent-first, gather, times, fixed}
 
 module _ (us : List ℕ) (par c term : ℕ → ℕ) where
   -- x v is the load of the link from v to its parent, c v its capacity; terminals are the sites marked 1

@@ -1,4 +1,6 @@
--- The arithmetic of whole circuits: an interval of loads, at a site and at the link to its parent.
+-- The arithmetic of whole circuits, with no tree in it: an interval of loads at a site and at the link to its parent, by cases and linear arithmetic.
+-- A, B: least and most that the children bring together; a, b: low and high of the link of capacity c; at, bt, yt: low, high and load of the child `top`;
+-- x: load of the link; Y: loads of the children together; K, M, S: what comes to the terminals below.
 use mathlib.Core.Path.{_≡_}
 use mathlib.Core.Logic.{_≢_}
 use Prim.Native.Nat.{ℕ, _+_, _*_, _-_, _%_, _≤_, _<_, min, max}

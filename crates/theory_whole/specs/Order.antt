@@ -6,7 +6,7 @@ use Prim.Native.Nat.{ℕ, suc, _≤_, _<_}
 use native.Mathlib.Omega.{arith}
 use native.Mathlib.Decide.{ℕ-discrete}
 use lib.ListN.{length}
-use Rattle.lists.specs.Numbers.{pick, is, count}
+use Rattle.lists.specs.Numbers.{pick, count}
 use Rattle.lists.specs.Sums.{pick-same, pick-other, is-same, is-other, same?}
 use Rattle.theory_whole.specs.Rooted.{Rooted, Child}
 

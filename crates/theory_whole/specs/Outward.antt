@@ -1,15 +1,15 @@
 -- The way outward: what is kept while the sites come one by one, parents first, and what holds of the loads and sets in the end; and all that the two
 -- ways find, as one solution. By an invariant: the load of a site's link is final when its parent has come.
 use mathlib.Core.Path.{_≡_, refl, sym, ap, _∙_}
-use mathlib.Core.Logic.{_≢_, _⊎_, inl, inr, ite, if-pos, if-neg}
+use mathlib.Core.Logic.{_≢_, inl, inr, ite, if-pos, if-neg}
 use mathlib.Core.List.{List, [], _∷_}
-use Prim.Native.Nat.{ℕ, _+_, _-_, _%_, _≤_, _<_, min}
+use Prim.Native.Nat.{ℕ, _+_, _-_, _%_, _≤_, min}
 use native.Mathlib.Omega.{arith}
 use native.Mathlib.Decide.{decLe, decLt}
 use Rattle.lists.specs.Numbers.{pick, is, count}
 use Rattle.lists.specs.Sums.{pick-same, pick-other, pick-cases, is-same, is-other, is-le, same?, cases}
 use Rattle.model.specs.WholeLoads.{put, onWay, ownerAt, Intervals, noIntervals, Loading, takeAll, topLoad, coming, give, giveAll}
-use Rattle.theory_whole.specs.Rooted.{Child, Rooted}
+use Rattle.theory_whole.specs.Rooted.{Child}
 use Rattle.theory_whole.specs.Order.{Taken, Plain, rooted, taken-home}
 use Rattle.theory_whole.specs.Loads.{Inwards, Outwards}
 use Rattle.theory_whole.specs.Sets.{Choice, path, Owners}

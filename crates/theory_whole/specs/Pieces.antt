@@ -1,4 +1,5 @@
--- Pieces: the sites in no set, joined by links of positive capacity. Each has a first site, seen from the root.
+-- Odd pieces are counted at their first sites, seen from the root: B and c there have the parity of the links that leave the piece. By adding up B over the
+-- sites of a piece: below a site in no set, the high b of a child has the parity of its B or of its c. Letters as in Loads.
 use mathlib.Core.Path.{_≡_, refl, sym, ap, _∙_}
 use mathlib.Core.Logic.{_≢_, _⊎_, inl, inr}
 use mathlib.Core.List.{List, [], _∷_}
@@ -67,9 +68,6 @@ module _ {us : List ℕ} {par pos : ℕ → ℕ} (R : Rooted us par pos) {c term
 
   pub rep-rep : (v : ℕ) → 1 ≤ count us v → rep (rep v) ≡ rep v
   rep-rep v p = firsts v p .first
-
-  pub rep-free : (v : ℕ) → 1 ≤ count us v → owner v ≡ 0 → owner (rep v) ≡ 0
-  rep-free v p = firsts v p .free
 
   -- ---- Lemma 9: below a site in no set, b has the parity of B, or of c
 
@@ -175,7 +173,7 @@ module _ {us : List ℕ} {par pos : ℕ → ℕ} (R : Rooted us par pos) {c term
         (λ y. y) in
         rw (i, out, is-other z, differ-same {u = 0} refl) (omega arith)))
 
-    pub leaving-odd : leaving us par c owner rep r % 2 ≡ (B r + c r) % 2
+    leaving-odd : leaving us par c owner rep r % 2 ≡ (B r + c r) % 2
     unfolding leaving children
     leaving-odd =
         let t1 : ℕ → ℕ = λ w. inside (par w) * b w in

@@ -3,10 +3,10 @@
 use mathlib.Core.Path.{_≡_, refl, ap}
 use mathlib.Core.Logic.{_≢_}
 use mathlib.Core.List.{List, [], _∷_}
-use Prim.Native.Nat.{ℕ, _+_, _*_, _/_, _%_, _≤_, _<_}
+use Prim.Native.Nat.{ℕ, _+_, _*_, _/_, _%_, _≤_}
 use native.Mathlib.Omega.{arith}
 use lib.ListN.{length}
-use Rattle.lists.specs.Numbers.{sum, Each}
+use Rattle.lists.specs.Numbers.{Each}
 use Rattle.lists.specs.Sums.{is-other, same?, differ-triangle, differ-comm, sum-add}
 use Rattle.model.specs.Flows.{Links, Site, Tree, Multiflow, at, sumAt, side, separates, load, total, atTerminals}
 use Rattle.model.specs.Whole.{Even, WholePlan, WholeLoads}
@@ -98,7 +98,8 @@ module _ {ls : Links} {n : ℕ} (T : Tree ls n) (terminal : ℕ → ℕ) where
       let r = h .0 in
       let x = e .first in
       let y = e .second in
-      even-sum (e .amount) (sumAt ls v (λ i. separates ls i x y)) (sumAt ls v (load ls es)) (sumAt-linear ls v (e .amount) (λ i. separates ls i x y) (load ls es))
+      even-sum (e .amount) (sumAt ls v (λ i. separates ls i x y)) (sumAt ls v (load ls es))
+      (sumAt-linear ls v (e .amount) (λ i. separates ls i x y) (load ls es))
       (even-cut v x y p (r .first-site) (r .second-site) (λ q. m (rw q at (r .first-terminal))) (λ q. m (rw q at (r .second-terminal))))
       (even-load v p m es (h .1))
 

@@ -3,7 +3,7 @@
 use mathlib.Core.Path.{_≡_, refl, sym, ap, _∙_}
 use mathlib.Core.Logic.{_≢_, _⊎_, inl, inr}
 use mathlib.Core.List.{List, [], _∷_}
-use Prim.Native.Nat.{ℕ, _+_, _*_, _/_, _%_, _≤_, _<_}
+use Prim.Native.Nat.{ℕ, _+_, _*_, _/_, _≤_, _<_}
 use native.Mathlib.Omega.{arith}
 use lib.ListN.{length}
 use Rattle.lists.specs.Numbers.{is, sum, count, over}
@@ -79,7 +79,8 @@ module _ {ls : Links} {n : ℕ} {terminal : ℕ → ℕ} {order : List ℕ} (N :
 
   -- the parent link of v, if it has one
   pub one-above : (v : ℕ) → 1 ≤ count order v
-      → ((par v ≡ 0) × ((f : ℕ → ℕ) → up f v ≡ 0)) ⊎ ((e : ℕ) × (e < length ls) × (at ls v e ≡ 1) × (at ls (par v) e ≡ 1) × (par v ≢ 0) × ((f : ℕ → ℕ) → up f v ≡ f e))
+      → ((par v ≡ 0) × ((f : ℕ → ℕ) → up f v ≡ 0))
+      ⊎ ((e : ℕ) × (e < length ls) × (at ls v e ≡ 1) × (at ls (par v) e ≡ 1) × (par v ≢ 0) × ((f : ℕ → ℕ) → up f v ≡ f e))
   unfolding parentOf
   one-above v p = look (above ls (loopless (N .tree)) order (N .inward) v p)
     where

@@ -1,15 +1,17 @@
--- Disjoint sets, one for each terminal, whose sizes less the odd pieces are what the loads bring to the terminals.
+-- Disjoint sets, one for each terminal, whose sizes less the odd pieces are what the loads bring to the terminals. By adding up, children first, what the
+-- links below a site leave of sets: three cases by how the set of the parent goes on. Letters as in Loads; goal: where the children `top` lead.
 use mathlib.Core.Path.{_≡_, refl, sym, ap, _∙_}
 use mathlib.Core.Logic.{_≢_, _⊎_, inl, inr}
-use mathlib.Core.List.{List, [], _∷_}
-use Prim.Native.Nat.{ℕ, _+_, _*_, _%_, _≤_, _<_}
+use mathlib.Core.List.{List}
+use Prim.Native.Nat.{ℕ, _+_, _*_, _≤_, _<_}
 use native.Mathlib.Omega.{arith}
 use Rattle.lists.specs.Numbers.{pick, is, differ, count, over}
 use Rattle.lists.specs.Sums.{pick-same, pick-other, pick-cases, is-same, is-other, is-le, is-iff, same?, differ-same, differ-other}
 use Rattle.lists.specs.Places.{over-add, over-mul, over-eq, over-is}
 use Rattle.theory_whole.specs.Numbers.{interval-whole, interval-closed, interval-site, free-up, free-zero, free-more}
 use Rattle.theory_whole.specs.Sums.{over-none, turn}
-use Rattle.theory_whole.specs.Rooted.{children, Child, children-add, children-eq, children-eq-but, tree-sum, Rooted, children-first, parent-first, gather}
+use Rattle.theory_whole.specs.Rooted.{children, Child, children-add, children-eq, children-eq-but}
+use Rattle.theory_whole.specs.Rooted.{tree-sum, Rooted, children-first, parent-first, gather}
 use Rattle.theory_whole.specs.Counting.{oddAt, odd-owned, odd-up, odd-zero, odd-more}
 use Rattle.theory_whole.specs.Loads.{Inwards, Outwards, Bases, fine, top-le, atEnds, bases, reached}
 

@@ -1,5 +1,4 @@
--- Everything that the algorithm finds, and the theorem about it. A program, or another definition, shows the equations of the
--- four records for its own arrays; nothing else of it matters.
+-- All that the two ways along the order find, and what holds of it: nothing matters but the equations of four records. Letters as in Loads.
 use mathlib.Core.Path.{_≡_}
 use mathlib.Core.Logic.{_⊎_, inl}
 use mathlib.Core.List.{List}

@@ -57,7 +57,8 @@ turn [] vs g = sym (over-none vs)
 turn (u ∷ us) vs g = omega (arith, turn us vs g, over-add vs (g u) (λ y. over us (λ x. g x y)))
 
 -- lists with the same sites have the same sums
-pub over-same : (us vs : List ℕ) (f : ℕ → ℕ) → ((x : ℕ) → 1 ≤ count us x → count vs x ≡ 1) → ((x : ℕ) → 1 ≤ count vs x → count us x ≡ 1) → over us f ≡ over vs f
+pub over-same : (us vs : List ℕ) (f : ℕ → ℕ) → ((x : ℕ) → 1 ≤ count us x → count vs x ≡ 1) → ((x : ℕ) → 1 ≤ count vs x → count us x ≡ 1)
+    → over us f ≡ over vs f
 over-same us vs f h k =
     over-eq us f (λ x. over vs (λ y. is y x * f x)) (λ x p. omega (arith, over-is vs x (λ y. f x), ap (λ z. z * f x) (h x p)))
     ∙ turn us vs (λ x y. is y x * f x)
