@@ -1,13 +1,13 @@
 -- Owners that agree at the sites have the same sets and the same pieces: every definition asks for the owner of a site of the network alone.
-use mathlib.Core.Path.{_≡_, refl, sym, ap}
+use mathlib.Core.Path.{_≡_, refl, ap}
 use mathlib.Core.List.{[], _∷_}
-use Prim.Native.Nat.{ℕ, zero, suc, _*_, _%_, _<_}
+use Prim.Native.Nat.{ℕ, suc, _*_, _%_, _<_}
 use native.Mathlib.Omega.{arith}
 use lib.ListN.{length}
 use Rattle.lists.specs.Numbers.{is, differ}
 use Rattle.model.specs.Flows.{Links, Site, Tree, sites, one, two, label}
 use Rattle.model.specs.Cuts.{kept}
-use Rattle.model.specs.Whole.{setSize, setCount, setSizes, connects, piece, inPiece, leavingPiece, oddPieces}
+use Rattle.model.specs.Whole.{setSize, connects, piece, inPiece, leavingPiece, oddPieces}
 use Rattle.lists.specs.Sums.{sum-eq}
 use Rattle.lists.specs.Places.{over-eq}
 use Rattle.theory_trees.specs.Sites.{sites-site}
@@ -30,10 +30,6 @@ module _ {ls : Links} {n : ℕ} (T : Tree ls n) (c own told : ℕ → ℕ) (agre
       (λ j. differ (is (own (one ls j)) a) (is (own (two ls j)) a) * c j)
       (λ j l. rw (at-one j l, at-two j l))
 
-  pub set-counts-agree : (a : ℕ) → setCount n told a ≡ setCount n own a
-  unfolding setCount
-  set-counts-agree a = over-eq (sites n) (λ x. is (told x) a) (λ x. is (own x) a) (λ x q. rw (agree x (sites-site n x q)))
-
   connections-agree : (j : ℕ) → j < length ls → connects ls c told j ≡ connects ls c own j
   unfolding connects
   connections-agree j l = rw (at-one j l, at-two j l)
@@ -54,5 +50,6 @@ module _ {ls : Links} {n : ℕ} (T : Tree ls n) (c own told : ℕ → ℕ) (agre
 
   pub odd-pieces-agree : oddPieces ls n c told ≡ oddPieces ls n c own
   unfolding oddPieces
-  odd-pieces-agree = over-eq (sites n) (λ p. inPiece ls c told p p * (leavingPiece ls c told p % 2)) (λ p. inPiece ls c own p p * (leavingPiece ls c own p % 2))
+  odd-pieces-agree = over-eq (sites n) (λ p. inPiece ls c told p p * (leavingPiece ls c told p % 2))
+      (λ p. inPiece ls c own p p * (leavingPiece ls c own p % 2))
       (λ p q. rw (members-agree p p (sites-site n p q), leaving-agrees p))

@@ -118,7 +118,8 @@ module _ (ed : Edition) (s b : List ℕ) (net : Network) (read : readSheet ed s 
   pub demand-3 : Demand3 net (printedBy s net (planned ed s b))
   demand-3 = rw (the-plan-is-printed ed s b net read success) (plan-meets-demand-3 (an-accepted-sheet-is-a-tree ed s net read))
 
-the-report-is-full-and-fits : (s : List ℕ) (net : Network) → readSheet edition1 s ≡ accepted net → IsReport edition1 s (report s net) × (length (report s net) ≤ REPORT)
+the-report-is-full-and-fits : (s : List ℕ) (net : Network) → readSheet edition1 s ≡ accepted net
+    → IsReport edition1 s (report s net) × (length (report s net) ≤ REPORT)
 the-report-is-full-and-fits s net read = (the-report-is-full edition1 s net read, a-report-fits-65536-bytes s net read)
 
 -- with a buffer of REPORT bytes or more: the program prints the full report of a sheet, or the line of its refusal for its cause, and never 9

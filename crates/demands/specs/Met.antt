@@ -31,7 +31,8 @@ use Rattle.demands.specs.Lists.{map-own}
 use Rattle.demands.specs.Plans.{multiflow-is-plan, plan-is-multiflow, fullPlan, trimmed-is-greatest, full-plan-is-sound, full-plan-fits}
 use Rattle.demands.specs.Records.{refusal-line, refusal-fields, refusal-number, refusal-at}
 use Rattle.demands.specs.ReadBack.{figuresSay, planSays, report-read-back}
-use Rattle.demands.specs.Sets.{setBy, TellsSets, sizes-summed, told-sets-are-owned, owners-tell-the-cuts, cut-sizes-are-set-sizes, cut-counts-are-set-counts}
+use Rattle.demands.specs.Sets.{setBy, TellsSets, sizes-summed, told-sets-are-owned, owners-tell-the-cuts}
+use Rattle.demands.specs.Sets.{cut-sizes-are-set-sizes, cut-counts-are-set-counts}
 use Rattle.demands.specs.Sets.{an-owner-is-told-for-each-site, owners-are-told-or-dashes, a-dash-tells-no-owner, a-dash-tells-that-no-cut-holds-the-site}
 use Rattle.demands.specs.Refusals.{sheets-are-refused-with-a-sheet-number, sheets-are-refused-at-a-line-within-the-limit}
 use Rattle.demands.specs.Outcomes.{sheet-refused, report-too-long, report-delivered, the-report-is-told}

@@ -85,13 +85,17 @@ pub record TellsSets (ls : Links) (n : ℕ) (terminal c : ℕ → ℕ) (f : Figu
   pub counted : (a : ℕ) → Site n a → terminal a ≡ 1 → f .count a ≡ setCount n (f .owner) a
 
 module _ {ls : Links} {n : ℕ} (T : Tree ls n) (terminal c : ℕ → ℕ) (f : Figures) (tells : TellsSets ls n terminal c f) where
+  -- the owner told for a site
+  abbrev told : ℕ → ℕ
+  told v = look (owners n (f .owner)) (v - 1)
+
   -- the sets told are those of the owners told
-  pub told-sets-are-owned : Each (λ x. (x .size ≡ setSize ls c (λ v. look (owners n (f .owner)) (v - 1)) (x .end)) × (x .count ≡ count (owners n (f .owner)) (x .end)))
+  pub told-sets-are-owned : Each (λ x. (x .size ≡ setSize ls c told (x .end)) × (x .count ≡ count (owners n (f .owner)) (x .end)))
       (map (setBy f) (endsAmong terminal (sites n)))
   unfolding setCount
   told-sets-are-owned = each-mapped _ (setBy f) (endsAmong terminal (sites n)) (each-end terminal _ (sites n)
       (each-site _ n (λ a p e. (
-        tells .sized a p e ∙ sym (set-sizes-agree T c (f .owner) (λ v. look (owners n (f .owner)) (v - 1)) (the-owner-told-is-the-owner n (f .owner)) a),
+        tells .sized a p e ∙ sym (set-sizes-agree T c (f .owner) told (the-owner-told-is-the-owner n (f .owner)) a),
         tells .counted a p e ∙ sym (count-mapped (f .owner) (sites n) a),
       ))))
 

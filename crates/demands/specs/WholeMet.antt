@@ -2,23 +2,20 @@
 use mathlib.Core.Path.{_≡_, refl, sym, ap, _∙_}
 use mathlib.Core.List.{List, [], _∷_, map}
 use Prim.Native.Nat.{ℕ, _+_, _-_, _≤_}
-use native.Mathlib.Omega.{arith}
-use lib.ListN.{length}
 use Rattle.lists.specs.Numbers.{look}
-use Rattle.model.specs.Flows.{Links, Site, Tree, sites, leaf, total}
-use Rattle.model.specs.Text.{bytes}
+use Rattle.model.specs.Flows.{Links, Site, Tree, sites, total}
 use Rattle.model.specs.Whole.{WholePlan, EndSets, setSizes, oddPieces}
 use Rattle.model.specs.declared.Edition.{Edition}
 use Rattle.model.specs.declared.Pair.{Pair}
 use Rattle.theory_trees.specs.Ends.{ends-are-outer, an-end-is-a-leaf}
 use Rattle.theory_whole.specs.Circuits.{PairsWhole, the-pairs-of-whole-loads}
+use Rattle.theory_whole.specs.Duality.{no-sets-do-better}
 use Rattle.sheet.specs.Sheet.{Network, accepted, readSheet}
 use Rattle.sheet.specs.SheetTheorem.{IsNetwork, an-accepted-sheet-is-a-tree}
 use Rattle.report.specs.Report.{wholeReport}
 use Rattle.planner.specs.Figures.{wholes, pairsBy, the-whole-report-shows-wholes}
 use Rattle.planner.specs.WholeFigures.{wholes-are-largest, wholes-can-be-shown}
 use Rattle.demands.specs.Printed.{siteCount, isEnd, endsAmong, Printed, readReport, sizeSum}
-use Rattle.demands.specs.Asked.{ShowsSheet, InOrder}
 use Rattle.demands.specs.AskedWhole.{FittingWhole, LargestPlan, PrintedSets, IsWholeReport}
 use Rattle.demands.specs.Agree.{odd-pieces-agree}
 use Rattle.demands.specs.Plans.{multiflow-is-plan, plan-is-multiflow}
@@ -33,10 +30,6 @@ wholeSays net = figuresSay net (wholes net)
 pub whole-report-read-back : {ed : Edition} {s : List ℕ} {net : Network} → IsNetwork ed s net → readReport s net (wholeReport s net) ≡ wholeSays net
 whole-report-read-back {ed} {s} {net} N = ap (readReport s net) (the-whole-report-shows-wholes net s)
     ∙ figures-read-back N (wholes net) (wholes-can-be-shown net (N .tree))
-
-no-sets-do-better : {ls : Links} {n : ℕ} → Tree ls n → (terminal : ℕ → ℕ) → ((v : ℕ) → Site n v → leaf ls v ≡ 1 → terminal v ≡ 1) → (c owner : ℕ → ℕ)
-    → EndSets n terminal owner → (es : List Pair) → WholePlan ls n terminal c es → total es + oddPieces ls n c owner ≤ setSizes ls n terminal c owner
-no-sets-do-better = ?
 
 module _ (net : Network) (T : Tree (net .links) (siteCount net)) where
   abbrev ls : Links
@@ -67,13 +60,16 @@ module _ (net : Network) (T : Tree (net .links) (siteCount net)) where
   no-whole-plan-passes-any-sets owner sets fs h = no-sets-do-better T end (λ v p e. an-end-is-a-leaf T v ∙ e) c owner sets fs (fitting-is-whole fs h)
 
   -- the pairs of the loads taken
-  pairs : PairsWhole ls n end c (look (wholes net .shown)) own (pairsBy net (wholes net))
+  abbrev taken : List Pair
+  taken = pairsBy net (wholes net)
+
+  pairs : PairsWhole ls n end c (look (wholes net .shown)) own taken
   pairs = the-pairs-of-whole-loads T (ends-are-outer T) (wholes-are-largest net T)
 
   pub whole-has-a-largest-plan : LargestPlan net (wholeSays net)
   unfolding figuresSay
   whole-has-a-largest-plan = record {
-    printed-plan = whole-is-fitting (pairsBy net (wholes net)) (pairs .plan);
+    printed-plan = whole-is-fitting taken (pairs .plan);
     reached = refl;
     largest = λ fs h. pairs .largest fs (fitting-is-whole fs h);
     loaded = pairs .sound .loads;
@@ -93,13 +89,13 @@ module _ (net : Network) (T : Tree (net .links) (siteCount net)) where
 
   told-sets : EndSets n end told
   told-sets =
-      let taken = wholes-are-largest net T .sets in
+      let sets = wholes-are-largest net T .sets in
       record {
-        own = λ a p e. told-is-own a p ∙ taken .own a p e;
-        owned = λ x q. rw (told-is-own x q) (taken .owned x q);
+        own = λ a p e. told-is-own a p ∙ sets .own a p e;
+        owned = λ x q. rw (told-is-own x q) (sets .owned x q);
       }
 
-  sizes-less-pieces : sizeSum (map (setBy (wholes net)) (endsAmong end (sites n))) ≡ total (pairsBy net (wholes net)) + oddPieces ls n c own
+  sizes-less-pieces : sizeSum (map (setBy (wholes net)) (endsAmong end (sites n))) ≡ total taken + oddPieces ls n c own
   unfolding setSizes
   sizes-less-pieces = sizes-summed end (setBy (wholes net)) (sites n) ∙ pairs .sizes
 
@@ -111,7 +107,7 @@ module _ (net : Network) (T : Tree (net .links) (siteCount net)) where
     size-of-each-set = told-sets-are-owned T end c (wholes net) (record { sized = λ a p e. refl; counted = λ a p e. refl });
     one-line-of-pieces = ap (λ k. k ∷ []) (sym (odd-pieces-agree T c own told told-is-own));
     sizes-less-pieces = sizes-less-pieces;
-    no-sets-do-better = λ owner sets. no-whole-plan-passes-any-sets owner sets (pairsBy net (wholes net)) (whole-is-fitting (pairsBy net (wholes net)) (pairs .plan));
+    no-sets-do-better = λ owner sets. no-whole-plan-passes-any-sets owner sets taken (whole-is-fitting taken (pairs .plan));
   }
 
 pub the-whole-report-is-full : (ed : Edition) (s : List ℕ) (net : Network) → readSheet ed s ≡ accepted net → IsWholeReport ed s (wholeReport s net)

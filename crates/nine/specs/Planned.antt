@@ -29,8 +29,8 @@ unfoldable pub expected : Example → Planned
 expected e = record { outcome = Report (length (e .report)); buffer = e .report }
 
 nine-sheets : map (plannedFor report) sheets ≡ map expected sheets
-unfolding plannedFor expected plannedBy planRead deliver ℕ-discrete decLe decLt pick is differ less sum over count upfrom at sumAt leaf ends relabel label joined
-    total cutAt cutSite cutSites unvisited first remove taken elimination balancedAlong balanced kept group inCut cutSize cutCount ownerAmong owner put
+unfolding plannedFor expected plannedBy planRead deliver ℕ-discrete decLe decLt pick is differ less sum over count upfrom at sumAt leaf ends relabel label
+    joined total cutAt cutSite cutSites unvisited first remove taken elimination balancedAlong balanced kept group inCut cutSize cutCount ownerAmong owner put
     takeHalves dropHalves halves give match joins between children gather alone settle walk pairsFrom lowestInner pairs lowerFirst before insert ordered
     pairList lineLength lineAt afterLine hasLine same push fields all isName isNumber valueFrom isHeading checkedFields checked faultOf judged
     sheetSite sizedLink sheetLink kindOf kind lookupFrom siteStep linkStep headingStep recordStep stepOf readLine andThen readLines allJoined

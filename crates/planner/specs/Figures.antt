@@ -1,6 +1,6 @@
 -- The figures that a report shows of a network, and the plan that shows them: `planOf` shows the figures in halves, `wholeOf` those in whole circuits.
 -- What holds of figures that can be shown is shown once, for both reports.
-use mathlib.Core.Path.{_≡_, refl, ap}
+use mathlib.Core.Path.{_≡_, refl}
 use mathlib.Core.Logic.{_⊎_, inl, inr}
 use mathlib.Core.List.{List, [], _∷_, map, append-nil}
 use Prim.Native.Nat.{ℕ, _-_, _*_, _≤_}
@@ -28,7 +28,8 @@ use Rattle.report.specs.Report.{Plan, lines, oddLine, planOf, wholeOf, reportOf
 
 -- ---- figures
 
--- the heading; a size for each link; of each site the end whose set holds it, or 0; of each end the size and the count of its set; the numbers of the `Q` lines
+-- the heading; a size for each link; of each site the end whose set holds it, or 0; of each end the size and the count of its set;
+-- the numbers of the `Q` lines
 pub record Figures : Type 0 where
   pub word : List ℕ
   pub shown : List ℕ

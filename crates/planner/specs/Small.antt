@@ -104,18 +104,9 @@ module _ {s : List ℕ} {net : Network} (N : IsNetwork edition1 s net) where
     pub figures-are-small : length (reportOf (planShowing net s f)) ≤ REPORT
     figures-are-small = a-small-plan-has-a-small-report (planShowing net s f) plan-is-small
 
-  -- ---- in halves
-
-  pub pairs-are-sound : Sound ls n (terminal net) (look (halves net .shown)) (pairsBy net (halves net))
-  pairs-are-sound = pairs-shown-are-sound (halves net) (halves-can-be-shown net (N .tree))
-
-  pub total-within : total (pairsBy net (halves net)) ≤ 2 * (LINKS * SIZE)
-  total-within = total-shown-within (halves net) (halves-can-be-shown net (N .tree))
-
+  -- in halves, and in whole circuits
   pub a-report-is-small : length (report s net) ≤ REPORT
   a-report-is-small = rw (the-report-shows-halves net s) (figures-are-small (halves net) (halves-can-be-shown net (N .tree)))
-
-  -- ---- in whole circuits
 
   pub a-whole-report-is-small : length (wholeReport s net) ≤ REPORT
   a-whole-report-is-small = rw (the-whole-report-shows-wholes net s) (figures-are-small (wholes net) (wholes-can-be-shown net (N .tree)))

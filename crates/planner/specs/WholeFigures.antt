@@ -6,8 +6,8 @@ use native.Mathlib.Omega.{arith}
 use native.Mathlib.Nat.{mul-le-mul-right}
 use native.Mathlib.Decide.{decLt}
 use lib.ListN.{length, length-map, List·getD-eq-default}
-use Rattle.lists.specs.Numbers.{is, over, upfrom, look}
-use Rattle.model.specs.Flows.{Links, Site, Tree, leaf}
+use Rattle.lists.specs.Numbers.{is, upfrom, look}
+use Rattle.model.specs.Flows.{Links, Tree}
 use Rattle.model.specs.Trimming.{unvisited, elimination}
 use Rattle.model.specs.Whole.{LargestWhole, setSize, setCount, piece, inPiece, leavingPiece, oddPieces}
 use Rattle.model.specs.WholeLoads.{from, upward, linkLoad, loading, wholeLoad, wholeLoads, wholeOwner}

@@ -36,12 +36,12 @@ enum-known-outcome c = search needs
 array-share-prefix-printed : tie.Need-array-share-prefix-printed
 array-share-prefix-printed c =
     let p = c .before .before .before .before .plan .ensures in
-    rw (p .1) (a-report-is-within-the-buffer _ _ _ (sym (p .0) ∙ c .before .outcome .given .1))
+    rw (p .1) (a-report-is-within-the-buffer _ _ _ _ (sym (p .0) ∙ c .before .outcome .given .1))
 
 slice-aggregate-write : tie.Need-slice-aggregate-write
 slice-aggregate-write c =
     let p = c .before .before .before .before .before .plan .ensures in
-    sym (length-take-le _ _ (rw (p .1) (a-report-is-within-the-buffer _ _ _ (sym (p .0) ∙ c .before .before .outcome .given .1))))
+    sym (length-take-le _ _ (rw (p .1) (a-report-is-within-the-buffer _ _ _ _ (sym (p .0) ∙ c .before .before .outcome .given .1))))
 
 write-requires : tie.Need-write-requires
 write-requires c κs = search needs
