@@ -5,22 +5,20 @@ use Prim.Native.Nat.{ℕ, suc, _+_, _≤_, _<_}
 use native.Mathlib.Omega.{arith}
 use lib.ListN.{length, take, length-map}
 use Rattle.model.specs.Limits.{SITES}
-use Rattle.model.specs.Edition.{edition1, largest}
+use Rattle.model.specs.Edition.{edition1}
 use Rattle.lists.specs.Numbers.{look, upfrom}
-use Rattle.lists.specs.Places.{length-upfrom, look-values}
-use Rattle.model.specs.Flows.{Links, ends}
-use Rattle.model.specs.Trimming.{Balanced}
+use Rattle.lists.specs.Places.{length-upfrom}
+use Rattle.model.specs.Flows.{Links, Site, leaf, ends}
 use Rattle.model.specs.Pairing.{pairList}
 use Rattle.model.specs.Text.{bytes}
-use Rattle.model.specs.Whole.{setSize, setCount, oddPieces}
-use Rattle.model.specs.WholeLoads.{wholeLoads, wholeOwner}
+use Rattle.model.specs.Whole.{LargestWhole, setSize, setCount, oddPieces}
+use Rattle.model.specs.WholeLoads.{wholeLoad, wholeLoads, wholeOwner}
 use Rattle.model.specs.declared.Pair.{Pair}
 use Rattle.model.specs.declared.Pairs.{Pairs}
 use Rattle.theory_trees.specs.Leaves.{Outer}
-use Rattle.theory_trees.specs.Ends.{ends-are-outer}
+use Rattle.theory_trees.specs.Ends.{an-end-is-a-leaf, ends-are-outer}
 use Rattle.tree.specs.Offer.{links}
 use Rattle.tree.specs.Links.{length-links}
-use Rattle.tree.specs.Accepted.{TreeWithin}
 use Rattle.cuts_groups.specs.Places.{ofTerminal, length-places}
 use Rattle.cuts_groups.specs.Steps.{setsOf}
 use Rattle.cuts_groups.specs.declared.Owned.{Owned}
@@ -30,9 +28,9 @@ use Rattle.sheet.specs.SheetTheorem.{IsNetwork}
 use Rattle.report.specs.Report.{lines, oddLine, wholeReport}
 use Rattle.report.specs.Shown.{shownBy}
 use Rattle.planner.specs.Figures.{terminal, wholes, pairsBy, the-whole-report-shows-wholes}
-use Rattle.planner.specs.WholeFigures.{wholes-can-be-shown}
+use Rattle.planner.specs.WholeFigures.{wholes-are-largest, wholes-can-be-shown}
 use Rattle.planner.specs.Shows.{Works}
-use Rattle.planner.specs.Taken.{the-network-is-given, the-links-are-the-networks}
+use Rattle.planner.specs.Taken.{the-network-is-given, the-links-are-the-networks, the-network-is-a-tree-within}
 use Rattle.planner.specs.Ready.{TakenApart, Charted, ReadyBy}
 use Rattle.planner.specs.Works.{place, terminal-place, figures-are-ready}
 
@@ -90,3 +88,48 @@ whole-circuits-are-ready {s} {starting} {stopping} {n} {one} {two} {c} a shown m
     (sets-have-places (a .net .links) (length (a .net .names)) (terminal (a .net)) (look (a .net .capacities))
     (wholeOwner (a .net .links) (length (a .net .names)) (terminal (a .net)) (look (a .net .capacities))) (N .few) cuts cut)
     held (the-whole-report-shows-wholes (a .net) s) (a .read)))
+
+-- ---- from what the inner functions promise
+
+module _ {s starting stopping : List ℕ} {n : ℕ} {one two c : List ℕ} (a : TakenApart s starting stopping n one two c)
+    {order marks last before : List ℕ} (chart : Charted n one two order marks last before) where
+  abbrev ls : Links
+  ls = links one two
+
+  pub every-leaf-is-marked : (v : ℕ) → Site n v → leaf ls v ≡ 1 → look marks v ≡ 1
+  every-leaf-is-marked v p e = ap (λ (f : ℕ → ℕ). f v) (chart .marked) ∙ an-end-is-a-leaf (the-network-is-a-tree-within a .tree) v ∙ e
+
+  -- all that Card 2 says holds of the loads and the sets taken
+  pub the-largest-are-taken : (loads : List ℕ) → loads ≡ wholeLoads ls n (look marks) (look c)
+      → LargestWhole ls n (look marks) (look c) (look loads) (wholeOwner ls n (look marks) (look c))
+  the-largest-are-taken loads e =
+      let N = the-network-is-given a in
+      let l = the-links-are-the-networks a in
+      let told : look marks ≡ terminal (a .net) = rw (l, a .counted) at (chart .marked) in
+      rw (e, l, told, a .counted, a .sizes) (wholes-are-largest (a .net) (N .tree))
+
+  -- the loads can be walked: there is one for each link, they are within the limits, and no inner site has a heavy link
+  pub whole-loads-can-be-walked : (loads : List ℕ) → loads ≡ wholeLoads ls n (look marks) (look c)
+      → (length loads ≡ length one) × Walkable n marks last before one two loads
+  unfolding wholeLoads
+  whole-loads-can-be-walked loads e =
+      let w = the-network-is-a-tree-within a in
+      let taken = the-largest-are-taken loads e in
+      let all = length-links one two (omega (arith, w .firsts, w .seconds)) in
+      let each : length loads ≡ length one =
+      ap length e ∙ length-map (upfrom 0 (length ls)) (wholeLoad ls n (look marks) (look c)) ∙ length-upfrom 0 (length ls) ∙ all in (
+        each,
+        record {
+          tree = record {
+            tree = w .tree;
+            few = w .few;
+            firsts = w .firsts;
+            seconds = w .seconds;
+            capacities = omega (arith, each, w .firsts);
+            limited = λ j h. omega (arith, taken .loads .below j (omega (arith, each, all)), w .limited j (omega (arith, each, w .firsts, w .capacities)));
+          };
+          chained = chart .chained;
+          outer = subst (Outer ls n) (sym (chart .marked)) (ends-are-outer (w .tree));
+          balanced = taken .loads .balanced;
+        },
+      )

@@ -11,7 +11,7 @@ ghost use Rattle.model.specs.declared.Pair.{Pair};
 ghost use Rattle.text_writers.specs.Fields.{begun};
 ghost use Rattle.text_writers.specs.Wrote.{Wrote, Room};
 ghost use Rattle.report.specs.Report.{lines, headRecord, linkRecord, linkLine, siteRecord, siteLine, cutRecord, cutLine, pairLine, reportOf};
-ghost use Rattle.report.specs.Report.{refusalLine};
+ghost use Rattle.report.specs.Report.{oddLine, refusalLine};
 ghost use Rattle.report.specs.Shown.{nameBy, shownBy, Named, AllNamed, Links, Owners, Paired, CanWrite};
 use model::PLACES;
 use model::Pair;
@@ -353,4 +353,12 @@ pub fn write_refusal(number: u64, line: usize, buf: &mut [u8]) -> usize
 {
     let word = put_bytes(buf, 0, b"refused", 9);
     put_numbers(buf, word, number, line as u64)
+}
+
+// The line `Q` with the count of odd pieces, from the start of the buffer, and its length.
+pub fn write_odd(count: usize, buf: &mut [u8]) -> usize
+    ensures { λ r. ⌜ Wrote (now (buf .entry)) 0 (oddLine count) (now (buf .exit)) r × (r ≤ 23) ⌝ }
+{
+    let next = put_letter(buf, 0, b'Q', 9);
+    put_number(buf, next, count as u64, 10)
 }
