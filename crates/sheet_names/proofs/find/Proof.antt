@@ -38,8 +38,10 @@ starts-there c =
     rw (hash-is c) (omega (arith, from .within, length-ranges (a .starts .now) (a .ends .now) 0 (a .sites)), from)
 
 -- what the test says: whether the site has the name
-tested : (c : tie.After-same Inv-loop μ-loop) → let top = c .before .before .before .before .before in let a = top .before .before .before .before .before .args in
-    c .same .result ≡ same (nameAt (a .sheet .now) (ranges (a .starts .now) (a .ends .now) 0 (a .sites)) (top .loop .site - 1)) (part (a .sheet .now) (a .start, a .end))
+tested : (c : tie.After-same Inv-loop μ-loop) → let top = c .before .before .before .before .before in
+    let a = top .before .before .before .before .before .args in
+    c .same .result
+    ≡ same (nameAt (a .sheet .now) (ranges (a .starts .now) (a .ends .now) 0 (a .sites)) (top .loop .site - 1)) (part (a .sheet .now) (a .start, a .end))
 tested c =
     let top = c .before .before .before .before .before in
     let a = top .before .before .before .before .before .args in
@@ -52,7 +54,8 @@ next : (c : tie.After-site2 Inv-loop μ-loop) → let top = c .before .before .b
 next c =
     let top = c .before .before .before .before .before .before .before in
     let start = top .before .before .before .before .before in
-    goes-back (start .pre .1) (part (start .args .sheet .now) (start .args .start, start .args .end)) (top .loop .site) (omega arith) (top .loop .inv .1 .within)
+    goes-back (start .pre .1) (part (start .args .sheet .now) (start .args .start, start .args .end)) (top .loop .site) (omega arith)
+    (top .loop .inv .1 .within)
 
 returns : tie.Need-returns Inv-loop μ-loop
 returns c =
