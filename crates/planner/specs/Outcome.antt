@@ -1,6 +1,6 @@
 -- The outcome of planning, for either report, every sheet and every buffer: number, line, length, and the buffer after.
 -- Document 01, the table of causes and the lines below it; 02, Card 2 (a second report).
-use mathlib.Core.Bool.{cond}
+use mathlib.Core.Bool.{Bool, true, false, cond}
 use mathlib.Core.List.{List, _++_}
 use Prim.Native.Nat.{ℕ}
 use lib.Dec.{leb}
@@ -56,6 +56,11 @@ planned = plannedBy report
 
 abbrev pub plannedWhole : Edition → List ℕ → List ℕ → Planned
 plannedWhole = plannedBy wholeReport
+
+-- the report that is asked for: in whole circuits, or in halves
+unfoldable pub reporter : Bool → Reporter
+reporter true = wholeReport
+reporter false = report
 
 -- ---- what the program prints
 

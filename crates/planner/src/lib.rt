@@ -6,7 +6,7 @@ ghost use Rattle.model.specs.Edition.{edition1};
 ghost use Rattle.tree_links.specs.Chains.{Chained};
 ghost use Rattle.report.specs.Report.{reportOf};
 ghost use Rattle.report.specs.Shown.{shownBy, CanWrite};
-ghost use Rattle.planner.specs.Outcome.{deliver, planned, answered};
+ghost use Rattle.planner.specs.Outcome.{deliver, reporter, plannedBy, planned, plannedWhole, answered};
 ghost use Rattle.planner.specs.Ready.{TakenApart, Ordered, Charted};
 ghost use Rattle.planner.specs.Taken.{Listed};
 ghost use Rattle.planner.specs.Fits.{fits};
@@ -193,8 +193,59 @@ fn plan_charted(
     )
 }
 
-// The lists of an accepted sheet, with the order and the chains of its tree, planned.
+// The lists of an accepted sheet, with the order, the ends and the chains of its tree, planned in whole circuits.
+fn whole_charted(
+    sheet: &[u8],
+    start: &[usize],
+    end: &[usize],
+    n: usize,
+    one: &[usize],
+    two: &[usize],
+    capacity: &[u64],
+    order: &[usize; SITES],
+    ends: &[u8; PLACES],
+    last: &[usize; PLACES],
+    before: &[usize; CHAINS],
+    report: &mut [u8],
+) -> Outcome
+    requires { ⌜ TakenApart (now sheet) (now start) (now end) n (now one) (now two) (now capacity)
+        × Charted n (now one) (now two) (now order) (now ends) (now last) (now before) ⌝ }
+    ensures told { λ r. ⌜ r ≡ plannedWhole edition1 (now (sheet .entry)) (now (report .entry)) .outcome ⌝ }
+    ensures left { λ r. ⌜ now (report .exit) ≡ plannedWhole edition1 (now (sheet .entry)) (now (report .entry)) .buffer ⌝ }
+{
+    let m = one.len();
+    let mut list = [0u64; SITES];
+    let mut labels = [0u16; PLACES];
+    let odd = whole_loads::solve(n, order, ends, one, two, capacity, &mut list, &mut labels);
+    let loads = &list[..m];
+    let sets = cuts_groups::sets_of(n, ends, one, two, capacity, &labels);
+    let made = pairing_walk::decompose(n, ends, last, before, one, two, loads);
+    let pairs = pairing_order::ordered(made);
+    let mut line = [0u8; 32];
+    let length = report::write_odd(odd, &mut line);
+    deliver(
+        b"whole",
+        &line[..length],
+        sheet,
+        start,
+        end,
+        n,
+        one,
+        two,
+        capacity,
+        loads,
+        ends,
+        &sets.owner,
+        &sets.size,
+        &sets.count,
+        pairs,
+        report,
+    )
+}
+
+// The lists of an accepted sheet, with the order and the chains of its tree, planned in whole circuits or in halves.
 fn plan_chained<'a>(
+    whole: bool,
     sheet: &[u8],
     start: &[usize],
     end: &[usize],
@@ -209,10 +260,26 @@ fn plan_chained<'a>(
 ) -> Outcome
     requires { ⌜ TakenApart (now sheet) (now start) (now end) n (now one) (now two) (now capacity)
         × Ordered n (now one) (now two) (now order) × Chained (now one) (now two) (now last) (now before) ⌝ }
-    ensures told { λ r. ⌜ r ≡ planned edition1 (now (sheet .entry)) (now (report .entry)) .outcome ⌝ }
-    ensures left { λ r. ⌜ now (report .exit) ≡ planned edition1 (now (sheet .entry)) (now (report .entry)) .buffer ⌝ }
+    ensures told { λ r. ⌜ r ≡ plannedBy (reporter whole) edition1 (now (sheet .entry)) (now (report .entry)) .outcome ⌝ }
+    ensures left { λ r. ⌜ now (report .exit) ≡ plannedBy (reporter whole) edition1 (now (sheet .entry)) (now (report .entry)) .buffer ⌝ }
 {
     let ends = tree_links::ends(n, last, before, one, two);
+    if whole {
+        return whole_charted(
+            sheet,
+            start,
+            end,
+            n,
+            one,
+            two,
+            capacity,
+            order,
+            &ends,
+            last,
+            before,
+            report,
+        );
+    }
     plan_charted(
         sheet,
         start,
@@ -229,8 +296,10 @@ fn plan_chained<'a>(
     )
 }
 
-// The lists of an accepted sheet, planned: its tree is tested once, and its chains and ends are made once.
+// The lists of an accepted sheet, planned in whole circuits or in halves: its tree is tested once, and its
+// chains and ends are made once.
 fn plan_lists(
+    whole: bool,
     sheet: &[u8],
     start: &[usize],
     end: &[usize],
@@ -241,12 +310,13 @@ fn plan_lists(
     report: &mut [u8],
 ) -> Outcome
     requires { ⌜ TakenApart (now sheet) (now start) (now end) n (now one) (now two) (now capacity) ⌝ }
-    ensures told { λ r. ⌜ r ≡ planned edition1 (now (sheet .entry)) (now (report .entry)) .outcome ⌝ }
-    ensures left { λ r. ⌜ now (report .exit) ≡ planned edition1 (now (sheet .entry)) (now (report .entry)) .buffer ⌝ }
+    ensures told { λ r. ⌜ r ≡ plannedBy (reporter whole) edition1 (now (sheet .entry)) (now (report .entry)) .outcome ⌝ }
+    ensures left { λ r. ⌜ now (report .exit) ≡ plannedBy (reporter whole) edition1 (now (sheet .entry)) (now (report .entry)) .buffer ⌝ }
 {
     let tree = tree::eliminate(n, one, two, capacity);
     let chains = tree_links::chain(one, two);
     plan_chained(
+        whole,
         sheet,
         start,
         end,
@@ -261,8 +331,9 @@ fn plan_lists(
     )
 }
 
-// The lists of an accepted sheet with m links, each list of links lent as far as there are links, planned.
+// The lists of an accepted sheet with m links, each list of links lent as far as there are links, planned in whole circuits or in halves.
 fn plan_parts<'a>(
+    whole: bool,
     sheet: &[u8],
     start: &'a [usize],
     end: &'a [usize],
@@ -275,10 +346,11 @@ fn plan_parts<'a>(
 ) -> Outcome
     requires { ⌜ TakenApart (now sheet) (now start) (now end) n (take m (now one)) (take m (now two)) (take m (now capacity))
         × (m ≤ length (now one)) × (m ≤ length (now two)) × (m ≤ length (now capacity)) ⌝ }
-    ensures told { λ r. ⌜ r ≡ planned edition1 (now (sheet .entry)) (now (report .entry)) .outcome ⌝ }
-    ensures left { λ r. ⌜ now (report .exit) ≡ planned edition1 (now (sheet .entry)) (now (report .entry)) .buffer ⌝ }
+    ensures told { λ r. ⌜ r ≡ plannedBy (reporter whole) edition1 (now (sheet .entry)) (now (report .entry)) .outcome ⌝ }
+    ensures left { λ r. ⌜ now (report .exit) ≡ plannedBy (reporter whole) edition1 (now (sheet .entry)) (now (report .entry)) .buffer ⌝ }
 {
     plan_lists(
+        whole,
         sheet,
         start,
         end,
@@ -290,15 +362,16 @@ fn plan_parts<'a>(
     )
 }
 
-// The network of an accepted sheet, taken apart and planned.
-fn plan_network(sheet: &[u8], network: Lists, report: &mut [u8]) -> Outcome
+// The network of an accepted sheet, taken apart and planned in whole circuits or in halves.
+fn plan_network(whole: bool, sheet: &[u8], network: Lists, report: &mut [u8]) -> Outcome
     requires { ⌜ Listed (now sheet) network ⌝ }
-    ensures told { λ r. ⌜ r ≡ planned edition1 (now (sheet .entry)) (now (report .entry)) .outcome ⌝ }
-    ensures left { λ r. ⌜ now (report .exit) ≡ planned edition1 (now (sheet .entry)) (now (report .entry)) .buffer ⌝ }
+    ensures told { λ r. ⌜ r ≡ plannedBy (reporter whole) edition1 (now (sheet .entry)) (now (report .entry)) .outcome ⌝ }
+    ensures left { λ r. ⌜ now (report .exit) ≡ plannedBy (reporter whole) edition1 (now (sheet .entry)) (now (report .entry)) .buffer ⌝ }
 {
     let n = network.sites;
     let m = network.links;
     plan_parts(
+        whole,
         sheet,
         &network.start,
         &network.end,
@@ -311,17 +384,33 @@ fn plan_network(sheet: &[u8], network: Lists, report: &mut [u8]) -> Outcome
     )
 }
 
-// Plans a sheet: writes its report into the buffer and tells its length, or refuses the sheet and leaves the buffer as it was.
-pub fn plan(sheet: &[u8], report: &mut [u8]) -> Outcome
-    ensures told { λ r. ⌜ r ≡ planned edition1 (now (sheet .entry)) (now (report .entry)) .outcome ⌝ }
-    ensures left { λ r. ⌜ now (report .exit) ≡ planned edition1 (now (sheet .entry)) (now (report .entry)) .buffer ⌝ }
+// Plans a sheet in whole circuits or in halves: writes that report into the buffer and tells its length, or refuses the sheet and leaves the buffer as it was.
+pub fn report_on(whole: bool, sheet: &[u8], report: &mut [u8]) -> Outcome
+    ensures told { λ r. ⌜ r ≡ plannedBy (reporter whole) edition1 (now (sheet .entry)) (now (report .entry)) .outcome ⌝ }
+    ensures left { λ r. ⌜ now (report .exit) ≡ plannedBy (reporter whole) edition1 (now (sheet .entry)) (now (report .entry)) .buffer ⌝ }
 {
     let reading = sheet::read(sheet);
     let answer = reading.answer;
     match answer {
         Answer::Refused { number, line } => Outcome::Refused { number, line },
-        Answer::Accepted => plan_network(sheet, reading.network, report),
+        Answer::Accepted => plan_network(whole, sheet, reading.network, report),
     }
+}
+
+// Plans a sheet in halves, with the report headed `plan`.
+pub fn plan(sheet: &[u8], report: &mut [u8]) -> Outcome
+    ensures told { λ r. ⌜ r ≡ planned edition1 (now (sheet .entry)) (now (report .entry)) .outcome ⌝ }
+    ensures left { λ r. ⌜ now (report .exit) ≡ planned edition1 (now (sheet .entry)) (now (report .entry)) .buffer ⌝ }
+{
+    report_on(false, sheet, report)
+}
+
+// Plans a sheet in whole circuits, with the report headed `whole` (02, Card 2).
+pub fn whole(sheet: &[u8], report: &mut [u8]) -> Outcome
+    ensures told { λ r. ⌜ r ≡ plannedWhole edition1 (now (sheet .entry)) (now (report .entry)) .outcome ⌝ }
+    ensures left { λ r. ⌜ now (report .exit) ≡ plannedWhole edition1 (now (sheet .entry)) (now (report .entry)) .buffer ⌝ }
+{
+    report_on(true, sheet, report)
 }
 
 // The answer to a sheet, as the program prints it: the report, or the line of the refusal, from the start of the buffer, and its length.

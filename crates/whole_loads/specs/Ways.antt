@@ -24,7 +24,7 @@ use Rattle.whole_parents.specs.Parents.{Leads, ParentsOf, ordered-within, the-o
 use Rattle.whole_parents.specs.Leads.{link-load}
 use Rattle.whole_loads.specs.Solved.{EndsAmong}
 
-module _ {n : ℕ} {order a b c : List ℕ} (w : TreeWithin largest n a b c) (ordered : take n order ≡ elimination (links a b) n)
+module _ {n : ℕ} (order : List ℕ) {a b c : List ℕ} (w : TreeWithin largest n a b c) (ordered : take n order ≡ elimination (links a b) n)
     {child parent up : List ℕ} (P : ParentsOf (links a b) (take n order) (look c) child parent up) where
   abbrev ls : Links
   ls = links a b
