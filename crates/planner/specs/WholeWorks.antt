@@ -1,9 +1,11 @@
 -- What is worked out of the lists of an accepted sheet in whole circuits is ready to be written: loads, sets, odd pieces and the pair list show its plan.
-use mathlib.Core.Path.{_≡_, refl, sym, ap, subst, _∙_}
-use mathlib.Core.List.{List, [], _∷_, append-nil}
+use mathlib.Core.Path.{_≡_, refl, sym, ap, subst, fun-ext, _∙_}
+use mathlib.Core.List.{List, [], _∷_, _++_, append-nil}
 use Prim.Native.Nat.{ℕ, suc, _+_, _≤_, _<_}
 use native.Mathlib.Omega.{arith}
-use lib.ListN.{length, take, length-map}
+use native.Mathlib.Nat.{zero-add}
+use lib.ListN.{length, take, drop, length-map}
+use lib.Seq.{take-at, sets-eq}
 use Rattle.model.specs.Limits.{SITES}
 use Rattle.model.specs.Edition.{edition1}
 use Rattle.lists.specs.Numbers.{look, upfrom}
@@ -11,7 +13,7 @@ use Rattle.lists.specs.Places.{length-upfrom}
 use Rattle.model.specs.Flows.{Links, Site, leaf, ends}
 use Rattle.model.specs.Pairing.{pairList}
 use Rattle.model.specs.Text.{bytes}
-use Rattle.model.specs.Whole.{LargestWhole, setSize, setCount, oddPieces}
+use Rattle.model.specs.Whole.{EndSets, LargestWhole, setSize, setCount, oddPieces}
 use Rattle.model.specs.WholeLoads.{wholeLoad, wholeLoads, wholeOwner}
 use Rattle.model.specs.declared.Pair.{Pair}
 use Rattle.model.specs.declared.Pairs.{Pairs}
@@ -25,6 +27,7 @@ use Rattle.cuts_groups.specs.declared.Owned.{Owned}
 use Rattle.pairing_walk.specs.Visits.{Walkable}
 use Rattle.sheet.specs.Sheet.{Network}
 use Rattle.sheet.specs.SheetTheorem.{IsNetwork}
+use Rattle.text_writers.specs.Wrote.{Wrote}
 use Rattle.report.specs.Report.{lines, oddLine, wholeReport}
 use Rattle.report.specs.Shown.{shownBy}
 use Rattle.planner.specs.Figures.{terminal, wholes, pairsBy, the-whole-report-shows-wholes}
@@ -133,3 +136,21 @@ module _ {s starting stopping : List ℕ} {n : ℕ} {one two c : List ℕ} (a : 
           balanced = taken .loads .balanced;
         },
       )
+
+  -- the front of a list that begins with the loads
+  pub the-front-is-the-loads : (list rest : List ℕ) → list ≡ wholeLoads ls n (look marks) (look c) ++ rest
+      → take (length one) list ≡ wholeLoads ls n (look marks) (look c)
+  the-front-is-the-loads list rest e =
+      ap (take (length one)) e
+      ∙ take-at (wholeLoads ls n (look marks) (look c)) rest (length one) (whole-loads-can-be-walked (wholeLoads ls n (look marks) (look c)) refl .0)
+
+  -- labels that hold the owners taken are end sets
+  pub the-labels-are-end-sets : (labels : List ℕ) → ((x : ℕ) → look labels x ≡ wholeOwner ls n (look marks) (look c) x) → EndSets n (look marks) (look labels)
+  the-labels-are-end-sets labels e = rw (fun-ext e) (the-largest-are-taken (wholeLoads ls n (look marks) (look c)) refl .sets)
+
+-- a text written at the start of a buffer long enough stands there
+pub the-text-stands-at-the-front : {b after text : List ℕ} {r : ℕ} → Wrote b 0 text after r → r ≤ length b → take r after ≡ text
+the-text-stands-at-the-front {b} {after} {text} {r} w h =
+    let e : r ≡ length text = omega (arith, w .next) in
+    let a : after ≡ text ++ drop (length text) b = w .stored ∙ sets-eq text b 0 (omega arith) ∙ ap (λ i. text ++ drop i b) (zero-add (length text)) in
+    rw (a, e) (take-at text (drop (length text) b) (length text) refl)

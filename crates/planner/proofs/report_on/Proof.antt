@@ -1,10 +1,10 @@
--- `plan` meets its contract: a refusal of the reading is passed on, and an accepted sheet's network is planned.
+-- `report_on` meets its contract: a refusal of the reading is passed on, and an accepted sheet's network is planned.
 use mathlib.Core.Path.{sym, ap, _∙_}
-use Rattle.report.specs.Report.{report}
+use Rattle.planner.specs.Outcome.{reporter}
 use Rattle.planner.specs.Taken.{accepted-is-listed, refused-is-told}
 use borrow.Author.Needs.{needs}
-use Rattle.planner.proofs.plan.Statement.{statement}
-use Rattle.planner.proofs.plan.Tie as tie
+use Rattle.planner.proofs.report_on.Statement.{statement}
+use Rattle.planner.proofs.report_on.Tie as tie
 
 read-requires : tie.Need-read-requires
 read-requires c κs = search needs
@@ -26,7 +26,7 @@ returns : tie.Need-returns
 returns c =
     let s = c .before .before .before .before .before .before .args in
     let r = c .before .before .before .read .ensures in
-    let e = refused-is-told report (s .sheet .now) (s .report .now) _ _ (sym (ap (λ x. x .answer) r) ∙ c .before .answer .given .1) in
+    let e = refused-is-told (reporter (s .whole)) (s .sheet .now) (s .report .now) _ _ (sym (ap (λ x. x .answer) r) ∙ c .before .answer .given .1) in
     (sym (ap (λ p. p .outcome) e), sym (ap (λ p. p .buffer) e))
 
 same-length : tie.Need-same-length
@@ -35,8 +35,8 @@ same-length c = search needs
 returns-2 : tie.Need-returns-2
 returns-2 c = search needs
 
-pub plan-spec : {M : Type 1} → statement M
-plan-spec =
+pub report-on-spec : {M : Type 1} → statement M
+report-on-spec =
     tie.close
     (tie.spec
     read-requires
