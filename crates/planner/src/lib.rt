@@ -6,7 +6,7 @@ ghost use Rattle.model.specs.Edition.{edition1};
 ghost use Rattle.tree_links.specs.Chains.{Chained};
 ghost use Rattle.report.specs.Report.{reportOf};
 ghost use Rattle.report.specs.Shown.{shownBy, CanWrite};
-ghost use Rattle.planner.specs.Outcome.{deliver, reporter, plannedBy, planned, plannedWhole, answered};
+ghost use Rattle.planner.specs.Outcome.{deliver, reporter, plannedBy, planned, plannedWhole, answeredBy, answered};
 ghost use Rattle.planner.specs.Ready.{TakenApart, Ordered, Charted};
 ghost use Rattle.planner.specs.Taken.{Listed};
 ghost use Rattle.planner.specs.Fits.{fits};
@@ -413,15 +413,25 @@ pub fn whole(sheet: &[u8], report: &mut [u8]) -> Outcome
     report_on(true, sheet, report)
 }
 
-// The answer to a sheet, as the program prints it: the report, or the line of the refusal, from the start of the buffer, and its length.
+// The answer to a sheet in whole circuits or in halves, as the program prints it: the report, or the line of the refusal, from the start of the buffer, and
+// its length.
+pub fn answer_on(whole: bool, sheet: &[u8], buf: &mut [u8]) -> usize
+    ensures told { λ r. ⌜ r ≡ answeredBy (reporter whole) edition1 (now (sheet .entry)) (now (buf .entry)) .length ⌝ }
+    ensures left { λ r. ⌜ now (buf .exit) ≡ answeredBy (reporter whole) edition1 (now (sheet .entry)) (now (buf .entry)) .buffer ⌝ }
+    ensures within { λ r. ⌜ (50 ≤ length (now (buf .entry)) → r ≤ length (now (buf .exit))) ⌝ }
+{
+    let outcome = report_on(whole, sheet, buf);
+    match outcome {
+        Outcome::Report { length } => length,
+        Outcome::Refused { number, line } => report::write_refusal(number, line, buf),
+    }
+}
+
+// The answer to a sheet in halves.
 pub fn answer(sheet: &[u8], buf: &mut [u8]) -> usize
     ensures told { λ r. ⌜ r ≡ answered edition1 (now (sheet .entry)) (now (buf .entry)) .length ⌝ }
     ensures left { λ r. ⌜ now (buf .exit) ≡ answered edition1 (now (sheet .entry)) (now (buf .entry)) .buffer ⌝ }
     ensures within { λ r. ⌜ (50 ≤ length (now (buf .entry)) → r ≤ length (now (buf .exit))) ⌝ }
 {
-    let outcome = plan(sheet, buf);
-    match outcome {
-        Outcome::Report { length } => length,
-        Outcome::Refused { number, line } => report::write_refusal(number, line, buf),
-    }
+    answer_on(false, sheet, buf)
 }

@@ -68,9 +68,14 @@ odd-pieces-spec =
     (λ c. omega (arith, (c .before .before .before .before .before .before .pre .0 .placed (c .before .before .before .before .before .loop .i) (omega arith))))
     odd-at-requires
     (λ c. let top = c .before .before .before .before .before .before .before in
-    omega (arith, top .before .pre .0 .few, c .odd-at .ensures, odd-le (note (top .before .args .t5) (look (top .before .args .order .now) (top .loop .i)) .owner)
-    (note (top .before .args .t5) (look (top .before .args .parent .now) (look (top .before .args .order .now) (top .loop .i))) .owner)
-    (note (top .before .args .t5) (look (top .before .args .order .now) (top .loop .i)) .most) (look (top .before .args .above .now) (look (top .before .args .order .now) (top .loop .i)))))
+    omega (
+      arith,
+      top .before .pre .0 .few,
+      c .odd-at .ensures,
+      odd-le (note (top .before .args .t5) (look (top .before .args .order .now) (top .loop .i)) .owner)
+          (note (top .before .args .t5) (look (top .before .args .parent .now) (look (top .before .args .order .now) (top .loop .i))) .owner)
+          (note (top .before .args .t5) (look (top .before .args .order .now) (top .loop .i)) .most) (look (top .before .args .above .now) (look (top .before .args .order .now) (top .loop .i))),
+    ))
     (λ c. omega arith)
     (λ c. omega arith)
     loop-again

@@ -21,8 +21,7 @@ link-loads-requires : tie.Need-link-loads-requires
 link-loads-requires c κs =
     let ways = c .before .before in
     let up = ways .before .before .before .before .before .before in
-    let s = up .before .before .before .before .before in
-    (
+    let s = up .before .before .before .before .before in (
       omega (arith, s .pre .0 .firsts, s .pre .0 .few),
       s .pre .3,
       ways .both-ways .ensures .places,
