@@ -2,7 +2,7 @@
 use planner::Outcome;
 ghost use mathlib.Core.Path.{_≡_};
 ghost use Rattle.model.specs.Edition.{edition1};
-ghost use Rattle.planner.specs.Outcome.{planned};
+ghost use Rattle.planner.specs.Outcome.{planned, plannedWhole};
 ghost use Rattle.waderarmoire.specs.Packed.{packed};
 
 // An outcome as one number: the refusal's number times 2^40, its line times 2^20, and the report's length.
@@ -23,4 +23,13 @@ pub extern "C" fn waderarmoire_plan(sheet: &[u8], report: &mut [u8]) -> u64
     ensures left { λ r. ⌜ now (report .exit) ≡ planned edition1 (now (sheet .entry)) (now (report .entry)) .buffer ⌝ }
 {
     pack(planner::plan(sheet, report))
+}
+
+// Plans a sheet in whole circuits into the caller's buffer, as planner::whole does, and tells the outcome as one number.
+#[no_mangle]
+pub extern "C" fn waderarmoire_whole(sheet: &[u8], report: &mut [u8]) -> u64
+    ensures told { λ r. ⌜ r ≡ packed (plannedWhole edition1 (now (sheet .entry)) (now (report .entry)) .outcome) ⌝ }
+    ensures left { λ r. ⌜ now (report .exit) ≡ plannedWhole edition1 (now (sheet .entry)) (now (report .entry)) .buffer ⌝ }
+{
+    pack(planner::whole(sheet, report))
 }
