@@ -13,7 +13,7 @@ use Rattle.lists.specs.Numbers.{pick, look}
 use Rattle.lists.specs.Sums.{pick-same, pick-other, pick-cases, same?, cases}
 use Rattle.model.specs.WholeLoads.{Intervals, Loading, put, lowest, highest, onWay, ownerAt, newTop, leastAt, topLoad, coming, take, takeAll, give, giveAll, noIntervals}
 use Rattle.whole_loops.specs.declared.Note.{Note}
-use Rattle.whole_loops.specs.Notes.{Given, Within, Fresh, Inward, Outward, note, intervalsOf, loadingOf, blank, takenNote, joinedNote, comeNote, loadedNote}
+use Rattle.whole_loops.specs.Notes.{Given, Within, Fresh, Inward, Outward, Found, note, intervalsOf, loadingOf, blank, takenNote, joinedNote, comeNote, loadedNote}
 
 -- ---- a note is written
 
@@ -331,6 +331,18 @@ module _ {n : ℕ} {order parent capacity ends : List ℕ} {was : List Note} whe
             ∙ ap (λ o. give (look parent) (look capacity) (look ends) (intervalsOf was) o v) (w .outward)
             ∙ rw (from, to, drop-cons us j 0 (omega (arith, length-take-le n order (g .long))), getD-take n order j 0 (omega arith)) refl;
       }
+
+-- both ways
+pub both-found : {n : ℕ} {order parent capacity ends : List ℕ} {was l : List Note} → Inward n order parent capacity ends was
+    → Outward n n order parent capacity ends was l → Found n order parent capacity ends l
+both-found {n} {order} {parent} {capacity} {ends} i o =
+    let all : n - n ≡ 0 = omega arith in
+    record {
+      places = o .places;
+      small = o .small;
+      inward = o .same ∙ i .inward;
+      outward = rw (o .same) (rw all at (o .outward));
+    }
 
 -- ---- in a turn of a loop: v has its turn, p is its parent
 
