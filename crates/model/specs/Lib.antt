@@ -8,3 +8,4 @@ pub mod Pairing
 pub mod Whole
 pub mod WholeLoads
 pub mod Examples
+pub mod WholeExamples

@@ -22,7 +22,7 @@ use Rattle.theory_trees.specs.Loads.{once}
 -- ---- a part of the links
 
 -- the kept links join their sites
-kept-linked : (u : ℕ → ℕ) (ls : Links) (i : ℕ) → i < length ls → u i ≡ 1 → label (kept u ls) (one ls i) ≡ label (kept u ls) (two ls i)
+pub kept-linked : (u : ℕ → ℕ) (ls : Links) (i : ℕ) → i < length ls → u i ≡ 1 → label (kept u ls) (one ls i) ≡ label (kept u ls) (two ls i)
 unfolding kept label
 kept-linked u [] i l h = omega arith
 kept-linked u (a ∷ ls) zero l h =

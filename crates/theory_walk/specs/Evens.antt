@@ -11,14 +11,11 @@ use Rattle.model.specs.Flows.{Links, Site, Ends, at, sumAt}
 use Rattle.model.specs.Pairing.{Halves, Part, put, takeHalves, dropHalves, halves, give, match, children, gather, alone, settle, walk, pairsFrom, lowestInner}
 use Rattle.model.specs.Pairing.{pairs}
 use Rattle.model.specs.declared.Pair.{Pair}
+pub use Rattle.model.specs.Whole.{Even}
 use Rattle.lists.specs.Sums.{cases, pick-cases, same?, sum-none, sum-eq}
 use Rattle.theory_trees.specs.Trees.{at-end, at-le}
 use Rattle.lists.specs.Tallies.{each-append}
 use Rattle.theory_walk.specs.Handed.{All, all-nothing, all-join, sends}
-
--- m is a whole number of circuits, in halves
-abbrev pub Even : ℕ → Type 0
-Even m = (h : ℕ) × (m ≡ 2 * h)
 
 even-add : (a b : ℕ) → Even a → Even b → Even (a + b)
 even-add a b p q = (p .0 + q .0, omega (arith, p .1, q .1))

@@ -1,0 +1,17 @@
+pub mod Sums
+pub mod Numbers
+pub mod Rooted
+pub mod Order
+pub mod Counting
+pub mod Loads
+pub mod Sets
+pub mod Pieces
+pub mod Solution
+pub mod Inward
+pub mod Outward
+pub mod Links
+pub mod Plans
+pub mod PlanLoads
+pub mod Connected
+pub mod LinkSets
+pub mod Circuits
