@@ -9,10 +9,10 @@ use Rattle.whole_loops.proofs.outward.Statement.{statement}
 use Rattle.whole_loops.proofs.outward.Tie as tie
 
 abbrev Inv-loop : tie.InvT-loop
-Inv-loop n order parent above ends found notes₀ i₀ notes i = (i ≤ n) × Outward n i order parent above ends found notes
+Inv-loop n order parent above ends notes₀ i₀ notes i = (i ≤ n) × Outward n i order parent above ends notes₀ notes
 
 abbrev μ-loop : tie.MeasureT-loop
-μ-loop n order parent above ends found notes₀ i₀ notes i = n - i
+μ-loop n order parent above ends notes₀ i₀ notes i = n - i
 
 loop-holds : tie.Need-loop-holds Inv-loop μ-loop
 loop-holds c = (omega arith, outward-none (c .pre .0) (c .pre .1))
