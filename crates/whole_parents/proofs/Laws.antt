@@ -40,6 +40,17 @@ told-next {n} {order} s i h l long t k g = same? k i
         let all = length-take-le n order (s .long) in
         place-told (take n order) (s .once) k i (omega arith) (omega arith) (getD-take n order k 0 (omega arith) ∙ q ∙ sym (getD-take n order i 0 h))
 
+-- ---- parents that are settled or untouched
+
+-- after the links before link j: of site x, the parent p and the capacity k above it are found, or x is no child of these links
+pub record Settled (ls : Links) (us : List ℕ) (c child : ℕ → ℕ) (j x p k : ℕ) : Type 0 where
+  pub low : p ≤ SITES
+  pub small : k ≤ SIZE
+  pub found : ((p ≡ parentOf ls us x) × (k ≡ upward ls us x c)) ⊎ ((p ≡ 0) × (k ≡ 0) × ((i : ℕ) → i < j → child i ≢ x))
+
+abbrev pub Settling : Links → List ℕ → List ℕ → List ℕ → ℕ → List ℕ → List ℕ → Type 0
+Settling ls us capacity child j parent above = (x : ℕ) → Settled ls us (look capacity) (look child) j x (look parent x) (look above x)
+
 -- ---- children
 
 module _ {n : ℕ} {order a b : List ℕ} (w : Ordered n order a b) where
@@ -108,16 +119,7 @@ module _ {n : ℕ} {order a b : List ℕ} (w : Ordered n order a b) where
 
   -- ---- parents
 
-  -- after the links before link j: of site x, the parent p and the capacity k above it are found, or x is no child of these links
-  pub record Settled (c child : ℕ → ℕ) (j x p k : ℕ) : Type 0 where
-    pub low : p ≤ SITES
-    pub small : k ≤ SIZE
-    pub found : ((p ≡ parentOf ls us x) × (k ≡ upward ls us x c)) ⊎ ((p ≡ 0) × (k ≡ 0) × ((i : ℕ) → i < j → child i ≢ x))
-
   module _ (capacity child : List ℕ) (told : Children ls us child) where
-    abbrev pub Settling : ℕ → List ℕ → List ℕ → Type 0
-    Settling j parent above = (x : ℕ) → Settled (look capacity) (look child) j x (look parent x) (look above x)
-
     -- the other site of link j
     pub record Other (j : ℕ) : Type 0 where
       pub child-low : look child j ≤ SITES
@@ -139,13 +141,14 @@ module _ {n : ℕ} {order a b : List ℕ} (w : Ordered n order a b) where
           | inr e ↦ record { child-low = t .1; firsts = s .0; seconds = s .1; less = omega arith; low = omega (arith, s .0) }
         ]
 
-    pub settled-none : Settling 0 (replicate PLACES 0) (replicate PLACES 0)
+    pub settled-none : Settling ls us capacity child 0 (replicate PLACES 0) (replicate PLACES 0)
     settled-none x =
         let z = look-zeros PLACES x in
         record { low = omega (arith, z); small = omega (arith, z); found = inr (z, z, λ i h. absurd (omega arith)) }
 
     pub settled-next : (j : ℕ) → j < length a → look capacity j ≤ SIZE → (parent above : List ℕ) → length parent ≡ PLACES → length above ≡ PLACES
-        → Settling j parent above → Settling (j + 1) (set parent (look child j) (look a j + look b j - look child j)) (set above (look child j) (look capacity j))
+        → Settling ls us capacity child j parent above
+        → Settling ls us capacity child (j + 1) (set parent (look child j) (look a j + look b j - look child j)) (set above (look child j) (look capacity j))
     unfolding parentOf beyond
     settled-next j h small parent above lp la t x =
         let c = look child j in
@@ -169,7 +172,7 @@ module _ {n : ℕ} {order a b : List ℕ} (w : Ordered n order a b) where
           ];
         })
 
-    pub settled-all : (parent above : List ℕ) → Settling (length a) parent above → ParentsOf ls us (look capacity) child parent above
+    pub settled-all : (parent above : List ℕ) → Settling ls us capacity child (length a) parent above → ParentsOf ls us (look capacity) child parent above
     unfolding parentOf
     settled-all parent above t =
         let m = length-links a b (omega (arith, w .tree .firsts, w .tree .seconds)) in
