@@ -18,7 +18,7 @@ use Rattle.theory_trees.specs.TerminalCuts.{kept-agree}
 use Rattle.tree.specs.Offer.{links}
 use Rattle.tree.specs.Links.{length-links, links-one, links-two}
 use Rattle.tree_links.specs.Chains.{Placed}
-use Rattle.cuts_groups.specs.Groups.{leaves, leaving}
+use Rattle.cuts_groups.specs.Groups.{Tallied, leaves, leaving}
 
 -- ---- one link more: d at the labels of its sites
 
@@ -82,7 +82,7 @@ module _ {labels a b : List ℕ} (k : Placed a b) (c t : List ℕ) (grouped : la
       ))
 
   -- the sum at the label of a site is the size of the cut with that label
-  pub leaving-is-size : (x : ℕ) → x ≤ SITES → leaving labels a b c (look labels x) ≡ cutSize (links a b) (look c) (look t) x
+  leaving-is-size : (x : ℕ) → x ≤ SITES → leaving labels a b c (look labels x) ≡ cutSize (links a b) (look c) (look t) x
   unfolding leaving leaves cutSize inCut
   leaving-is-size x h = rw (length-links a b (sym (k .seconds)), look-group x h) (sum-eq (length a)
       (λ j. differ (is (look labels (look a j)) (label-of x)) (is (look labels (look b j)) (label-of x)) * look c j)
@@ -93,3 +93,6 @@ module _ {labels a b : List ℕ} (k : Placed a b) (c t : List ℕ) (grouped : la
         look-group (look a j) (omega (arith, k .sites j p)),
         look-group (look b j) (omega (arith, k .sites j p)),
       ) refl))
+
+  pub tallied : Tallied (links a b) (look c) (look t) labels (leaving labels a b c)
+  tallied = record { grouped = grouped; small = labels-small; sizes = leaving-is-size }

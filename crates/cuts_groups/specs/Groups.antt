@@ -26,10 +26,10 @@ unfoldable pub leaving : List ℕ → List ℕ → List ℕ → List ℕ → ℕ
 leaving labels one two c l = sum (length one) (λ j. leaves labels (look one j) (look two j) l * look c j)
 
 -- what is counted of a network: the labels of its sites, and for each label the size of the cut of a site with it
-pub record Tallied (ls : Links) (c t : ℕ → ℕ) (labels sums : List ℕ) : Type 0 where
+pub record Tallied (ls : Links) (c t : ℕ → ℕ) (labels : List ℕ) (sums : ℕ → ℕ) : Type 0 where
   pub grouped : labels ≡ map (group ls c t) (upfrom 0 PLACES)
   pub small : (x : ℕ) → look labels x ≤ SITES
-  pub sizes : (a : ℕ) → a ≤ SITES → look sums (look labels a) ≡ cutSize ls c t a
+  pub sizes : (a : ℕ) → a ≤ SITES → sums (look labels a) ≡ cutSize ls c t a
 
 -- 1 if place i is that of one of n sites with the label l, else 0
 unfoldable pub labelled : ℕ → List ℕ → ℕ → ℕ → ℕ

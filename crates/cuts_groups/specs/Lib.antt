@@ -1,3 +1,5 @@
 pub mod Groups
 pub mod Places
 pub mod Steps
+pub mod Labelled
+pub mod EndSets

@@ -6,6 +6,7 @@ use Rattle.model.specs.Limits.{SITES}
 use Rattle.lists.specs.Numbers.{pick, sum, upfrom, look}
 use Rattle.model.specs.Flows.{Links}
 use Rattle.model.specs.Cuts.{cutSize, cutCount, owner}
+use Rattle.model.specs.Whole.{setSize, setCount}
 use Rattle.cuts_groups.specs.declared.Owned.{Owned}
 use Rattle.cuts_groups.specs.Groups.{labelled}
 use Rattle.cuts_groups.specs.Places.{places, ofTerminal}
@@ -28,10 +29,10 @@ module _ (cut : ℕ → ℕ → ℕ) (labels : List ℕ) where
       pick (look ends (suc k)) 1 (map (claim before (cut (look labels (suc k))) (suc k)) (upfrom 0 SITES)) before
 
 -- the cuts of the terminals `ends`, by the labels of n sites and the sums at the labels
-unfoldable pub cutsBy : ℕ → List ℕ → List ℕ → List ℕ → Owned
+unfoldable pub cutsBy : ℕ → List ℕ → List ℕ → (ℕ → ℕ) → Owned
 cutsBy n labels ends leaving = record {
   owner = ownersTo (labelled n labels) labels (replicate SITES 0) ends n;
-  size = places n (ofTerminal (look ends) (λ a. look leaving (look labels a)));
+  size = places n (ofTerminal (look ends) (λ a. leaving (look labels a)));
   count = places n (ofTerminal (look ends) (members (labelled n labels) labels));
 }
 
@@ -41,4 +42,12 @@ owned ls n terminal c t = record {
   owner = places n (owner ls c t terminal n);
   size = places n (ofTerminal terminal (cutSize ls c t));
   count = places n (ofTerminal terminal (cutCount ls c t n));
+}
+
+-- the end sets of the terminals of a network with n sites, told by the owner of each site (model/Whole)
+unfoldable pub endSets : Links → ℕ → (ℕ → ℕ) → (ℕ → ℕ) → (ℕ → ℕ) → Owned
+endSets ls n terminal c owner = record {
+  owner = places n owner;
+  size = places n (ofTerminal terminal (setSize ls c owner));
+  count = places n (ofTerminal terminal (setCount n owner));
 }

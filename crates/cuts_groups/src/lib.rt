@@ -1,5 +1,6 @@
-// Inner: the cuts of any terminals. Sites are grouped by the links whose balanced capacity is below the given one: for each group the
-// capacities of the links that leave it and the set of its sites, and for each site the terminal of its group. Only the planner's own crates call it.
+// Inner: the cuts of any terminals, by a label for each site: for each label the capacities of the links that leave its sites and the set of these sites,
+// and for each site the terminal that has its label. Sites are labelled by the links whose balanced capacity is below the given one, or by the caller.
+// Only the planner's own crates call it.
 use model::PLACES;
 use model::SETS;
 use model::SITES;
@@ -16,15 +17,9 @@ ghost use Rattle.model.specs.Cuts.{group};
 ghost use Rattle.tree.specs.Offer.{links};
 ghost use Rattle.tree_links.specs.Chains.{Placed, Limited};
 ghost use Rattle.tree_sets.specs.Members.{member};
-ghost use Rattle.cuts_groups.specs.Groups.{Addable, Tallied, leaves, leaving, labelled, inWords};
+ghost use Rattle.cuts_groups.specs.Groups.{Addable, leaves, leaving, labelled, inWords};
 ghost use Rattle.cuts_groups.specs.Places.{places, ofTerminal};
 ghost use Rattle.cuts_groups.specs.Steps.{members, claim, ownersTo, cutsBy, owned};
-
-// At place x the label of site x, and at place l the sum of label l.
-struct Tally {
-    labels: [u16; PLACES],
-    leaving: [u64; PLACES],
-}
 
 // The cuts, at place x - 1 for site x: the terminal whose cut holds the site, and for a terminal the size and the number of sites of
 // its cut. Places of other sites and places past the last site hold 0.
@@ -84,20 +79,7 @@ fn sums_leaving(
     sums
 }
 
-// The groups of a tree's sites, by the given and the balanced capacities of its links.
-fn of_links(one: &[usize], two: &[usize], capacity: &[u64], balanced: &[u64]) -> Tally
-    requires { ⌜ Placed (now one) (now two) × Limited (now one) (now capacity) × (length (now balanced) ≡ length (now one)) ⌝ }
-    ensures { λ r. ⌜ Tallied (links (now (one .entry)) (now (two .entry))) (look (now (capacity .entry))) (look (now (balanced .entry))) (r .labels)
-        (r .leaving) ⌝ }
-{
-    let mut labels = tree_labels::own_labels();
-    join_kept(one, two, capacity, balanced, &mut labels);
-    let leaving = sums_leaving(one, two, capacity, &labels);
-    Tally { labels, leaving }
-}
-
 // For each label the places of its sites among the first n, as a set of WORDS words: that of label l from word WORDS l on. Place i is that of site i + 1.
-//
 fn sets(n: usize, labels: &[u16; PLACES]) -> [u64; SETS]
     requires { ⌜ (n ≤ SITES) × ((x : ℕ) → look (now labels) x ≤ SITES) ⌝ }
     ensures { λ r. ⌜ ((l i : ℕ) → inWords r l i ≡ labelled n (now (labels .entry)) l i) ⌝ }
@@ -200,13 +182,30 @@ fn terminal_sizes(
 // The cuts of the terminals among n sites, by the labels of the sites, the ends and the sums at the labels.
 fn cuts_by(n: usize, labels: &[u16; PLACES], ends: &[u8; PLACES], leaving: &[u64; PLACES]) -> Owned
     requires { ⌜ (n ≤ SITES) × ((x : ℕ) → look (now labels) x ≤ SITES) ⌝ }
-    ensures { λ r. ⌜ r ≡ cutsBy n (now (labels .entry)) (now (ends .entry)) (now (leaving .entry)) ⌝ }
+    ensures { λ r. ⌜ r ≡ cutsBy n (now (labels .entry)) (now (ends .entry)) (look (now (leaving .entry))) ⌝ }
 {
     let words = sets(n, labels);
     let mut owner = [NONE; SITES];
     let count = put_owners(&mut owner, n, &words, labels, ends);
     let size = terminal_sizes(n, labels, ends, leaving);
     Owned { owner, size, count }
+}
+
+// The cuts of the terminals `ends` of n sites, by a label for each site: a terminal's cut has the sites with its label.
+pub fn cuts_by_labels(
+    n: usize,
+    ends: &[u8; PLACES],
+    one: &[usize],
+    two: &[usize],
+    capacity: &[u64],
+    labels: &[u16; PLACES],
+) -> Owned
+    requires { ⌜ (n ≤ SITES) × Placed (now one) (now two) × Limited (now one) (now capacity) × ((x : ℕ) → look (now labels) x ≤ SITES) ⌝ }
+    ensures { λ r. ⌜ r ≡ cutsBy n (now (labels .entry)) (now (ends .entry))
+        (leaving (now (labels .entry)) (now (one .entry)) (now (two .entry)) (now (capacity .entry))) ⌝ }
+{
+    let leaving = sums_leaving(one, two, capacity, labels);
+    cuts_by(n, labels, ends, &leaving)
 }
 
 // The cuts of the terminals `ends` of n sites, by the given and the balanced capacities of the links.
@@ -222,8 +221,7 @@ pub fn cuts_of(
     ensures { λ r. ⌜ r ≡ owned (links (now (one .entry)) (now (two .entry))) n (look (now (ends .entry))) (look (now (capacity .entry)))
         (look (now (balanced .entry))) ⌝ }
 {
-    let tally = of_links(one, two, capacity, balanced);
-    let labels = tally.labels;
-    let leaving = tally.leaving;
-    cuts_by(n, &labels, ends, &leaving)
+    let mut labels = tree_labels::own_labels();
+    join_kept(one, two, capacity, balanced, &mut labels);
+    cuts_by_labels(n, ends, one, two, capacity, &labels)
 }

@@ -10,7 +10,8 @@ use Rattle.lists.specs.Places.{length-upfrom}
 use Rattle.cuts_groups.specs.Groups.{inWords}
 use Rattle.cuts_groups.specs.Places.{places, ofTerminal, places-none, places-terminal, places-inner}
 use Rattle.cuts_groups.specs.Steps.{members, claim, ownersTo}
-use Rattle.cuts_groups.proofs.ByTally.{owners-none, owners-next, owners-pass}
+use Rattle.cuts_groups.specs.Labelled.{owners-none}
+use Rattle.cuts_groups.proofs.ByTally.{owners-next, owners-pass}
 use Rattle.cuts_groups.proofs.put_owners.Statement.{statement}
 use Rattle.cuts_groups.proofs.put_owners.Tie as tie
 
