@@ -75,5 +75,9 @@ pub fn parents_of(
         parent[c] = (one[j] + two[j] - c) as u16;
         above[c] = capacity[j] as u32;
     }
-    Parents { child, parent, above }
+    Parents {
+        child,
+        parent,
+        above,
+    }
 }

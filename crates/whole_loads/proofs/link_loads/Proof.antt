@@ -27,7 +27,7 @@ pub record Turn (m j c load room : ℕ) : Type 0 where
   pub small : load ≤ SIZE
 
 turn : (c : tie.In-loop Inv-loop μ-loop) → let a = c .before .before .args in let v = look (a .child .now) (c .before .loop .j) in
-    Turn (a .m) (c .before .loop .j) v (note (a .notes) v .load) (length (c .before .loop .lent))
+    Turn (a .m) (c .before .loop .j) v (note (a .t3) v .load) (length (c .before .loop .lent))
 turn c =
     let s = c .before .before in
     let more : c .before .loop .j < s .args .m = omega arith in
@@ -46,7 +46,7 @@ loop-again c =
     let a = top .before .args in (
       omega (arith, turn t),
       simp length-set (top .loop .inv .1),
-      filled-next (λ i. note (a .notes) (look (a .child .now) i) .load) (top .loop .j) (a .lent .now) (omega (arith, turn t, top .loop .inv .1))
+      filled-next (λ i. note (a .t3) (look (a .child .now) i) .load) (top .loop .j) (a .lent .now) (omega (arith, turn t, top .loop .inv .1))
           (top .loop .inv .2) refl,
     )
 

@@ -30,7 +30,7 @@ pub record Turn (n i odd v p c most : ℕ) : Type 0 where
   pub sum : most ≤ SITES * SIZE
 
 turn : (c : tie.In-loop Inv-loop μ-loop) → let a = c .before .before .args in let v = look (a .order .now) (c .before .loop .i) in
-    Turn (a .n) (c .before .loop .i) (c .before .loop .odd) v (look (a .parent .now) v) (look (a .above .now) v) (note (a .notes) v .most)
+    Turn (a .n) (c .before .loop .i) (c .before .loop .odd) v (look (a .parent .now) v) (look (a .above .now) v) (note (a .t5) v .most)
 turn c =
     let s = c .before .before in
     let i = c .before .loop .i in
@@ -48,7 +48,11 @@ turn c =
 
 -- what is counted in this turn is at most 1
 one : (c : tie.After-odd-at Inv-loop μ-loop) → c .odd-at .result ≤ 1
-one c = omega (arith, c .odd-at .ensures, odd-le _ _ _ _)
+one c =
+    let s = c .before .before .before .before .before .before .before .before in
+    let v = look (s .args .order .now) (c .before .before .before .before .before .before .before .loop .i) in
+    let p = look (s .args .parent .now) v in
+    omega (arith, c .odd-at .ensures, odd-le (note (s .args .t5) v .owner) (note (s .args .t5) p .owner) (note (s .args .t5) v .most) (look (s .args .above .now) v))
 
 loop-again : tie.Need-loop-again Inv-loop μ-loop
 loop-again c =
@@ -56,11 +60,11 @@ loop-again c =
     let s = t .before .before in
     let a = s .args in
     let i = t .before .loop .i in
-    let f = oddAt (look (a .parent .now)) (look (a .above .now)) (λ x. note (a .notes) x .most) (λ x. note (a .notes) x .owner) in (
+    let f = oddAt (look (a .parent .now)) (look (a .above .now)) (λ x. note (a .t5) x .most) (λ x. note (a .t5) x .owner) in (
       omega (arith, turn t),
       omega (arith, turn t, one c),
       over-next (a .order .now) f i (omega (arith, turn t, s .pre .0 .long)) (t .before .loop .inv .2)
-          (c .odd-at .ensures ∙ odd-is (a .parent .now) (a .above .now) (a .notes) (look (a .order .now) i)),
+          (c .odd-at .ensures ∙ odd-is (a .parent .now) (a .above .now) (a .t5) (look (a .order .now) i)),
     )
 
 returns : tie.Need-returns Inv-loop μ-loop

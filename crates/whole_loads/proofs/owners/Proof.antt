@@ -19,14 +19,14 @@ loop-again c =
     let top = c .before .before in (
       omega arith,
       simp length-set (top .loop .inv .1),
-      owners-next (top .before .args .notes) (top .loop .x) (top .loop .owner) (omega arith) (top .loop .inv .2),
+      owners-next (top .before .args .t1) (top .loop .x) (top .loop .owner) (omega arith) (top .loop .inv .2),
     )
 
 returns : tie.Need-returns Inv-loop μ-loop
 returns c =
     let s = c .before .before in
     let all : c .before .loop .x ≡ PLACES = omega arith in
-    owners-all (s .args .notes) (c .before .loop .owner) (s .pre) (c .before .loop .inv .1) (rw all at (c .before .loop .inv .2))
+    owners-all (s .args .t1) (c .before .loop .owner) (s .pre) (c .before .loop .inv .1) (rw all at (c .before .loop .inv .2))
 
 pub owners-spec : {M : Type 1} → statement M
 owners-spec =
