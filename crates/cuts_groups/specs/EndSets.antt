@@ -35,10 +35,12 @@ upto-out {k} {o} h = rw (less-one h) (pick-same {u = 1} refl 0 o)
 -- one more: where nothing stands yet, o is put in if it is that number
 upto-next : (i o : ℕ) → upto (suc i) o ≡ pick (upto i o) 0 (pick (is o (suc i)) 1 (suc i) 0) (upto i o)
 upto-next i o = same? o (suc i)
-    (λ e. rw (upto-in {k = suc i} {o = o} (omega arith), upto-out {k = i} {o = o} (omega arith), pick-same {u = 0} {v = 0} refl, is-same e, pick-same {u = 1} {v = 1} refl) e)
+    (λ e. upto-in {k = suc i} {o = o} (omega arith) ∙ e ∙ sym (rw (upto-out {k = i} {o = o} (omega arith), is-same e)
+    (pick-same {u = 0} {v = 0} refl (pick 1 1 (suc i) 0) 0 ∙ pick-same {u = 1} {v = 1} refl (suc i) 0)))
     (λ d. rw (is-other d, pick-other {u = 0} {v = 1} (λ z. omega arith)) (cases (decLt i o)
     (λ l. rw (upto-out {k = suc i} {o = o} (omega arith), upto-out {k = i} {o = o} l) (sym (pick-same {u = 0} {v = 0} refl 0 0)))
-    (λ l. rw (upto-in {k = suc i} {o = o} (omega arith), upto-in {k = i} {o = o} (omega arith)) (same? o 0 (λ e. e ∙ sym (pick-same e 0 o)) (λ e. sym (pick-other e 0 o))))))
+    (λ l. rw (upto-in {k = suc i} {o = o} (omega arith), upto-in {k = i} {o = o} (omega arith))
+    (same? o 0 (λ e. e ∙ sym (pick-same e 0 o)) (λ e. sym (pick-other e 0 o))))))
 
 upto-same : (i o : ℕ) → o ≢ suc i → upto i o ≡ upto (suc i) o
 upto-same i o d = cases (decLt i o)

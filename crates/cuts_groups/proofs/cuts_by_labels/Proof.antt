@@ -10,4 +10,9 @@ returns c =
     c .cuts-by .ensures ∙ ap (cutsBy (a .n) (a .labels .now) (a .ends .now)) (fun-ext (c .before .before .sums-leaving .ensures))
 
 pub cuts-by-labels-spec : {M : Type 1} → statement M
-cuts-by-labels-spec = tie.close (tie.spec (λ c κs. let p = c .before .before .before .pre in (p .1, p .2, p .3)) (λ c κs. let p = c .before .before .before .before .before .pre in (p .0, p .3)) returns)
+cuts-by-labels-spec =
+    tie.close
+    (tie.spec
+    (λ c κs. let p = c .before .before .before .pre in (p .1, p .2, p .3))
+    (λ c κs. let p = c .before .before .before .before .before .pre in (p .0, p .3))
+    returns)

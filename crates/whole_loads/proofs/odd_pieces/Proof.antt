@@ -52,7 +52,8 @@ one c =
     let s = c .before .before .before .before .before .before .before .before in
     let v = look (s .args .order .now) (c .before .before .before .before .before .before .before .loop .i) in
     let p = look (s .args .parent .now) v in
-    omega (arith, c .odd-at .ensures, odd-le (note (s .args .t5) v .owner) (note (s .args .t5) p .owner) (note (s .args .t5) v .most) (look (s .args .above .now) v))
+    let here = note (s .args .t5) v in
+    omega (arith, c .odd-at .ensures, odd-le (here .owner) (note (s .args .t5) p .owner) (here .most) (look (s .args .above .now) v))
 
 loop-again : tie.Need-loop-again Inv-loop μ-loop
 loop-again c =
