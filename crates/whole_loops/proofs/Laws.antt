@@ -11,9 +11,11 @@ use lib.Seq.{getD-set-same, getD-set-other, take-suc, drop-cons, getD-take, leng
 use Rattle.model.specs.Limits.{PLACES, SITES, SIZE}
 use Rattle.lists.specs.Numbers.{pick, look}
 use Rattle.lists.specs.Sums.{pick-same, pick-other, pick-cases, same?, cases}
-use Rattle.model.specs.WholeLoads.{Intervals, Loading, put, lowest, highest, onWay, ownerAt, newTop, leastAt, topLoad, coming, take, takeAll, give, giveAll, noIntervals}
+use Rattle.model.specs.WholeLoads.{Intervals, Loading, noIntervals, put, lowest, highest, ownerAt, newTop, leastAt, topLoad, coming}
+use Rattle.model.specs.WholeLoads.{take, takeAll, give, giveAll}
 use Rattle.whole_loops.specs.declared.Note.{Note}
-use Rattle.whole_loops.specs.Notes.{Given, Within, Fresh, Inward, Outward, Found, note, intervalsOf, loadingOf, blank, takenNote, joinedNote, comeNote, loadedNote}
+use Rattle.whole_loops.specs.Notes.{Given, Within, Fresh, Inward, Outward, Found, note, blank, intervalsOf, loadingOf}
+use Rattle.whole_loops.specs.Notes.{takenNote, joinedNote, comeNote, loadedNote}
 
 -- ---- a note is written
 
@@ -276,7 +278,8 @@ module _ (parent c terminal : ℕ → ℕ) (l : List Note) (v : ℕ) where
         let high : note come top .high ≡ note l top .high = ap (λ (f : ℕ → ℕ). f top) (kept l v here a (λ e. e .high) refl) in
         same-loading
         (written come top child b (λ e. e .load)
-        ∙ ap (λ (f : ℕ → ℕ). put f top (pick (terminal v) 1 (f top) (topLoad parent c terminal (note come top .high) share))) (kept l v here a (λ e. e .load) refl)
+        ∙ ap (λ (f : ℕ → ℕ). put f top (pick (terminal v) 1 (f top) (topLoad parent c terminal (note come top .high) share)))
+        (kept l v here a (λ e. e .load) refl)
         ∙ ap (λ k. put (λ z. note l z .load) top (pick (terminal v) 1 (note l top .load) (topLoad parent c terminal k share))) high
         ∙ put-unless (terminal v) 1 (λ z. note l z .load) top (topLoad parent c terminal (note l top .high) share))
         (kept come top child b (λ e. e .owner) refl ∙ written l v here a (λ e. e .owner))
@@ -287,7 +290,8 @@ module _ (parent c terminal : ℕ → ℕ) (l : List Note) (v : ℕ) where
     given-keeps-intervals =
         let a : v < length l = omega arith in
         let b : top < length come = omega (arith, length-set l v here) in
-        let as-it-was : (f : Note → ℕ) → f child ≡ f (note come top) → f here ≡ f (note l v) → _≡_ {A = ℕ → ℕ} (λ z. f (note givenNotes z)) (λ z. f (note l z)) =
+        let as-it-was : (f : Note → ℕ) → f child ≡ f (note come top) → f here ≡ f (note l v)
+        → _≡_ {A = ℕ → ℕ} (λ z. f (note givenNotes z)) (λ z. f (note l z)) =
         λ f p q. kept come top child b f p ∙ kept l v here a f q in
         same-intervals (as-it-was (λ e. e .least) refl refl) (as-it-was (λ e. e .most) refl refl) (as-it-was (λ e. e .low) refl refl)
         (as-it-was (λ e. e .high) refl refl) (as-it-was (λ e. e .top) refl refl) (as-it-was (λ e. e .goal) refl refl)
@@ -395,7 +399,8 @@ module _ {n : ℕ} {order parent capacity : List ℕ} (g : Given n order parent 
       → Inward (i + 1) order parent capacity ends (set (set l v e) p f)
   inward-turn i more w e f told joined = rw (joined, told) (inward-next g ends i more w)
 
-  pub outward-turn : {was : List Note} (i : ℕ) → i < n → Outward n i order parent capacity ends was l → let v = look order (n - 1 - i) in let t = note l v .top in
+  pub outward-turn : {was : List Note} (i : ℕ) → i < n → Outward n i order parent capacity ends was l
+      → let v = look order (n - 1 - i) in let t = note l v .top in
       (e f : Note) → e ≡ comeNote (look capacity v) v (note l v) (note l (look parent v))
       → f ≡ loadedNote (look ends v) (note l v .load + note l v .most) (note (set l v e) t)
       → Outward n (i + 1) order parent capacity ends was (set (set l v e) t f)

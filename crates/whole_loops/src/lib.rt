@@ -1,4 +1,5 @@
-// Inner: the two ways of a plan in whole circuits along an order of the sites (02, Card 2): intervals inward, loads and sets outward. Only the planner's own crates call it.
+// Inner: the two ways of a plan in whole circuits along an order of the sites (02, Card 2): intervals inward, loads and sets outward.
+// Only the planner's own crates call it.
 use model::PLACES;
 use model::SITES;
 ghost use mathlib.Core.Path.{_≡_};

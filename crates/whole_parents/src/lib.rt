@@ -12,7 +12,8 @@ ghost use Rattle.tree.specs.Accepted.{TreeWithin};
 ghost use Rattle.tree.specs.Offer.{links};
 ghost use Rattle.whole_parents.specs.Parents.{Single, Ordered, Placed, Earlier, Children, ParentsOf};
 
-// The child of each link, of its two sites the one that is taken first; at place x the parent of site x, and the capacity of the link to it, 0 where there is none.
+// The child of each link, of its two sites the one that is taken first; at place x the parent of site x, and the capacity of the link to it,
+// 0 where there is none.
 pub struct Parents {
     pub child: [u16; SITES],
     pub parent: [u16; PLACES],

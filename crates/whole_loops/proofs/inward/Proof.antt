@@ -45,7 +45,8 @@ loop-again c =
     let s = t .before .before in
     let i = t .before .loop .i in (
       omega (arith, turn t),
-      inward-turn (s .pre) (s .args .ends .now) i (turn t .more) (t .before .loop .inv .1) _ _ (c .before .before .before .taken .ensures) (c .joined .ensures),
+      inward-turn (s .pre) (s .args .ends .now) i (turn t .more) (t .before .loop .inv .1) _ _
+          (c .before .before .before .taken .ensures) (c .joined .ensures),
     )
 
 returns : tie.Need-returns Inv-loop μ-loop

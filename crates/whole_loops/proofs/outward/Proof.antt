@@ -27,7 +27,8 @@ loop-again c =
     let s = t .before .before in
     let i = t .before .loop .i in (
       omega (arith, turn t),
-      outward-turn (s .pre .0) (s .args .ends .now) i (turn t .more) (t .before .loop .inv .1) _ _ (c .before .before .before .before .come .ensures) (c .loaded .ensures),
+      outward-turn (s .pre .0) (s .args .ends .now) i (turn t .more) (t .before .loop .inv .1) _ _
+          (c .before .before .before .before .come .ensures) (c .loaded .ensures),
     )
 
 returns : tie.Need-returns Inv-loop μ-loop

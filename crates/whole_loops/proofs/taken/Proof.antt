@@ -8,7 +8,8 @@ use Rattle.whole_loops.proofs.taken.Tie as tie
 
 returns : tie.Need-returns
 unfolding takenNote lowest
-returns c = rw (← c .before .before .before .least-of .ensures, ← c .before .before .high-of .ensures, ← c .before .lesser .ensures, ← c .goal-of .ensures) refl
+returns c =
+    rw (← c .before .before .before .least-of .ensures, ← c .before .before .high-of .ensures, ← c .before .lesser .ensures, ← c .goal-of .ensures) refl
 
 pub taken-spec : {M : Type 1} → statement M
 taken-spec = tie.close (tie.spec (λ c κs. search needs) (λ c κs. search needs) (λ c κs. search needs) (λ c κs. search needs) returns)

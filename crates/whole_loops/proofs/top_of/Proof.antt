@@ -25,14 +25,16 @@ unfolding newTop
 returns-4 c =
     let t = c .before .before .before in
     let a = t .before .args in
-    rw (pick-other (t .if1 .left), pick-other (c .before .before .if2 .left), pick-other (c .before .if3 .left), if-pos (decLt (a .was) (a .new)) (c .if4 .taken)) refl
+    rw (pick-other (t .if1 .left), pick-other (c .before .before .if2 .left), pick-other (c .before .if3 .left))
+    (rw (if-pos (decLt (a .was) (a .new)) (c .if4 .taken)) refl)
 
 returns-5 : tie.Need-returns-5
 unfolding newTop
 returns-5 c =
     let t = c .before .before .before in
     let a = t .before .args in
-    rw (pick-other (t .if1 .left), pick-other (c .before .before .if2 .left), pick-other (c .before .if3 .left), if-neg (decLt (a .was) (a .new)) (λ h. omega arith)) refl
+    rw (pick-other (t .if1 .left), pick-other (c .before .before .if2 .left), pick-other (c .before .if3 .left))
+    (rw (if-neg (decLt (a .was) (a .new)) (λ h. omega arith)) refl)
 
 pub top-of-spec : {M : Type 1} → statement M
 top-of-spec = tie.close (tie.spec returns returns-2 returns-3 returns-4 returns-5)

@@ -47,8 +47,8 @@ loop-again c =
     let top = t .before in (
       omega (arith, turn t),
       simp length-set (top .loop .inv .1),
-      children-next (s .pre) (top .before .places .result) (top .before .places .ensures) (top .loop .j) (turn t .more) (c .earlier .ensures) (top .loop .child)
-          (top .loop .inv .1) (top .loop .inv .2),
+      children-next (s .pre) (top .before .places .result) (top .before .places .ensures) (top .loop .j) (turn t .more) (c .earlier .ensures)
+          (top .loop .child) (top .loop .inv .1) (top .loop .inv .2),
     )
 
 returns : tie.Need-returns Inv-loop μ-loop

@@ -38,7 +38,8 @@ turn c =
     let w = s .pre .0 in
     let j = c .before .loop .j in
     let more : j < length (s .args .one .now) = omega arith in
-    let o = other (ordered-within w (s .pre .1)) (s .args .capacity .now) (c .before .before .children .result) (c .before .before .children .ensures) j more in
+    let made = c .before .before .children in
+    let o = other (ordered-within w (s .pre .1)) (s .args .capacity .now) (made .result) (made .ensures) j more in
     record {
       more = more;
       few = omega (arith, w .firsts, w .few);
