@@ -73,11 +73,13 @@ module _ (n : ℕ) (few : n ≤ SITES) (labels ends : List ℕ) (sets : EndSets 
       let own : owner (suc k) ≡ suc k = sets .own (suc k) (omega arith, lt) m in
       places-is (upto (suc k)) n (map claims (upfrom 0 SITES)) few (length-map (upfrom 0 SITES) claims ∙ length-upfrom 0 SITES)
       (λ i h. look-values claims SITES i (omega arith) ∙ rw (look-places (upto k) n i h, labelled-is (owner (suc k)) i h, own) (same? (owner (suc i)) (suc k)
-      (λ e. rw (is-same e, owner-missed k (suc i) (omega (arith, e)), owner-found (suc k) (suc i) (omega (arith, e))) (pick-same {u = 0} refl _ _ ∙ pick-same {u = 1} refl _ _ ∙ sym e))
+      (λ e. rw (is-same e, owner-missed k (suc i) (omega (arith, e)), owner-found (suc k) (suc i) (omega (arith, e)))
+      (pick-same {u = 0} refl _ _ ∙ pick-same {u = 1} refl _ _ ∙ sym e))
       (λ d. rw (is-other d, pick-other {u = 0} {v = 1} (λ z. omega arith), owner-past k (suc i) d)
       (same? (upto (suc k) (suc i)) 0 (λ e. rw (pick-same e) (sym e)) (λ z. pick-other z _ _)))))
       (λ i le h. look-values claims SITES i h
-      ∙ rw (past-places (upto k) n i le, labelled-past n labels (owner (suc k)) i le) (pick-same {u = 0} refl _ _ ∙ pick-other {u = 0} {v = 1} (λ z. omega arith) _ _))
+      ∙ rw (past-places (upto k) n i le, labelled-past n labels (owner (suc k)) i le)
+      (pick-same {u = 0} refl _ _ ∙ pick-other {u = 0} {v = 1} (λ z. omega arith) _ _))
 
   owners-are : (k : ℕ) → k ≤ n → ownersTo (labelled n labels) labels (replicate SITES 0) ends k ≡ places n (upto k)
   owners-are zero h = owners-none (labelled n labels) labels (replicate SITES 0) ends ∙ places-zero (upto 0) n few owner-none

@@ -23,7 +23,8 @@ use Rattle.nine.specs.Planned.{plannedFor, expected}
 
 sheets-in-whole-circuits : map (plannedFor wholeReport) wholeSheets ≡ map expected wholeSheets
 unfolding plannedFor expected plannedBy planRead deliver ℕ-discrete decLe decLt pick is differ less sum over count upfrom at sumAt leaf ends relabel label
-    joined total unvisited first remove taken elimination kept setSize connects piece inPiece leavingPiece setCount oddPieces from upward beyond parentOf putAt lowest
+    joined total unvisited first remove taken elimination kept setSize connects piece inPiece leavingPiece setCount oddPieces from upward beyond
+    parentOf putAt lowest
     highest onWay ownerAt newTop leastAt take takeAll topLoad coming giveAt giveAll linkLoad above intervals loading wholeLoad wholeOwner wholeLoads put
     takeHalves dropHalves halves give match joins between children gather alone settle walk pairsFrom lowestInner pairs lowerFirst before insert ordered
     pairList lineLength lineAt afterLine hasLine same push fields all isName isNumber valueFrom isHeading checkedFields checked faultOf judged

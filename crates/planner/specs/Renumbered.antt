@@ -1,5 +1,6 @@
 -- What Card 1 changed in planning: by the numbering from before, which gave 2 for each fault of form, outcome and buffer are today's for either report, every
--- sheet and every buffer, but that 2 stands for 10, 11 and 12. Document 02, Card 1. Since every sheet is read as before, and a report that is too long is told as 9.
+-- sheet and every buffer, but that 2 stands for 10, 11 and 12. Document 02, Card 1. Since every sheet is read as before, and a report that is too
+-- long is told as 9.
 use mathlib.Core.Bool.{Bool, true, false, cond}
 use mathlib.Core.List.{List}
 use mathlib.Core.Path.{_≡_, refl}

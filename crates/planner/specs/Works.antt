@@ -194,7 +194,8 @@ what-is-worked-out-is-ready {s} {starting} {stopping} {n} {one} {two} {c} a show
     rw (ls, told, a .counted, a .sizes, a .started, a .stopped, a .firsts, a .seconds) (λ e. rw e (λ cut listed held.
     figures-are-ready N (halves (a .net)) (halves-can-be-shown (a .net) (N .tree)) ps
     (halves-are-worked-out N marks cuts (take (ps .count) (ps .list)) told cut listed)
-    (owned-has-places (a .net .links) (length (a .net .names)) (terminal (a .net)) (look (a .net .capacities)) (look (halves (a .net) .shown)) (N .few) cuts cut)
+    (owned-has-places (a .net .links) (length (a .net .names)) (terminal (a .net)) (look (a .net .capacities))
+    (look (halves (a .net) .shown)) (N .few) cuts cut)
     held (the-report-shows-halves (a .net) s) (a .read)))
 
 -- ---- from what the inner functions promise

@@ -99,10 +99,12 @@ fn deliver<'a>(
         (now count) pairs) pairs ⌝ }
     ensures told { λ r. ⌜ r ≡ deliver (reportOf
         (shownBy (now (word .entry)) (now (before .entry)) (now (sheet .entry)) (now (start .entry)) (now (end .entry)) n (now (one .entry)) (now (two .entry))
-        (now (capacity .entry)) (now (shown .entry)) (now (ends .entry)) (now (owner .entry)) (now (size .entry)) (now (count .entry)) pairs)) (now (report .entry)) .outcome ⌝ }
+        (now (capacity .entry)) (now (shown .entry)) (now (ends .entry)) (now (owner .entry)) (now (size .entry)) (now (count .entry)) pairs))
+        (now (report .entry)) .outcome ⌝ }
     ensures left { λ r. ⌜ now (report .exit) ≡ deliver (reportOf
         (shownBy (now (word .entry)) (now (before .entry)) (now (sheet .entry)) (now (start .entry)) (now (end .entry)) n (now (one .entry)) (now (two .entry))
-        (now (capacity .entry)) (now (shown .entry)) (now (ends .entry)) (now (owner .entry)) (now (size .entry)) (now (count .entry)) pairs)) (now (report .entry)) .buffer ⌝ }
+        (now (capacity .entry)) (now (shown .entry)) (now (ends .entry)) (now (owner .entry)) (now (size .entry)) (now (count .entry)) pairs))
+        (now (report .entry)) .buffer ⌝ }
 {
     let room = report.len();
     if fits(
@@ -256,12 +258,12 @@ fn plan_chained<'a>(
     order: &[usize; SITES],
     last: &'a [usize; PLACES],
     before: &'a [usize; CHAINS],
-    report: &mut [u8],
+    buf: &mut [u8],
 ) -> Outcome
     requires { ⌜ TakenApart (now sheet) (now start) (now end) n (now one) (now two) (now capacity)
         × Ordered n (now one) (now two) (now order) × Chained (now one) (now two) (now last) (now before) ⌝ }
-    ensures told { λ r. ⌜ r ≡ plannedBy (reporter whole) edition1 (now (sheet .entry)) (now (report .entry)) .outcome ⌝ }
-    ensures left { λ r. ⌜ now (report .exit) ≡ plannedBy (reporter whole) edition1 (now (sheet .entry)) (now (report .entry)) .buffer ⌝ }
+    ensures told { λ r. ⌜ r ≡ plannedBy (reporter whole) edition1 (now (sheet .entry)) (now (buf .entry)) .outcome ⌝ }
+    ensures left { λ r. ⌜ now (buf .exit) ≡ plannedBy (reporter whole) edition1 (now (sheet .entry)) (now (buf .entry)) .buffer ⌝ }
 {
     let ends = tree_links::ends(n, last, before, one, two);
     if whole {
@@ -277,7 +279,7 @@ fn plan_chained<'a>(
             &ends,
             last,
             before,
-            report,
+            buf,
         );
     }
     plan_charted(
@@ -292,7 +294,7 @@ fn plan_chained<'a>(
         &ends,
         last,
         before,
-        report,
+        buf,
     )
 }
 

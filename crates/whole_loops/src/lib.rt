@@ -8,7 +8,7 @@ ghost use lib.ListN.{length, take};
 ghost use Rattle.model.specs.Limits.{PLACES, SITES, SIZE};
 ghost use Rattle.lists.specs.Numbers.{pick, is, look};
 ghost use Rattle.model.specs.WholeLoads.{highest, onWay, ownerAt, newTop, topLoad, takeAll, noIntervals};
-ghost use Rattle.whole_loops.specs.Notes.{Given, Within, Inward, Outward, Found, leastOf, takenNote, joinedNote, comeNote, loadedNote};
+ghost use Rattle.whole_loops.specs.Notes.{Given, Within, Inward, Found, leastOf, takenNote, joinedNote, comeNote, loadedNote};
 
 // What the two ways note of a site: the loads that its children can bring together, from `least` to `most` in steps of 2; those that the link to the
 // parent lets through, from `low` to `high`; the child with the greatest `high`; the terminal to which such children lead; the load of the link to the
@@ -232,31 +232,8 @@ fn loaded(terminal: u8, h: u32, child: Note) -> Note
     next
 }
 
-// The way outward: the sites of an order come in turn, the last one first.
-fn outward(
-    n: usize,
-    order: &[usize; SITES],
-    parent: &[u16; PLACES],
-    above: &[u32; PLACES],
-    ends: &[u8; PLACES],
-    found: [Note; PLACES],
-) -> [Note; PLACES]
-    requires { ⌜ Given n (now order) (now parent) (now above) × Inward n (now order) (now parent) (now above) (now ends) found ⌝ }
-    ensures { λ r. ⌜ Outward n n (now (order .entry)) (now (parent .entry)) (now (above .entry)) (now (ends .entry)) found r ⌝ }
-{
-    let mut notes = found;
-    for i in 0..n {
-        let v = order[n - 1 - i];
-        let p = parent[v] as usize;
-        let here = notes[v];
-        let child = here.top as usize;
-        notes[v] = come(above[v], v as u16, here, notes[p]);
-        notes[child] = loaded(ends[v], here.load + here.most, notes[child]);
-    }
-    notes
-}
-
-// What the two ways find along n sites of an order, from the parent of each site, the capacity of the link to it, and the terminals `ends`.
+// What the two ways find along n sites of an order, from the parent of each site, the capacity of the link to it, and the terminals `ends`: after the way
+// inward, on the way outward, the sites come in turn, the last one first.
 pub fn both_ways(
     n: usize,
     order: &[usize; SITES],
@@ -267,6 +244,14 @@ pub fn both_ways(
     requires { ⌜ Given n (now order) (now parent) (now above) ⌝ }
     ensures { λ r. ⌜ Found n (now (order .entry)) (now (parent .entry)) (now (above .entry)) (now (ends .entry)) r ⌝ }
 {
-    let found = inward(n, order, parent, above, ends);
-    outward(n, order, parent, above, ends, found)
+    let mut notes = inward(n, order, parent, above, ends);
+    for i in 0..n {
+        let v = order[n - 1 - i];
+        let p = parent[v] as usize;
+        let here = notes[v];
+        let child = here.top as usize;
+        notes[v] = come(above[v], v as u16, here, notes[p]);
+        notes[child] = loaded(ends[v], here.load + here.most, notes[child]);
+    }
+    notes
 }

@@ -9,7 +9,8 @@ returns : tie.Need-returns
 returns c =
     let s = c .before .before .before .before .before .before in
     let a = s .args in
-    c .cuts-by .ensures ∙ cuts-by-owners (a .n) (s .pre .0) (a .labels .now) (a .ends .now) (s .pre .3) (s .pre .1) (a .capacity .now) _ (c .before .before .sums-leaving .ensures)
+    c .cuts-by .ensures
+    ∙ cuts-by-owners (a .n) (s .pre .0) (a .labels .now) (a .ends .now) (s .pre .3) (s .pre .1) (a .capacity .now) _ (c .before .before .sums-leaving .ensures)
 
 pub sets-of-spec : {M : Type 1} → statement M
 sets-of-spec =

@@ -45,7 +45,8 @@ returns-2 c =
     let e = sym (p .0) ∙ at-outcome2 .outcome2 .given .1 in
     let v = rw (p .1) at (w .0) in
     let a = a-refusal-is-printed (reporter (s .whole)) (s .sheet .now) (s .buf .now) _ _ e _ _ v in
-    (sym (ap (λ x. x .length) a), (sym (ap (λ x. x .buffer) a), a-refusal-is-within-the-buffer (reporter (s .whole)) (s .sheet .now) (s .buf .now) _ _ e _ _ v (w .1)))
+    let within = a-refusal-is-within-the-buffer (reporter (s .whole)) (s .sheet .now) (s .buf .now) _ _ e _ _ v (w .1) in
+    (sym (ap (λ x. x .length) a), (sym (ap (λ x. x .buffer) a), within))
 
 pub answer-on-spec : {M : Type 1} → statement M
 answer-on-spec =

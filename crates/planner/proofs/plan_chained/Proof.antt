@@ -20,8 +20,8 @@ returns c =
     let made = c .before .before in
     let a = c .before .before .before .before .before .before .before .before .before .before .before .before .before .before .args in
     let e : wholeReport ≡ reporter (a .whole) = sym (ap reporter (made .before .before .before .if1 .taken)) in (
-      made .whole-charted .ensures .0 ∙ ap (λ text. plannedBy text edition1 (a .sheet .now) (a .report .now) .outcome) e,
-      made .whole-charted .ensures .1 ∙ ap (λ text. plannedBy text edition1 (a .sheet .now) (a .report .now) .buffer) e,
+      made .whole-charted .ensures .0 ∙ ap (λ text. plannedBy text edition1 (a .sheet .now) (a .buf .now) .outcome) e,
+      made .whole-charted .ensures .1 ∙ ap (λ text. plannedBy text edition1 (a .sheet .now) (a .buf .now) .buffer) e,
     )
 
 returns-2 : tie.Need-returns-2
@@ -30,8 +30,8 @@ returns-2 c =
     let made = c .before .before in
     let a = c .before .before .before .before .before .before .before .before .before .before .before .before .before .before .args in
     let e : report ≡ reporter (a .whole) = sym (ap reporter (made .before .before .before .if1 .left)) in (
-      made .plan-charted .ensures .0 ∙ ap (λ text. plannedBy text edition1 (a .sheet .now) (a .report .now) .outcome) e,
-      made .plan-charted .ensures .1 ∙ ap (λ text. plannedBy text edition1 (a .sheet .now) (a .report .now) .buffer) e,
+      made .plan-charted .ensures .0 ∙ ap (λ text. plannedBy text edition1 (a .sheet .now) (a .buf .now) .outcome) e,
+      made .plan-charted .ensures .1 ∙ ap (λ text. plannedBy text edition1 (a .sheet .now) (a .buf .now) .buffer) e,
     )
 
 pub plan-chained-spec : {M : Type 1} → statement M

@@ -59,8 +59,8 @@ ready : (c : tie.After-ordered) → let cut = c .before .before in
     let made = cut .cuts-of .result in
     Ready (a .sheet .now) (a .start .now) (a .end .now)
     (shownBy (bytes "plan") [] (a .sheet .now) (a .start .now) (a .end .now) (a .n) (a .one .now) (a .two .now) (a .capacity .now)
-    (take (length (a .one .now)) (cut .before .before .before .balance .last .1 .1 .1 .1 .1 .1 .1 .1 .0)) (a .ends .now) (made .owner) (made .size) (made .count)
-    (c .ordered .result)) (c .ordered .result)
+    (take (length (a .one .now)) (cut .before .before .before .balance .last .1 .1 .1 .1 .1 .1 .1 .1 .0)) (a .ends .now) (made .owner) (made .size)
+    (made .count) (c .ordered .result)) (c .ordered .result)
 unfolding pairList
 ready c =
     let cut = c .before .before in

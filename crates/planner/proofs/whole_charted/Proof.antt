@@ -29,16 +29,19 @@ solve-requires : tie.Need-solve-requires
 solve-requires c κs =
     let s = c .before .before .before .before .before .before .before .before .before in
     let tree = the-network-is-a-tree-within (s .pre .0) in
-    (tree, s .pre .1 .ordered, every-leaf-is-marked (s .pre .0) (s .pre .1), omega (arith, tree .firsts, tree .few, length-replicate {A = ℕ} SITES 0))
+    let room = omega (arith, tree .firsts, tree .few, length-replicate {A = ℕ} SITES 0) in
+    (tree, s .pre .1 .ordered, every-leaf-is-marked (s .pre .0) (s .pre .1), room)
 
 -- the loads stand at the front of the list
 loads : (c : tie.After-solve) → let a = c .before .before .before .before .before .before .before .before .before .before .args in
-    take (length (a .one .now)) (c .solve .last .1 .1 .1 .1 .1 .1 .0) ≡ wholeLoads (links (a .one .now) (a .two .now)) (a .n) (look (a .ends .now)) (look (a .capacity .now))
+    take (length (a .one .now)) (c .solve .last .1 .1 .1 .1 .1 .1 .0)
+    ≡ wholeLoads (links (a .one .now) (a .two .now)) (a .n) (look (a .ends .now)) (look (a .capacity .now))
 loads c =
     let s = c .before .before .before .before .before .before .before .before .before .before in
     the-front-is-the-loads (s .pre .0) (s .pre .1) _ _ (c .solve .ensures .loads)
 
-each : (c : tie.After-solve) → let a = c .before .before .before .before .before .before .before .before .before .before .args in length (take (length (a .one .now)) (c .solve .last .1 .1 .1 .1 .1 .1 .0)) ≡ length (a .one .now)
+each : (c : tie.After-solve) → let a = c .before .before .before .before .before .before .before .before .before .before .args in
+    length (take (length (a .one .now)) (c .solve .last .1 .1 .1 .1 .1 .1 .0)) ≡ length (a .one .now)
 each c =
     let s = c .before .before .before .before .before .before .before .before .before .before in
     whole-loads-can-be-walked (s .pre .0) (s .pre .1) _ (loads c) .0
@@ -48,7 +51,8 @@ sets-of-requires c κs =
     let solved = c .before .before .before in
     let s = solved .before .before .before .before .before .before .before .before .before .before in
     let tree = the-network-is-a-tree-within (s .pre .0) in
-    (tree .few, offer-placed tree, offer-limited tree, the-labels-are-end-sets (s .pre .0) (s .pre .1) (solved .solve .last .1 .1 .1 .1 .1 .1 .1 .0) (solved .solve .ensures .owners), solved .solve .ensures .low)
+    let sets = the-labels-are-end-sets (s .pre .0) (s .pre .1) (solved .solve .last .1 .1 .1 .1 .1 .1 .1 .0) (solved .solve .ensures .owners) in
+    (tree .few, offer-placed tree, offer-limited tree, sets, solved .solve .ensures .low)
 
 decompose-requires : tie.Need-decompose-requires
 decompose-requires c κs =
@@ -66,8 +70,8 @@ ready : (c : tie.After-write-odd) → let ordered = c .before .before in
     let solved = made .before .before .before .before in
     let a = solved .before .before .before .before .before .before .before .before .before .before .args in
     ReadyBy wholeReport (a .sheet .now) (a .start .now) (a .end .now)
-    (shownBy (bytes "whole") (take (c .write-odd .result) (c .write-odd .last .1 .0)) (a .sheet .now) (a .start .now) (a .end .now) (a .n) (a .one .now) (a .two .now)
-    (a .capacity .now) (take (length (a .one .now)) (solved .solve .last .1 .1 .1 .1 .1 .1 .0)) (a .ends .now) (made .sets-of .result .owner)
+    (shownBy (bytes "whole") (take (c .write-odd .result) (c .write-odd .last .1 .0)) (a .sheet .now) (a .start .now) (a .end .now) (a .n) (a .one .now)
+    (a .two .now) (a .capacity .now) (take (length (a .one .now)) (solved .solve .last .1 .1 .1 .1 .1 .1 .0)) (a .ends .now) (made .sets-of .result .owner)
     (made .sets-of .result .size) (made .sets-of .result .count) (ordered .ordered .result)) (ordered .ordered .result)
 unfolding pairList
 ready c =
@@ -76,7 +80,8 @@ ready c =
     let solved = made .before .before .before .before in
     let s = solved .before .before .before .before .before .before .before .before .before .before in
     let a = s .args in
-    let listed = pairs-in-order _ (ordered .before .decompose .result) (ordered .ordered .result) (ordered .before .decompose .ensures) (ordered .ordered .ensures) in
+    let walked = ordered .before .decompose in
+    let listed = pairs-in-order _ (walked .result) (ordered .ordered .result) (walked .ensures) (ordered .ordered .ensures) in
     let owners = fun-ext (solved .solve .ensures .owners) in
     whole-circuits-are-ready (s .pre .0) _ (a .ends .now) (made .sets-of .result) _ (ordered .ordered .result) (s .pre .1 .marked) (loads solved)
     (made .sets-of .ensures ∙ ap (setsOf (links (a .one .now) (a .two .now)) (a .n) (look (a .ends .now)) (look (a .capacity .now))) owners)
@@ -98,7 +103,8 @@ whole-charted-spec =
     (tie.spec
     (λ c. search needs)
     solve-requires
-    (λ c. omega (arith, each (c .before), length-take (length (c .before .before .before .before .before .before .before .before .before .before .before .args .one .now)) (c .before .solve .last .1 .1 .1 .1 .1 .1 .0)))
+    (λ c. let a = c .before .before .before .before .before .before .before .before .before .before .before .args in
+    omega (arith, each (c .before), length-take (length (a .one .now)) (c .before .solve .last .1 .1 .1 .1 .1 .1 .0)))
     (λ c. sym (each (c .before .before)))
     sets-of-requires
     decompose-requires

@@ -28,6 +28,8 @@ write-odd-spec =
     tie.close
     (tie.spec
     (λ c κs. omega arith)
-    (λ c κs. omega (arith, c .before .before .before .put-letter .ensures .next, short (c .before .before .before .before .before .before .args .count) (omega arith)))
+    (λ c κs.
+    let s = c .before .before .before .before .before .before .args in
+    omega (arith, c .before .before .before .put-letter .ensures .next, short (s .count) (omega arith)))
     (λ c. same-size (c .before .before .put-number .ensures) ∙ same-size (c .before .before .before .before .before .before .put-letter .ensures))
     returns)

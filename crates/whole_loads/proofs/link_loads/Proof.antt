@@ -21,7 +21,8 @@ loop-again c =
     let a = top .before .args in (
       omega arith,
       simp length-set (top .loop .inv .1),
-      filled-next (λ i. note (a .t3) (look (a .child .now) i) .load) (top .loop .j) (a .lent .now) (omega (arith, top .before .pre .1)) (top .loop .inv .2) refl,
+      filled-next (λ i. note (a .t3) (look (a .child .now) i) .load) (top .loop .j) (a .lent .now) (omega (arith, top .before .pre .1))
+          (top .loop .inv .2) refl,
     )
 
 returns : tie.Need-returns Inv-loop μ-loop

@@ -46,7 +46,8 @@ returns c =
     let a = c .before .before .args in
     let all : c .before .loop .i ≡ a .n = omega arith in
     c .before .loop .inv .2
-    ∙ ap (λ i. over (take i (a .order .now)) (oddAt (look (a .parent .now)) (look (a .above .now)) (λ x. note (a .t5) x .most) (λ x. note (a .t5) x .owner))) all
+    ∙ ap (λ i. over (take i (a .order .now))
+    (oddAt (look (a .parent .now)) (look (a .above .now)) (λ x. note (a .t5) x .most) (λ x. note (a .t5) x .owner))) all
 
 pub odd-pieces-spec : {M : Type 1} → statement M
 odd-pieces-spec =
@@ -57,25 +58,22 @@ odd-pieces-spec =
     (λ c. (omega arith, omega arith, over-none (c .args .order .now) _))
     (λ c. omega arith)
     (λ c. omega (arith, c .before .before .pre .0 .few))
-    (λ c. omega (arith, (c .before .before .before .pre .0 .placed (c .before .before .loop .i) (omega arith))))
-    (λ c. omega (arith, (c .before .before .before .pre .0 .placed (c .before .before .loop .i) (omega arith))))
-    (λ c. omega (arith, (c .before .before .before .before .pre .0 .parents (look (c .before .before .before .before .args .order .now) (c .before .before .before .loop .i)))))
-    (λ c. omega (arith, (c .before .before .before .before .pre .0 .placed (c .before .before .before .loop .i) (omega arith))))
-    (λ c. omega (arith, (c .before .before .before .before .pre .0 .placed (c .before .before .before .loop .i) (omega arith))))
-    (λ c. omega (arith, (c .before .before .before .before .before .pre .0 .parents (look (c .before .before .before .before .before .args .order .now) (c .before .before .before .before .loop .i)))))
-    (λ c. omega (arith, (c .before .before .before .before .before .pre .0 .parents (look (c .before .before .before .before .before .args .order .now) (c .before .before .before .before .loop .i)))))
-    (λ c. omega (arith, (c .before .before .before .before .before .before .pre .0 .placed (c .before .before .before .before .before .loop .i) (omega arith))))
-    (λ c. omega (arith, (c .before .before .before .before .before .before .pre .0 .placed (c .before .before .before .before .before .loop .i) (omega arith))))
+    (λ c. let t = c .before .before in omega (arith, t .before .pre .0 .placed (t .loop .i) (omega arith)))
+    (λ c. let t = c .before .before in omega (arith, t .before .pre .0 .placed (t .loop .i) (omega arith)))
+    (λ c. let t = c .before .before .before in omega (arith, t .before .pre .0 .parents (look (t .before .args .order .now) (t .loop .i))))
+    (λ c. let t = c .before .before .before in omega (arith, t .before .pre .0 .placed (t .loop .i) (omega arith)))
+    (λ c. let t = c .before .before .before in omega (arith, t .before .pre .0 .placed (t .loop .i) (omega arith)))
+    (λ c. let t = c .before .before .before .before in omega (arith, t .before .pre .0 .parents (look (t .before .args .order .now) (t .loop .i))))
+    (λ c. let t = c .before .before .before .before in omega (arith, t .before .pre .0 .parents (look (t .before .args .order .now) (t .loop .i))))
+    (λ c. let t = c .before .before .before .before .before in omega (arith, t .before .pre .0 .placed (t .loop .i) (omega arith)))
+    (λ c. let t = c .before .before .before .before .before in omega (arith, t .before .pre .0 .placed (t .loop .i) (omega arith)))
     odd-at-requires
-    (λ c. let top = c .before .before .before .before .before .before .before in
-    omega (
-      arith,
-      top .before .pre .0 .few,
-      c .odd-at .ensures,
-      odd-le (note (top .before .args .t5) (look (top .before .args .order .now) (top .loop .i)) .owner)
-          (note (top .before .args .t5) (look (top .before .args .parent .now) (look (top .before .args .order .now) (top .loop .i))) .owner)
-          (note (top .before .args .t5) (look (top .before .args .order .now) (top .loop .i)) .most) (look (top .before .args .above .now) (look (top .before .args .order .now) (top .loop .i))),
-    ))
+    (λ c. let t = c .before .before .before .before .before .before .before in
+    let a = t .before .args in
+    let v = look (a .order .now) (t .loop .i) in
+    let here = note (a .t5) v in
+    let up = note (a .t5) (look (a .parent .now) v) in
+    omega (arith, t .before .pre .0 .few, c .odd-at .ensures, odd-le (here .owner) (up .owner) (here .most) (look (a .above .now) v)))
     (λ c. omega arith)
     (λ c. omega arith)
     loop-again

@@ -38,7 +38,8 @@ loop-again c =
 returns : tie.Need-returns Inv-loop μ-loop
 returns c = λ x. cases (decLt x PLACES)
     (λ h. c .before .loop .inv .2 x (omega arith))
-    (λ h. c .before .loop .inv .3 x (omega arith) ∙ ap (λ e. e .owner) (sym (List·getD-eq-default (c .before .before .args .t1) blank {n = x} (omega (arith, c .before .before .pre)))))
+    (λ h. c .before .loop .inv .3 x (omega arith)
+    ∙ ap (λ e. e .owner) (sym (List·getD-eq-default (c .before .before .args .t1) blank {n = x} (omega (arith, c .before .before .pre)))))
 
 pub owners-spec : {M : Type 1} → statement M
 owners-spec =
