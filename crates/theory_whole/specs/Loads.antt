@@ -1,6 +1,7 @@
 -- Intervals of loads from the terminals inward, loads from the root outward, and why they are largest: by two inductions, children first, on what a load of
 -- the link to the parent brings to the terminals below. A, B: least and most that the children of a site bring together; a, b: low and high,
--- what the link to the parent, of capacity c, lets through; K, S: what comes to the terminals below; us: the sites, par: their parents, term: 1 at a terminal; x: loads.
+-- what the link to the parent, of capacity c, lets through; K, S: what comes to the terminals below; us: the sites,
+-- par: their parents, term: 1 at a terminal; x: loads.
 use mathlib.Core.Path.{_≡_, refl, ap, ap₂, _∙_}
 use mathlib.Core.Logic.{_≢_}
 use mathlib.Core.List.{List}

@@ -14,7 +14,7 @@ use Rattle.lists.specs.Sums.{pick-same, pick-other, pick-cases, same?, cases}
 use Rattle.model.specs.WholeLoads.{Intervals, Loading, noIntervals, put, lowest, highest, ownerAt, newTop, leastAt, topLoad, coming}
 use Rattle.model.specs.WholeLoads.{take, takeAll, give, giveAll}
 use Rattle.whole_loops.specs.declared.Note.{Note}
-use Rattle.whole_loops.specs.Notes.{Given, Within, Fresh, Inward, Outward, Found, note, blank, intervalsOf, loadingOf}
+use Rattle.whole_loops.specs.Notes.{Given, Within, Fresh, Inward, Found, note, blank, intervalsOf, loadingOf}
 use Rattle.whole_loops.specs.Notes.{takenNote, joinedNote, comeNote, loadedNote}
 
 -- ---- a note is written
@@ -235,6 +235,13 @@ inward-next {n} {order} {parent} {capacity} g ends {l} i more w =
     }
 
 -- ---- the way outward
+
+-- what the way outward finds along the last i of n sites; `was` are the notes of the way inward
+pub record Outward (n i : ℕ) (order parent above ends : List ℕ) (was l : List Note) : Type 0 where
+  pub places : length l ≡ PLACES
+  pub small : (x : ℕ) → Within (SITES * SIZE) (note l x)
+  pub same : intervalsOf l ≡ intervalsOf was
+  pub outward : loadingOf l ≡ giveAll (look parent) (look above) (look ends) (intervalsOf was) (drop (n - i) (front n order))
 
 abbrev three : (load owner on : ℕ → ℕ) → Loading
 three load owner on = record { load = load; owner = owner; on = on }

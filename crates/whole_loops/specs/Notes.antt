@@ -2,7 +2,7 @@
 use mathlib.Core.Path.{_≡_}
 use mathlib.Core.List.{List}
 use Prim.Native.Nat.{ℕ, _+_, _-_, _*_, _%_, _≤_, _<_, max}
-use lib.ListN.{length, getD, take, drop}
+use lib.ListN.{length, getD, take}
 use Rattle.model.specs.Limits.{PLACES, SITES, SIZE}
 use Rattle.lists.specs.Numbers.{pick, is, look}
 use Rattle.model.specs.WholeLoads.{Intervals, Loading, noIntervals, lowest, highest, onWay, ownerAt, newTop, topLoad, takeAll, giveAll}
@@ -65,13 +65,6 @@ pub record Inward (i : ℕ) (order parent above ends : List ℕ) (l : List Note)
   pub small : (x : ℕ) → Within (i * SIZE) (note l x)
   pub fresh : (x : ℕ) → Fresh (note l x)
   pub inward : intervalsOf l ≡ takeAll (look parent) (look above) (look ends) (take i order) noIntervals
-
--- what the way outward finds along the last i of n sites; `was` are the notes of the way inward
-pub record Outward (n i : ℕ) (order parent above ends : List ℕ) (was l : List Note) : Type 0 where
-  pub places : length l ≡ PLACES
-  pub small : (x : ℕ) → Within (SITES * SIZE) (note l x)
-  pub same : intervalsOf l ≡ intervalsOf was
-  pub outward : loadingOf l ≡ giveAll (look parent) (look above) (look ends) (intervalsOf was) (drop (n - i) (take n order))
 
 -- what both ways find
 pub record Found (n : ℕ) (order parent above ends : List ℕ) (l : List Note) : Type 0 where

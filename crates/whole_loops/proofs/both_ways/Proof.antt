@@ -3,8 +3,7 @@ use mathlib.Core.Path.{_≡_}
 use Prim.Native.Nat.{_-_, _≤_}
 use native.Mathlib.Omega.{arith}
 use Rattle.lists.specs.Numbers.{look}
-use Rattle.whole_loops.specs.Notes.{Outward}
-use Rattle.whole_loops.proofs.Laws.{Turn, turn-outward, outward-none, outward-turn, both-found}
+use Rattle.whole_loops.proofs.Laws.{Outward, Turn, turn-outward, outward-none, outward-turn, both-found}
 use Rattle.whole_loops.proofs.both_ways.Statement.{statement}
 use Rattle.whole_loops.proofs.both_ways.Tie as tie
 
