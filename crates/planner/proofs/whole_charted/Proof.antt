@@ -29,8 +29,8 @@ solve-requires : tie.Need-solve-requires
 solve-requires c κs =
     let s = c .before .before .before .before .before .before .before .before .before in
     let tree = the-network-is-a-tree-within (s .pre .0) in
-    let room = omega (arith, tree .firsts, tree .few, length-replicate {A = ℕ} SITES 0) in
-    (tree, s .pre .1 .ordered, every-leaf-is-marked (s .pre .0) (s .pre .1), room)
+    let marked = every-leaf-is-marked (s .pre .0) (s .pre .1) in
+    (tree, s .pre .1 .ordered, marked, omega (arith, tree .firsts, tree .few, length-replicate {A = ℕ} SITES 0))
 
 -- the loads stand at the front of the list
 loads : (c : tie.After-solve) → let a = c .before .before .before .before .before .before .before .before .before .before .args in
