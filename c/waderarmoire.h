@@ -10,7 +10,7 @@
  * of its own. It reads the sheet and writes the buffer within their lengths and touches no
  * other memory of the caller's. Every call ends, whatever the sheet holds.
  *
- * A call needs at most 108 KiB of stack, whatever the shape of the tree: nothing recurses
+ * A call needs at most 112 KiB of stack, whatever the shape of the tree: nothing recurses
  * (measured, with what a new thread itself needs). A thread of WADERARMOIRE_STACK_BYTES has
  * enough for every sheet.
  */

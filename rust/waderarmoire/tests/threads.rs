@@ -3,7 +3,7 @@
 use sheets::{Layout, Names, Network, Random, SHAPES, SITES, SIZE, Shape};
 use std::env;
 use std::thread::{self, Builder};
-use waderarmoire::{REPORT_BYTES, STACK_BYTES, plan};
+use waderarmoire::{REPORT_BYTES, STACK_BYTES, plan, whole};
 
 /// The sheet of a tree of a shape, its sites in the order of the shape or the other way round.
 fn sheet(shape: Shape, count: usize, seed: u64, turned: bool) -> Vec<u8> {
@@ -24,18 +24,20 @@ fn sheet(shape: Shape, count: usize, seed: u64, turned: bool) -> Vec<u8> {
     network.sheet(Layout::SitesFirst, &mut random)
 }
 
-/// The report of a sheet, planned where this is called into a buffer of so many bytes.
-fn report(sheet: &[u8], room: usize) -> Vec<u8> {
-    let mut buffer = vec![0; room];
-    plan(sheet, &mut buffer).expect("a tree").to_vec()
+/// The two reports of a sheet, planned where this is called into buffers of so many bytes.
+fn reports(sheet: &[u8], room: [usize; 2]) -> [Vec<u8>; 2] {
+    let mut halves = vec![0; room[0]];
+    let mut circuits = vec![0; room[1]];
+    let halves = plan(sheet, &mut halves).expect("a tree").to_vec();
+    [halves, whole(sheet, &mut circuits).expect("a tree").to_vec()]
 }
 
-/// Plans a sheet in threads with so many bytes of stack, into a buffer for every report and into
-/// one that has just the bytes of this; too few bytes of stack end the whole test.
+/// Plans a sheet in threads with so many bytes of stack, into buffers for every report and into
+/// such that have just the bytes of these; too few bytes of stack end the whole test.
 fn in_thread(sheet: Vec<u8>, stack: usize) {
-    let alone = report(&sheet, REPORT_BYTES);
-    let length = alone.len();
-    let both = move || (report(&sheet, REPORT_BYTES), report(&sheet, length));
+    let alone = reports(&sheet, [REPORT_BYTES; 2]);
+    let lengths = [alone[0].len(), alone[1].len()];
+    let both = move || (reports(&sheet, [REPORT_BYTES; 2]), reports(&sheet, lengths));
     let thread = Builder::new().stack_size(stack).spawn(both);
     assert_eq!(thread.unwrap().join().unwrap(), (alone.clone(), alone));
 }
@@ -62,13 +64,13 @@ fn many_at_once() {
         .collect();
     let alone: Vec<_> = sheets
         .iter()
-        .map(|sheet| report(sheet, REPORT_BYTES))
+        .map(|sheet| reports(sheet, [REPORT_BYTES; 2]))
         .collect();
     thread::scope(|scope| {
         for (sheet, alone) in sheets.iter().zip(&alone) {
             scope.spawn(move || {
                 for _ in 0..50 {
-                    assert_eq!(&report(sheet, REPORT_BYTES), alone);
+                    assert_eq!(&reports(sheet, [REPORT_BYTES; 2]), alone);
                 }
             });
         }
