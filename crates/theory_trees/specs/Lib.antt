@@ -15,3 +15,4 @@ pub mod Owners
 pub mod Bounds
 pub mod Leaves
 pub mod Ends
+pub mod Work
