@@ -1,5 +1,7 @@
 // The order of work over a sheet (document 02, Card 3): always the lowest-numbered untaken site with at most one unvisited link.
 ghost use mathlib.Core.Path.{_≡_};
+ghost use Prim.Native.Nat.{_≤_};
+ghost use lib.ListN.{length, take};
 ghost use Rattle.model.specs.Edition.{edition1, largest};
 ghost use Rattle.model.specs.Trimming.{elimination};
 ghost use Rattle.tree.specs.Offer.{links};
@@ -46,17 +48,32 @@ fn order_tree(
     store(&order[..n], list)
 }
 
+// The elimination order of a tree of n sites and m links, each list of links lent as far as there are links, into the front of a lent list.
+fn order_parts<'a>(
+    n: usize,
+    m: usize,
+    one: &'a [usize],
+    two: &'a [usize],
+    capacity: &'a [u64],
+    list: &mut [usize],
+) -> Outcome
+    requires { ⌜ TreeWithin largest n (take m (now one)) (take m (now two)) (take m (now capacity))
+        × (m ≤ length (now one)) × (m ≤ length (now two)) × (m ≤ length (now capacity)) ⌝ }
+    ensures told { λ r. ⌜ r ≡ store (elimination (links (take m (now (one .entry))) (take m (now (two .entry)))) n) (now (list .entry)) .outcome ⌝ }
+    ensures left { λ r. ⌜ now (list .exit) ≡ store (elimination (links (take m (now (one .entry))) (take m (now (two .entry)))) n) (now (list .entry)) .list ⌝ }
+{
+    order_tree(n, &one[..m], &two[..m], &capacity[..m], list)
+}
+
 // The order of work over the network of an accepted sheet.
 fn order_network(sheet: &[u8], network: Lists, list: &mut [usize]) -> Outcome
     requires { ⌜ Listed (now sheet) network ⌝ }
     ensures told { λ r. ⌜ r ≡ orderOf edition1 (now (sheet .entry)) (now (list .entry)) .outcome ⌝ }
     ensures left { λ r. ⌜ now (list .exit) ≡ orderOf edition1 (now (sheet .entry)) (now (list .entry)) .list ⌝ }
 {
-    let one = network.one;
-    let two = network.two;
-    let capacity = network.capacity;
+    let n = network.sites;
     let m = network.links;
-    order_tree(network.sites, &one[..m], &two[..m], &capacity[..m], list)
+    order_parts(n, m, &network.one, &network.two, &network.capacity, list)
 }
 
 // Writes the numbers of all sites of a sheet, in the order taken, into the front of a lent list and tells their count; or refuses the sheet, or a list
