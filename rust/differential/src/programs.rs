@@ -10,10 +10,10 @@ use waderarmoire::Refusal;
 
 /// The programs that are run.
 pub struct Programs {
-    /// The proved programs: for the report headed `plan`, and for that headed `whole`.
-    pub proved: [PathBuf; 2],
+    /// The proved programs: for the report headed `plan`, for that headed `whole`, and for the order.
+    pub proved: [PathBuf; 3],
     /// Those of the second planner.
-    pub second: [PathBuf; 2],
+    pub second: [PathBuf; 3],
     /// Programs over the proved library that plan in whole circuits when told so by a word.
     pub examples: Vec<PathBuf>,
 }
@@ -64,8 +64,8 @@ fn proved_whole(sheet: &[u8], buffer: &mut [u8]) -> Outcome {
 }
 
 impl Programs {
-    /// Compares what the programs print on `count` sheets: for the report in halves with the answers
-    /// of the second planner, for that in whole circuits with those of the library behind each.
+    /// Compares what the programs print on `count` sheets: for the report in halves and the order with
+    /// the answers of the second planner, for the report in whole circuits with those of the library behind each.
     pub fn compare(&self, seed: u64, count: usize) -> Result<(), Failure> {
         let sheets = some_sheets(seed, count);
         for (index, sheet) in sheets.iter().enumerate() {
@@ -94,10 +94,13 @@ impl Programs {
         let plan = Expected::new(second::plan, sheet);
         let whole = Expected::new(proved_whole, sheet);
         let second_whole = Expected::new(second::whole, sheet);
+        let order = Expected::new(second::order_lines, sheet);
         run(&self.proved[0], None, sheet, &plan)?;
         run(&self.proved[1], None, sheet, &whole)?;
         run(&self.second[0], None, sheet, &plan.silent())?;
         run(&self.second[1], None, sheet, &second_whole.silent())?;
+        run(&self.proved[2], None, sheet, &order)?;
+        run(&self.second[2], None, sheet, &order.silent())?;
         for example in examples {
             run(example, None, sheet, &plan.silent())?;
             run(example, Some("whole"), sheet, &whole.silent())?;
