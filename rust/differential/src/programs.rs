@@ -14,7 +14,8 @@ pub struct Programs {
     pub proved: [PathBuf; 3],
     /// Those of the second planner.
     pub second: [PathBuf; 3],
-    /// Programs over the proved library that plan in whole circuits when told so by a word.
+    /// Programs over the proved library that plan in whole circuits, or list the numbers of an order,
+    /// when told so by a word.
     pub examples: Vec<PathBuf>,
 }
 
@@ -42,6 +43,19 @@ impl Expected {
                 words: format!("{}\n", Refusal { number, line }),
             },
         }
+    }
+
+    /// The same of a program that says nothing and prints the first field of each line of an order.
+    fn first_fields(&self) -> Self {
+        let mut due = self.silent();
+        if self.words.is_empty() {
+            let lines = self.printed.split_inclusive(|&byte| byte == b'\n');
+            let first = |line: &[u8]| line.split(|&byte| byte == b'\t').next().map(<[u8]>::to_vec);
+            let mut first = lines.filter_map(first).collect::<Vec<_>>();
+            first.push(Vec::new());
+            due.printed = first.join(&b'\n');
+        }
+        due
     }
 
     /// The same of a program that says nothing.
@@ -104,6 +118,7 @@ impl Programs {
         for example in examples {
             run(example, None, sheet, &plan.silent())?;
             run(example, Some("whole"), sheet, &whole.silent())?;
+            run(example, Some("order"), sheet, &order.first_fields())?;
         }
         Ok(())
     }
