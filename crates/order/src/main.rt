@@ -4,7 +4,7 @@ use model::BYTES;
 use model::SITES;
 use orders::Outcome;
 ghost use Prim.Native.Nat.{_+_, _≤_};
-ghost use Rattle.model.specs.Limits.{BYTES, SITES};
+ghost use Rattle.model.specs.Limits.{BYTES};
 ghost use lib.ListN.{length};
 
 // Writes the line of a site, its number and its name, to standard output; whether all of it went.
@@ -25,9 +25,12 @@ fn write_sites(
     list: &[usize; SITES],
     count: usize,
 )
-    requires { ⌜ (length (now sheet) ≤ BYTES + 1) × (count ≤ SITES) ⌝ }
+    requires { ⌜ length (now sheet) ≤ BYTES + 1 ⌝ }
 {
-    for i in 0..count {
+    for i in 0..SITES {
+        if i >= count {
+            return;
+        }
         let site = list[i];
         if site < 1 {
             return;
