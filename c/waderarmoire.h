@@ -2,13 +2,13 @@
  * Waderarmoire, the tree circuit planner: C interface of the static library.
  *
  * One call reads a network sheet and writes the report of its plan, in halves of a circuit or in
- * whole circuits, or lists its sites in the order of work, or tells why the sheet is refused. Link with libwaderarmoire.a, which is built
- * for x86-64 Linux.
+ * whole circuits, or lists its sites in the order of work, or tells why the sheet is refused. Link
+ * with libwaderarmoire.a, which is built for x86-64 Linux.
  *
  * The library allocates nothing, keeps nothing between calls, has no global state and calls
  * nothing but memcpy and memset: any number of threads may call it at once, each with a buffer
- * or list of its own. It reads the sheet and writes the buffer or list within their lengths and touches no
- * other memory of the caller's. Every call ends, whatever the sheet holds.
+ * or list of its own. It reads the sheet and writes the buffer or list within their lengths and
+ * touches no other memory of the caller's. Every call ends, whatever the sheet holds.
  *
  * A call needs at most 112 KiB of stack, whatever the shape of the tree: nothing recurses
  * (measured, with what a new thread itself needs). A thread of WADERARMOIRE_STACK_BYTES has

@@ -27,7 +27,10 @@ fn main() -> std::io::Result<()> {
 /// The numbers of the sites in the order of work, one a line.
 fn numbers(sheet: &[u8]) -> Result<Vec<u8>, Refusal> {
     let mut list = [0; SITES];
-    let order = order(sheet, &mut list)?;
-    let lines: String = order.iter().map(|number| format!("{number}\n")).collect();
-    Ok(lines.into_bytes())
+    let mut lines = Vec::new();
+    for number in order(sheet, &mut list)? {
+        lines.extend_from_slice(number.to_string().as_bytes());
+        lines.push(b'\n');
+    }
+    Ok(lines)
 }
