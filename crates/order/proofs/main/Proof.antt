@@ -7,7 +7,8 @@ use Rattle.order.proofs.main.Tie as tie
 
 write-sites-requires : tie.Need-write-sites-requires
 write-sites-requires c κs =
-    let read = c .before .before .before .before .before .before .before .before .before .before .before .before .before .before .before .before .before .read in
+    let asked = c .before .before .before .before .before .before .before .before .before in
+    let read = asked .before .before .before .before .before .before .before .before .read in
     omega (arith, length-take (read .result .count) (read .last .0), read .ensures)
 
 pub main-spec : {M : Type 1} → statement M
