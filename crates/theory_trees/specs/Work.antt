@@ -7,12 +7,13 @@ use native.Mathlib.Omega.{arith}
 use native.Mathlib.Decide.{ℕ-discrete, decLe}
 use lib.ListN.{length}
 use Rattle.lists.specs.Numbers.{pick, is, sum, count, upfrom}
-use Rattle.model.specs.Flows.{Links, Tree, at, sumAt, others}
+use Rattle.model.specs.Flows.{Links, Tree, sites, at, sumAt, others}
 use Rattle.model.specs.Trimming.{Heavy, InwardOrder, cutAt, cutSites, unvisited, first, remove, taken, elimination, balancedAlong, balanced}
 use Rattle.lists.specs.Sums.{same?}
 use Rattle.theory_trees.specs.Cutting.{cutAt-at, cutAt-away, cutAt-terminal, other-le}
 use Rattle.theory_trees.specs.Orders.{Lowest, elimination-is-inward, elimination-takes-the-lowest}
 use Rattle.theory_trees.specs.Greatest.{any-order-balances-alike}
+use Rattle.theory_trees.specs.Runs.{Run, runs-are-the-inward-orders}
 
 -- ---- what is cut at a site
 
@@ -57,10 +58,11 @@ module _ {ls : Links} {n : ℕ} (T : Tree ls n) where
   the-lowest-site-is-taken = (elimination-is-inward T, elimination-takes-the-lowest T)
 
   -- whichever such site, lowest or not, is taken at each step, the work ends in the documented trimmed sizes
-  pub whichever-site-is-taken-the-sizes-are-the-same : (terminal : ℕ → ℕ) (order : List ℕ) → InwardOrder ls n order → (c : List ℕ)
+  pub whichever-site-is-taken-the-sizes-are-the-same : (terminal : ℕ → ℕ) (order : List ℕ) → Run ls (sites n) order → (c : List ℕ)
       → balancedAlong ls terminal order c ≡ balanced ls n terminal c
   unfolding balanced
-  whichever-site-is-taken-the-sizes-are-the-same terminal order h c = any-order-balances-alike T terminal order (elimination ls n) h (elimination-is-inward T) c
+  whichever-site-is-taken-the-sizes-are-the-same terminal order run c =
+      any-order-balances-alike T terminal order (elimination ls n) ((runs-are-the-inward-orders ls n order .0 run) .0) (elimination-is-inward T) c
 
 -- ---- the star hub, a, b, c gives 2, 3, 1, 4
 
