@@ -36,8 +36,7 @@ module _ (ls : Links) where
   unfolding count
   run-is-inward [] us single h = tt
   run-is-inward (v ∷ vs) us single h =
-      let was : (x : ℕ) → _ = λ x. remove-count us v x (h .0 .0) in
-      (
+      let was : (x : ℕ) → _ = λ x. remove-count us v x (h .0 .0) in (
         omega (arith, was v, run-takes vs (remove v us) (h .1) v, single v, is-same {u = v} refl),
         rw (alike (v ∷ vs) us (λ x. sym (run-takes (v ∷ vs) us h x))) (h .0 .1),
         run-is-inward vs (remove v us) (λ x. omega (arith, was x, single x)) (h .1),
@@ -52,8 +51,7 @@ module _ (ls : Links) where
   unfolding count
   inward-is-run [] us same h = nothing-left us same
   inward-is-run (v ∷ vs) us same h =
-      let here : 1 ≤ count us v = omega (arith, same v, is-same {u = v} refl) in
-      (
+      let here : 1 ≤ count us v = omega (arith, same v, is-same {u = v} refl) in (
         (here, rw (alike us (v ∷ vs) same) (h .1)),
         inward-is-run vs (remove v us) (λ x. omega (arith, same x, remove-count us v x here)) (h .2),
       )
@@ -69,14 +67,13 @@ module _ (ls : Links) where
   pub runs-are-the-inward-orders : (n : ℕ) (order : List ℕ)
       → Run ls (sites n) order ↔ (InwardOrder ls n order × ((x : ℕ) → 1 ≤ count order x → Site n x))
   runs-are-the-inward-orders n order = (
-    λ h. let takes = run-takes order (sites n) h in
-        (
-          record {
-            inward = run-is-inward order (sites n) (sites-single n) h;
-            all = λ x p. omega (arith, takes x, sites-once n x p);
-          },
-          λ x p. sites-site n x (omega (arith, takes x)),
-        ),
+    λ h. let takes = run-takes order (sites n) h in (
+      record {
+        inward = run-is-inward order (sites n) (sites-single n) h;
+        all = λ x p. omega (arith, takes x, sites-once n x p);
+      },
+      λ x p. sites-site n x (omega (arith, takes x)),
+    ),
     λ h. inward-is-run order (sites n)
         (λ x. cases (decLe 1 (count (sites n) x))
         (λ p. omega (arith, sites-once n x (sites-site n x p), h .0 .all x (sites-site n x p), inward-takes-once order (h .0 .inward) x))
