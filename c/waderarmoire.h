@@ -2,13 +2,13 @@
  * Waderarmoire, the tree circuit planner: C interface of the static library.
  *
  * One call reads a network sheet and writes the report of its plan, in halves of a circuit or in
- * whole circuits, or tells why the sheet is refused. Link with libwaderarmoire.a, which is built
- * for x86-64 Linux.
+ * whole circuits, or lists its sites in the order of work, or tells why the sheet is refused. Link
+ * with libwaderarmoire.a, which is built for x86-64 Linux.
  *
  * The library allocates nothing, keeps nothing between calls, has no global state and calls
  * nothing but memcpy and memset: any number of threads may call it at once, each with a buffer
- * of its own. It reads the sheet and writes the buffer within their lengths and touches no
- * other memory of the caller's. Every call ends, whatever the sheet holds.
+ * or list of its own. It reads the sheet and writes the buffer or list within their lengths and
+ * touches no other memory of the caller's. Every call ends, whatever the sheet holds.
  *
  * A call needs at most 112 KiB of stack, whatever the shape of the tree: nothing recurses
  * (measured, with what a new thread itself needs). A thread of WADERARMOIRE_STACK_BYTES has
@@ -29,6 +29,9 @@ extern "C" {
 
 /* A report buffer of this length is enough for every accepted sheet. */
 #define WADERARMOIRE_REPORT_BYTES 65536
+
+/* A list of this length is enough for the order of every accepted sheet. */
+#define WADERARMOIRE_SITES 256
 
 /* A thread with a stack of this length can plan every sheet. */
 #define WADERARMOIRE_STACK_BYTES 131072
@@ -58,6 +61,18 @@ uint64_t waderarmoire_whole(const uint8_t *sheet, size_t sheet_len, uint8_t *rep
                             size_t report_len);
 
 /*
+ * Writes the numbers of all sites of a sheet, counted from 1 by their lines, into a list of list_len
+ * places, in the order of work: always the lowest-numbered untaken site with at most one unvisited
+ * link is taken. A link is visited once one of its sites is taken.
+ *
+ * The caller owes the same, with the list in the place of the report. On success the places after
+ * the order keep their values; on a refusal the whole list keeps its values. The answer is of the
+ * same form, with the count of sites in the place of the length.
+ */
+uint64_t waderarmoire_order(const uint8_t *sheet, size_t sheet_len, size_t *list,
+                            size_t list_len);
+
+/*
  * The number of the refusal, or 0 for success:
  *   1  no bytes, or more than 16,384
  *   2  wrong heading, letter or line ending
@@ -67,7 +82,7 @@ uint64_t waderarmoire_whole(const uint8_t *sheet, size_t sheet_len, uint8_t *rep
  *   6  link to a name not given on a line above
  *   7  link whose sites are already joined by links above, or are one site
  *   8  fewer than two sites, or not all sites are joined
- *   9  report longer than the buffer
+ *   9  report longer than the buffer; of the order, more sites than places in the list
  *  10  wrong number of fields
  *  11  a name is not 1 to 12 letters or digits
  *  12  a number is not written in decimal without a leading zero
@@ -85,7 +100,7 @@ static inline unsigned waderarmoire_line(uint64_t answer)
     return (unsigned)(answer >> 20) & 0xfffffu;
 }
 
-/* The length of the report in bytes; 0 on a refusal. */
+/* The length of the report in bytes, or the count of sites of the order; 0 on a refusal. */
 static inline size_t waderarmoire_length(uint64_t answer)
 {
     return (size_t)(answer & 0xfffffu);

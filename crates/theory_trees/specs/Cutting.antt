@@ -54,12 +54,12 @@ module _ (ls : Links) (terminal : ℕ → ℕ) (v : ℕ) where
   cutAt-away c j d = rw (pick-other d) (pick-cases (λ r. r ≡ c j) (terminal v) 1 (c j) (c j) (λ e. refl) (λ e. refl))
 
   -- nor any link at a terminal
-  cutAt-terminal : (c : ℕ → ℕ) (j : ℕ) → terminal v ≡ 1 → cutAt ls terminal v c j ≡ c j
+  pub cutAt-terminal : (c : ℕ → ℕ) (j : ℕ) → terminal v ≡ 1 → cutAt ls terminal v c j ≡ c j
   unfolding cutAt
   cutAt-terminal c j m = pick-same m (c j) (pick (at ls v j) 1 (min (c j) (sumAt ls v c - c j)) (c j))
 
   -- at an inner site: the lesser of what the link had and what the others had
-  cutAt-at : (c : ℕ → ℕ) (j : ℕ) → terminal v ≢ 1 → j < length ls → at ls v j ≡ 1 → cutAt ls terminal v c j ≡ min (c j) (others ls v j c)
+  pub cutAt-at : (c : ℕ → ℕ) (j : ℕ) → terminal v ≢ 1 → j < length ls → at ls v j ≡ 1 → cutAt ls terminal v c j ≡ min (c j) (others ls v j c)
   unfolding cutAt
   cutAt-at c j m l a = rw (pick-other m, pick-same a) (omega (arith, others-add ls v j c l a))
 
@@ -70,7 +70,7 @@ module _ (ls : Links) (terminal : ℕ → ℕ) (v : ℕ) where
       (cutAt-away c j)
 
   -- a link at v, other than link j, is one of the others
-  other-le : (c : ℕ → ℕ) (i j : ℕ) → i < length ls → i ≢ j → at ls v i ≡ 1 → c i ≤ others ls v j c
+  pub other-le : (c : ℕ → ℕ) (i j : ℕ) → i < length ls → i ≢ j → at ls v i ≡ 1 → c i ≤ others ls v j c
   unfolding others
   other-le c i j l d a = omega (arith, rw (pick-other d, a) at (sum-ge (length ls) i (λ x. pick x j 0 (at ls v x * c x)) l))
 

@@ -15,3 +15,5 @@ pub mod Owners
 pub mod Bounds
 pub mod Leaves
 pub mod Ends
+pub mod Runs
+pub mod Work

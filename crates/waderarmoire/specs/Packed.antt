@@ -2,11 +2,18 @@
 use Prim.Native.Nat.{ℕ, _+_, _*_, _/_, _%_}
 use Rattle.planner.specs.declared.Outcome.{Outcome}
 use Rattle.planner.specs.declared.Outcome.the-variants.{Report, Refused}
+use Rattle.orders.specs.declared.Outcome.{Outcome as Order}
+use Rattle.orders.specs.declared.Outcome.the-variants as order
 
 -- the refusal's number times 2 ^ 40, its line times 2 ^ 20, and the report's length. No remainder loses anything, and each can be read off: `Unpacked`.
 unfoldable pub packed : Outcome → ℕ
 packed (Report n) = n % 1048576
 packed (Refused k l) = k % 4096 * 1099511627776 + l % 1048576 * 1048576
+
+-- what the order of work comes to, told as an outcome of planning is: the count of the sites in the place of the length (02, Card 3)
+unfoldable pub asOutcome : Order → Outcome
+asOutcome (order.Taken n) = Report n
+asOutcome (order.Refused k l) = Refused k l
 
 -- ---- taken apart, as the C header does (c/waderarmoire.h)
 

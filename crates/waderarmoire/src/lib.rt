@@ -3,7 +3,8 @@ use planner::Outcome;
 ghost use mathlib.Core.Path.{_≡_};
 ghost use Rattle.model.specs.Edition.{edition1};
 ghost use Rattle.planner.specs.Outcome.{planned, plannedWhole};
-ghost use Rattle.waderarmoire.specs.Packed.{packed};
+ghost use Rattle.orders.specs.Outcome.{orderOf};
+ghost use Rattle.waderarmoire.specs.Packed.{packed, asOutcome};
 
 // An outcome as one number: the refusal's number times 2^40, its line times 2^20, and the report's length.
 fn pack(outcome: Outcome) -> u64
@@ -32,4 +33,23 @@ pub extern "C" fn waderarmoire_whole(sheet: &[u8], report: &mut [u8]) -> u64
     ensures left { λ r. ⌜ now (report .exit) ≡ plannedWhole edition1 (now (sheet .entry)) (now (report .entry)) .buffer ⌝ }
 {
     pack(planner::whole(sheet, report))
+}
+
+// What the order of work comes to, told as an outcome of planning is: the count of the sites in the place of the length.
+fn as_outcome(order: orders::Outcome) -> Outcome
+    ensures { λ r. ⌜ r ≡ asOutcome order ⌝ }
+{
+    match order {
+        orders::Outcome::Taken { count } => Outcome::Report { length: count },
+        orders::Outcome::Refused { number, line } => Outcome::Refused { number, line },
+    }
+}
+
+// Writes the order of work over a sheet into the caller's list, as orders::order does, and tells the outcome as one number.
+#[no_mangle]
+pub extern "C" fn waderarmoire_order(sheet: &[u8], list: &mut [usize]) -> u64
+    ensures told { λ r. ⌜ r ≡ packed (asOutcome (orderOf edition1 (now (sheet .entry)) (now (list .entry)) .outcome)) ⌝ }
+    ensures left { λ r. ⌜ now (list .exit) ≡ orderOf edition1 (now (sheet .entry)) (now (list .entry)) .list ⌝ }
+{
+    pack(as_outcome(orders::order(sheet, list)))
 }

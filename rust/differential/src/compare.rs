@@ -1,59 +1,103 @@
 //! Both planners on one sheet.
 
-use second::{Outcome, REPORT_BYTES};
+use second::{Outcome, REPORT_BYTES, SITES};
 
-/// A report buffer for one planner, which holds a pattern throughout before every run.
-struct Buffer {
-    pattern: Vec<u8>,
-    bytes: Vec<u8>,
-    /// The length of the last report.
-    report: usize,
+/// The length of the lists that orders are written to, above that of any order.
+pub const LIST_PLACES: usize = SITES + 64;
+
+/// What is lent to one planner, a report buffer or a list, which holds a pattern throughout before
+/// every run.
+struct Lent<Place> {
+    pattern: Vec<Place>,
+    places: Vec<Place>,
+    /// The length of the last report or order.
+    answer: usize,
 }
 
-impl Buffer {
-    fn new() -> Self {
-        // No byte of the pattern occurs in a report.
-        let pattern: Vec<u8> = (0..REPORT_BYTES)
-            .map(|place| 0x80 | (place % 127) as u8)
-            .collect();
-        Buffer {
-            bytes: pattern.clone(),
+impl<Place: Copy + PartialEq> Lent<Place> {
+    fn new(pattern: Vec<Place>) -> Self {
+        Lent {
+            places: pattern.clone(),
             pattern,
-            report: 0,
+            answer: 0,
         }
     }
 
-    /// Runs a planner with a report buffer of `length` bytes, and finds out whether it changes any
-    /// byte past its report, behind the buffer too.
+    /// Runs a planner with the first `length` places, and finds out whether it changes any place
+    /// past its answer, behind those too.
     fn run(
         &mut self,
-        planner: impl FnOnce(&[u8], &mut [u8]) -> Outcome,
+        planner: impl FnOnce(&[u8], &mut [Place]) -> Outcome,
         sheet: &[u8],
         length: usize,
     ) -> Result<Outcome, String> {
-        self.bytes[..self.report].copy_from_slice(&self.pattern[..self.report]);
-        let outcome = planner(sheet, &mut self.bytes[..length]);
-        self.report = match outcome {
+        self.places[..self.answer].copy_from_slice(&self.pattern[..self.answer]);
+        let outcome = planner(sheet, &mut self.places[..length]);
+        self.answer = match outcome {
             Outcome::Report { length } => length,
             Outcome::Refused { .. } => 0,
         };
-        if self.bytes[self.report..] != self.pattern[self.report..] {
+        if self.places[self.answer..] != self.pattern[self.answer..] {
             return Err(format!(
-                "buffer of {length} bytes: bytes past the report are changed, with {outcome:?}"
+                "lent length {length}: what is past the answer is changed, with {outcome:?}"
             ));
         }
         Ok(outcome)
     }
 
-    fn report(&self) -> &[u8] {
-        &self.bytes[..self.report]
+    fn answer(&self) -> &[Place] {
+        &self.places[..self.answer]
     }
 }
 
-/// The buffers of the two planners.
+/// What is lent to the two planners.
+struct Both<Place> {
+    proved: Lent<Place>,
+    second: Lent<Place>,
+}
+
+impl<Place: Copy + PartialEq> Both<Place> {
+    fn new(pattern: Vec<Place>) -> Self {
+        Both {
+            proved: Lent::new(pattern.clone()),
+            second: Lent::new(pattern),
+        }
+    }
+
+    /// Lets both planners answer with the first `length` places, and compares what they answer,
+    /// place by place.
+    fn alike(
+        &mut self,
+        what: &str,
+        proved: Proved<Place>,
+        second: fn(&[u8], &mut [Place]) -> Outcome,
+        sheet: &[u8],
+        length: usize,
+    ) -> Result<Answer<&[Place]>, String> {
+        let call = |sheet: &[u8], lent: &mut [Place]| outcome(proved, sheet, lent);
+        let proved = self.proved.run(call, sheet, length)?;
+        let second = self.second.run(second, sheet, length)?;
+        if proved != second {
+            return Err(unlike(what, length, proved, second));
+        }
+        let [one, other] = [self.proved.answer(), self.second.answer()];
+        if one != other {
+            return Err(format!(
+                "{what}, lent length {length}: the answers differ from place {}",
+                first_difference(one, other)
+            ));
+        }
+        Ok(match second {
+            Outcome::Report { .. } => Answer::Report(other),
+            Outcome::Refused { number, line } => Answer::Refused(number, line),
+        })
+    }
+}
+
+/// The buffers and lists of the two planners.
 pub struct Planners {
-    proved: Buffer,
-    second: Buffer,
+    reports: Both<u8>,
+    orders: Both<usize>,
 }
 
 /// What both planners answer.
@@ -72,14 +116,14 @@ pub struct Reports<'buffer> {
     pub second: &'buffer [u8],
 }
 
-type Proved =
-    for<'buffer> fn(&[u8], &'buffer mut [u8]) -> Result<&'buffer [u8], waderarmoire::Refusal>;
+type Proved<Place> =
+    for<'lent> fn(&[u8], &'lent mut [Place]) -> Result<&'lent [Place], waderarmoire::Refusal>;
 
 /// The outcome of a function of the proved library.
-fn proved(planner: Proved, sheet: &[u8], buffer: &mut [u8]) -> Outcome {
-    match planner(sheet, buffer) {
-        Ok(report) => Outcome::Report {
-            length: report.len(),
+fn outcome<Place>(function: Proved<Place>, sheet: &[u8], lent: &mut [Place]) -> Outcome {
+    match function(sheet, lent) {
+        Ok(answer) => Outcome::Report {
+            length: answer.len(),
         },
         Err(waderarmoire::Refusal { number, line }) => Outcome::Refused { number, line },
     }
@@ -87,45 +131,41 @@ fn proved(planner: Proved, sheet: &[u8], buffer: &mut [u8]) -> Outcome {
 
 impl Planners {
     pub fn new() -> Self {
+        // No byte of the pattern occurs in a report, and no place of the other in an order.
+        let bytes = (0..REPORT_BYTES).map(|place| 0x80 | (place % 127) as u8);
+        let places = (0..LIST_PLACES).map(|place| usize::MAX - place);
         Planners {
-            proved: Buffer::new(),
-            second: Buffer::new(),
+            reports: Both::new(bytes.collect()),
+            orders: Both::new(places.collect()),
         }
     }
 
     /// Lets both planners plan in halves with a report buffer of `length` bytes, and compares what
     /// they answer, byte by byte.
     pub fn plan(&mut self, sheet: &[u8], length: usize) -> Result<Answer<&[u8]>, String> {
-        let plan = |sheet: &[u8], buffer: &mut [u8]| proved(waderarmoire::plan, sheet, buffer);
-        let proved = self.proved.run(plan, sheet, length)?;
-        let second = self.second.run(second::plan, sheet, length)?;
-        if proved != second {
-            return Err(unlike("plan", length, proved, second));
-        }
-        let [one, other] = [self.proved.report(), self.second.report()];
-        if one != other {
-            return Err(format!(
-                "buffer of {length} bytes: the reports differ from byte {}",
-                first_difference(one, other)
-            ));
-        }
-        Ok(match second {
-            Outcome::Report { .. } => Answer::Report(other),
-            Outcome::Refused { number, line } => Answer::Refused(number, line),
-        })
+        let lent = &mut self.reports;
+        lent.alike("plan", waderarmoire::plan, second::plan, sheet, length)
+    }
+
+    /// Lets both planners list the order of work with a list of `length` places, and compares what
+    /// they answer, place by place.
+    pub fn order(&mut self, sheet: &[u8], length: usize) -> Result<Answer<&[usize]>, String> {
+        let lent = &mut self.orders;
+        lent.alike("order", waderarmoire::order, second::order, sheet, length)
     }
 
     /// Lets both planners plan in whole circuits, the proved one with a report buffer of `length`
     /// bytes, and compares their refusals. That for a short buffer comes from the proved planner
     /// alone, as the other has a buffer for every report.
     pub fn whole(&mut self, sheet: &[u8], length: usize) -> Result<Answer<Reports<'_>>, String> {
-        let whole = |sheet: &[u8], buffer: &mut [u8]| proved(waderarmoire::whole, sheet, buffer);
-        let proved = self.proved.run(whole, sheet, length)?;
-        let second = self.second.run(second::whole, sheet, REPORT_BYTES)?;
+        let whole = |sheet: &[u8], buffer: &mut [u8]| outcome(waderarmoire::whole, sheet, buffer);
+        let reports = &mut self.reports;
+        let proved = reports.proved.run(whole, sheet, length)?;
+        let second = reports.second.run(second::whole, sheet, REPORT_BYTES)?;
         match (proved, second) {
             (Outcome::Report { .. }, Outcome::Report { .. }) => Ok(Answer::Report(Reports {
-                proved: self.proved.report(),
-                second: self.second.report(),
+                proved: reports.proved.answer(),
+                second: reports.second.answer(),
             })),
             (Outcome::Refused { number: 9, line: 0 }, Outcome::Report { .. }) => {
                 Ok(Answer::Refused(9, 0))
@@ -138,14 +178,14 @@ impl Planners {
     }
 }
 
-fn unlike(heading: &str, length: usize, proved: Outcome, second: Outcome) -> String {
+fn unlike(what: &str, length: usize, proved: Outcome, second: Outcome) -> String {
     format!(
-        "{heading}, buffer of {length} bytes: the proved planner answers {proved:?}, \
+        "{what}, lent length {length}: the proved planner answers {proved:?}, \
          the second {second:?}"
     )
 }
 
-fn first_difference(one: &[u8], other: &[u8]) -> usize {
+fn first_difference<Place: PartialEq>(one: &[Place], other: &[Place]) -> usize {
     let pairs = one.iter().zip(other);
     pairs.take_while(|(one, other)| one == other).count()
 }

@@ -2,14 +2,15 @@
 //!
 //! ```text
 //! differential [--sheets N] [--seed N] [--only INDEX] [--keep FILE] [--planted N]
-//!              [--runs N] [--program FILE] [--whole FILE] [--example FILE]...
+//!              [--runs N] [--program FILE] [--whole FILE] [--order FILE] [--example FILE]...
 //! ```
 //!
 //! The sheets of the scope document come first, then all small trees, then random trees and
 //! damaged sheets from a seed, then the programs over standard input and output. Reports headed
 //! `plan` are compared byte for byte. Of those headed `whole` loads and end sets are free: totals
 //! are compared, and pairs with those that the walk gives for the printed loads. Of every accepted
-//! sheet the reports are checked against the demands on them. The first sheet with a
+//! sheet the reports are checked against the demands on them. Orders of work are compared place for
+//! place, and some checked against the card's rule. The first sheet with a
 //! difference is kept in a file, and the seed and index that make it again are printed. With an
 //! error planted in the second planner, which needs the feature `planted`, only the random sheets
 //! are compared, to show that they find it.
@@ -20,6 +21,7 @@ mod compare;
 mod damage;
 mod demands;
 mod exact;
+mod inward;
 mod printed;
 mod programs;
 mod random;
@@ -66,8 +68,9 @@ fn options() -> Result<Options, String> {
         keep: PathBuf::from("differing.sheet"),
         runs: 300,
         programs: Programs {
-            proved: ["target/bin/plan", "target/bin/whole"].map(PathBuf::from),
-            second: ["second-plan", "second-whole"].map(programs::beside_this_program),
+            proved: ["target/bin/plan", "target/bin/whole", "target/bin/order"].map(PathBuf::from),
+            second: ["second-plan", "second-whole", "second-order"]
+                .map(programs::beside_this_program),
             examples: Vec::new(),
         },
         planted: false,
@@ -90,6 +93,7 @@ fn options() -> Result<Options, String> {
             "--runs" => options.runs = number()? as usize,
             "--program" => options.programs.proved[0] = value.into(),
             "--whole" => options.programs.proved[1] = value.into(),
+            "--order" => options.programs.proved[2] = value.into(),
             "--example" => options.programs.examples.push(value.into()),
             "--planted" => {
                 plant(number()?)?;
@@ -106,7 +110,7 @@ fn plant(number: u64) -> Result<(), String> {
     let error = second::planted::ERRORS
         .into_iter()
         .find(|&error| error as u64 == number)
-        .ok_or("errors are numbered from 1 to 20")?;
+        .ok_or("errors are numbered from 1 to 24")?;
     println!("planted in the second planner: {error:?}");
     second::planted::plant(error);
     Ok(())

@@ -10,11 +10,12 @@ use waderarmoire::Refusal;
 
 /// The programs that are run.
 pub struct Programs {
-    /// The proved programs: for the report headed `plan`, and for that headed `whole`.
-    pub proved: [PathBuf; 2],
+    /// The proved programs: for the report headed `plan`, for that headed `whole`, and for the order.
+    pub proved: [PathBuf; 3],
     /// Those of the second planner.
-    pub second: [PathBuf; 2],
-    /// Programs over the proved library that plan in whole circuits when told so by a word.
+    pub second: [PathBuf; 3],
+    /// Programs over the proved library that plan in whole circuits, or list the numbers of an order,
+    /// when told so by a word.
     pub examples: Vec<PathBuf>,
 }
 
@@ -44,6 +45,19 @@ impl Expected {
         }
     }
 
+    /// The same of a program that says nothing and prints the first field of each line of an order.
+    fn first_fields(&self) -> Self {
+        let mut due = self.silent();
+        if self.words.is_empty() {
+            let lines = self.printed.split_inclusive(|&byte| byte == b'\n');
+            let first = |line: &[u8]| line.split(|&byte| byte == b'\t').next().map(<[u8]>::to_vec);
+            let mut first = lines.filter_map(first).collect::<Vec<_>>();
+            first.push(Vec::new());
+            due.printed = first.join(&b'\n');
+        }
+        due
+    }
+
     /// The same of a program that says nothing.
     fn silent(&self) -> Self {
         Expected {
@@ -64,8 +78,8 @@ fn proved_whole(sheet: &[u8], buffer: &mut [u8]) -> Outcome {
 }
 
 impl Programs {
-    /// Compares what the programs print on `count` sheets: for the report in halves with the answers
-    /// of the second planner, for that in whole circuits with those of the library behind each.
+    /// Compares what the programs print on `count` sheets: for the report in halves and the order with
+    /// the answers of the second planner, for the report in whole circuits with those of the library behind each.
     pub fn compare(&self, seed: u64, count: usize) -> Result<(), Failure> {
         let sheets = some_sheets(seed, count);
         for (index, sheet) in sheets.iter().enumerate() {
@@ -94,13 +108,17 @@ impl Programs {
         let plan = Expected::new(second::plan, sheet);
         let whole = Expected::new(proved_whole, sheet);
         let second_whole = Expected::new(second::whole, sheet);
+        let order = Expected::new(second::order_lines, sheet);
         run(&self.proved[0], None, sheet, &plan)?;
         run(&self.proved[1], None, sheet, &whole)?;
         run(&self.second[0], None, sheet, &plan.silent())?;
         run(&self.second[1], None, sheet, &second_whole.silent())?;
+        run(&self.proved[2], None, sheet, &order)?;
+        run(&self.second[2], None, sheet, &order.silent())?;
         for example in examples {
             run(example, None, sheet, &plan.silent())?;
             run(example, Some("whole"), sheet, &whole.silent())?;
+            run(example, Some("order"), sheet, &order.first_fields())?;
         }
         Ok(())
     }

@@ -1,9 +1,10 @@
 //! Random trees and damaged sheets, compared by two threads.
 
-use crate::compare::{Answer, Planners};
+use crate::compare::{Answer, LIST_PLACES, Planners};
 use crate::damage::{self, Damaged};
+use crate::printed;
 use crate::small::accepted;
-use crate::{Failure, circuits, demands};
+use crate::{Failure, circuits, demands, inward};
 use second::REPORT_BYTES;
 use sheets::{Layout, Network, Random};
 use std::cell::Cell;
@@ -37,6 +38,8 @@ pub struct Tally {
     solved: u64,
     /// How many accepted trees have odd pieces in whole circuits.
     odd: u64,
+    /// How many orders of work are checked against the rule, and trimmed along.
+    ordered: u64,
 }
 
 impl Tally {
@@ -46,6 +49,7 @@ impl Tally {
         }
         self.solved += other.solved;
         self.odd += other.odd;
+        self.ordered += other.ordered;
     }
 }
 
@@ -93,6 +97,8 @@ impl Case {
                 tally.odd += u64::from(checked.odd_pieces > 0);
                 tally.outcomes[0] += 1;
                 tally.solved += u64::from(solve);
+                let sites = network.names.len();
+                self.check_order(sites, planners, tally)?;
                 if self.random.once_in(8) {
                     tally.outcomes[9] += 1;
                     self.check_buffers(length, planners)?;
@@ -107,6 +113,45 @@ impl Case {
                 self.check_damaged(refusal, planners, tally)
             }
         }
+    }
+
+    /// Compares the orders of work of a tree, with lists of many lengths, and checks some.
+    fn check_order(
+        &mut self,
+        sites: usize,
+        planners: &mut Planners,
+        tally: &mut Tally,
+    ) -> Result<(), String> {
+        let due = Answer::Report(sites);
+        let longer = self.random.between(sites, LIST_PLACES);
+        let enough = *self.random.pick(&[sites, sites + 1, longer]);
+        inward::compare(planners, &self.sheet, due, enough)?;
+        if self.random.once_in(8) {
+            let shorter = self.random.below(sites);
+            for places in [0, shorter, sites - 1, sites, sites + 1, LIST_PLACES] {
+                inward::compare(planners, &self.sheet, due, places)?;
+            }
+        }
+        if self.random.once_in(8) {
+            tally.ordered += 1;
+            inward::accepted(planners, &self.sheet, &mut self.random)?;
+        }
+        Ok(())
+    }
+
+    /// Compares the orders of work of a damaged sheet, given what the planners answer in halves.
+    fn check_damaged_order(
+        &mut self,
+        refusal: Option<(u8, u32)>,
+        planners: &mut Planners,
+    ) -> Result<(), String> {
+        let due = match refusal {
+            Some((number, line)) if number != 9 => Answer::Refused(number, line),
+            _ => Answer::Report(printed::Network::read(&self.sheet)?.names.len()),
+        };
+        let few = self.random.below(16);
+        let places = *self.random.pick(&[0, few, LIST_PLACES]);
+        inward::compare(planners, &self.sheet, due, places)
     }
 
     /// Lengths of report buffers about as long as a report, and others.
@@ -190,6 +235,7 @@ impl Case {
             Answer::Refused(number, line) => Some((number, line)),
         };
         self.check_damaged_whole(answer, length, planners)?;
+        self.check_damaged_order(answer, planners)?;
         tally.outcomes[answer.map_or(0, |(number, _)| usize::from(number))] += 1;
         if refusal.is_some() && answer != refusal {
             return Err(format!(
@@ -274,10 +320,11 @@ pub fn compare_all(seed: u64, count: u64) -> Result<(), Failure> {
         count as f64 / seconds
     );
     println!(
-        "  {} accepted, {} solved, {} with odd pieces; refused 1 to 12: {:?}",
+        "  {} accepted, {} solved, {} with odd pieces, {} trimmed in order; refused 1 to 12: {:?}",
         tally.outcomes[0],
         tally.solved,
         tally.odd,
+        tally.ordered,
         &tally.outcomes[1..]
     );
     let has_share = |(number, &sheets): (usize, &u64)| {

@@ -1,11 +1,11 @@
 //! The sheets of the scope document, and all small trees.
 
 use crate::card::Checked;
-use crate::compare::{Answer, Planners};
+use crate::compare::{Answer, LIST_PLACES, Planners};
 use crate::exact::{self, Fraction};
-use crate::{Failure, circuits, demands, search};
+use crate::{Failure, circuits, demands, inward, search};
 use second::REPORT_BYTES;
-use sheets::{Layout, Names, Network, Random, SHAPES, Sizes, prufer_links, tried, whole};
+use sheets::{Layout, Names, Network, Random, SHAPES, Sizes, order, prufer_links, tried, whole};
 use std::collections::HashSet;
 
 /// Both planners on the sheets of the scope document, against answers written by hand.
@@ -56,6 +56,27 @@ fn tried_in_circuits(planners: &mut Planners) -> Result<(), Failure> {
         }
     }
     println!("  whole: {} totals as written by hand", whole::TRIED.len());
+    tried_orders(planners)
+}
+
+/// The orders of work of both planners, against those written by hand.
+fn tried_orders(planners: &mut Planners) -> Result<(), Failure> {
+    for tried in &order::TRIED {
+        let sites = tried.order.len();
+        for places in [LIST_PLACES, sites, sites - 1, 0] {
+            let answer = planners.order(&tried.sheet(), places);
+            let is_right = match answer {
+                Ok(Answer::Report(order)) => order == tried.order && places >= sites,
+                Ok(Answer::Refused(9, 0)) => places < sites,
+                _ => false,
+            };
+            if !is_right {
+                let what = format!("order, {}, {places} places: {answer:?}", tried.title);
+                return Err(failure(&tried.sheet(), what));
+            }
+        }
+    }
+    println!("  order: {} lists as written by hand", order::TRIED.len());
     Ok(())
 }
 
@@ -64,10 +85,12 @@ fn tried_in_circuits(planners: &mut Planners) -> Result<(), Failure> {
 pub fn small_trees() -> Result<(), Failure> {
     let mut planners = Planners::new();
     let counts = every_tree(3, |network, sheet| {
-        accepted(network, sheet, &mut planners, true).map(|_| ())
+        accepted(network, sheet, &mut planners, true)?;
+        inward::accepted_small(&mut planners, sheet)
     })?;
     assert_eq!(counts, [3, 27, 432, 10_125]);
     println!("small trees: 3, 27, 432 and 10,125 sheets, totals found by linear programming");
+    println!("  order: the same sheets, trimmed sizes found along every order");
 
     let counts = every_tree(4, |network, sheet| {
         largest_whole(network, sheet, &mut planners)

@@ -1,11 +1,13 @@
 //! A second tree circuit planner.
 //!
-//! It reads a network sheet and writes the report headed `plan`, or that headed `whole`, or tells
-//! why the sheet is refused. It was written from the scope document and the cards alone and shares nothing
-//! with the proved planner, so that comparing the two can find a mistake in either.
+//! It reads a network sheet and writes the report headed `plan`, or that headed `whole`, or lists the
+//! sites in the order of work, or tells why the sheet is refused. It was written from the scope
+//! document and the cards alone and shares nothing with the proved planner, so that comparing the
+//! two can find a mistake in either.
 //!
 //! Every step takes time linear in the sheet, or as good as linear: finding out whether two sites
-//! are joined already, and names that collide in their hash table, may add a little.
+//! are joined already, names that collide in their hash table, and the sites that may be taken next,
+//! kept in order, may add a little.
 //!
 //! | module | step |
 //! |---|---|
@@ -20,6 +22,7 @@
 //! | `pieces` | end sets and odd pieces of such a plan |
 //! | `pairs` | pairs the ends by splitting lists |
 //! | `report` | writes the report |
+//! | `order` | takes the sites in the order of work |
 //! | `program` | what the programs do |
 //!
 //! Sites and links are numbered from 0 inside, in the order of their lines.
@@ -31,6 +34,7 @@ mod forest;
 mod form;
 mod names;
 mod network;
+mod order;
 mod pairs;
 mod pieces;
 pub mod planted;
@@ -59,12 +63,12 @@ pub const REPORT_BYTES: usize = 65_536;
 /// What a planner answers.
 #[derive(Clone, Copy, Debug, PartialEq, Eq)]
 pub enum Outcome {
-    /// The report stands at the start of the buffer.
+    /// The report stands at the start of the buffer, or the order at the start of the list.
     Report {
-        /// Its length in bytes.
+        /// Its length in bytes, or the count of sites.
         length: usize,
     },
-    /// There is no report, and the buffer is as it was.
+    /// There is none, and the buffer or list is as it was.
     Refused {
         /// The number of the cause, 1 to 12.
         number: u8,
@@ -128,6 +132,38 @@ fn write_whole(network: &Network, tree: &RootedTree) -> Vec<u8> {
         pairs: &pairs::pair(tree, &loads),
     };
     report::write(network, tree, &shown)
+}
+
+/// Writes the numbers of all sites of `sheet`, counted from 1, into `list`: in the order taken, when
+/// always the lowest-numbered untaken site with at most one unvisited link is taken.
+///
+/// On a refusal the list keeps its values; after an order the places past it keep theirs.
+pub fn order(sheet: &[u8], list: &mut [usize]) -> Outcome {
+    let mut network = Network::new(sheet);
+    let read = network.read();
+    let is_short = network.site_count() > list.len();
+    if let Err(Refusal { number, line }) = read
+        && !(planted(Error::ShortListFirst) && is_short)
+    {
+        return Outcome::Refused { number, line };
+    }
+    if !is_short || planted(Error::ListOnRefusal) {
+        for (place, site) in list.iter_mut().zip(order::order(&network)) {
+            *place = usize::from(site) + 1;
+        }
+    }
+    if is_short {
+        return Outcome::Refused { number: 9, line: 0 };
+    }
+    Outcome::Report {
+        length: network.site_count(),
+    }
+}
+
+/// Writes a line for each site of `sheet` in the order taken into `buffer`: its number, tab, its
+/// name.
+pub fn order_lines(sheet: &[u8], buffer: &mut [u8]) -> Outcome {
+    answer(sheet, buffer, |network, _| order::lines(network))
 }
 
 /// The `P` lines of the walk over an accepted sheet, with loads of its links, in the order of

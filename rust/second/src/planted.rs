@@ -1,6 +1,6 @@
 //! Errors planted on purpose.
 //!
-//! With the feature `planted` one of twenty errors can be switched on, to show that the comparison
+//! With the feature `planted` one of twenty-four errors can be switched on, to show that the comparison
 //! of the planners finds it. Without the feature none of this reaches the compiled planner.
 
 /// An error that can be planted, numbered from 1.
@@ -46,10 +46,18 @@ pub enum Error {
     WholeFromHighest = 19,
     /// A link is taken to carry any number up to its most, even or odd.
     ParityLeftOut = 20,
+    /// The highest-numbered of the sites that may be taken is taken first.
+    HighestTaken = 21,
+    /// Sites with two unvisited links are taken.
+    TwoUnvisited = 22,
+    /// A list that is too short is told before the sheet's own causes.
+    ShortListFirst = 23,
+    /// A list that is too short is filled before it is told.
+    ListOnRefusal = 24,
 }
 
 /// All errors, in the order of their numbers.
-pub const ERRORS: [Error; 20] = [
+pub const ERRORS: [Error; 24] = [
     Error::RoundedHalf,
     Error::HighestRoot,
     Error::UpwardSets,
@@ -70,6 +78,10 @@ pub const ERRORS: [Error; 20] = [
     Error::OddByLoads,
     Error::WholeFromHighest,
     Error::ParityLeftOut,
+    Error::HighestTaken,
+    Error::TwoUnvisited,
+    Error::ShortListFirst,
+    Error::ListOnRefusal,
 ];
 
 #[cfg(feature = "planted")]

@@ -3,7 +3,7 @@
 use crate::{Outcome, REPORT_BYTES, SHEET_BYTES};
 use std::io::{Read, Result, Write, stdin, stdout};
 
-/// Reads one sheet on standard input and writes the report of a planner, or the line `refused`,
+/// Reads one sheet on standard input and writes what a planner does, or the line `refused`,
 /// tab, number, tab, line.
 ///
 /// # Errors

@@ -94,8 +94,9 @@ pub fn push_pairs(text: &mut Vec<u8>, network: &Network, pairs: &Pairs) {
     }
 }
 
+/// Writes a name.
 #[inline(always)]
-fn push_name(text: &mut Vec<u8>, name: Name) {
+pub fn push_name(text: &mut Vec<u8>, name: Name) {
     // A fixed number of bytes is quick to copy; those past the name come off again.
     let length = text.len() + name.length();
     text.extend_from_slice(&name.bytes());
@@ -104,7 +105,7 @@ fn push_name(text: &mut Vec<u8>, name: Name) {
 
 /// Writes a number below 100,000,000 in decimal.
 #[inline(always)]
-fn push_number(text: &mut Vec<u8>, number: u32) {
+pub fn push_number(text: &mut Vec<u8>, number: u32) {
     const { assert!(2 * CAPACITY < 100_000_000) };
     if number < 10 {
         text.push(b'0' + number as u8);

@@ -1,6 +1,6 @@
 //! The sheets to try of the scope document and the cards, against answers written out by hand.
 
-use second::{Outcome, REPORT_BYTES, pair_lines, plan, whole};
+use second::{Outcome, REPORT_BYTES, SITES, order, order_lines, pair_lines, plan, whole};
 use sheets::tried::{ACCEPTED, refused, star};
 use sheets::whole::TRIED;
 
@@ -110,6 +110,57 @@ fn buffers() {
             }
         }
     }
+}
+
+/// What is in a list of so many places after a call, past it a pattern.
+fn ordered(sheet: &[u8], places: usize) -> (Outcome, Vec<usize>) {
+    let mut list = vec![usize::MAX; places];
+    (order(sheet, &mut list), list)
+}
+
+#[test]
+fn orders() {
+    for tried in &sheets::order::TRIED {
+        let length = tried.order.len();
+        for places in [length, length + 1, SITES] {
+            let (outcome, list) = ordered(&tried.sheet(), places);
+            assert_eq!(outcome, Outcome::Report { length }, "{}", tried.title);
+            assert_eq!(list[..length], *tried.order, "{}", tried.title);
+            assert!(list[length..].iter().all(|&place| place == usize::MAX));
+        }
+        for places in 0..length {
+            let too_short = Outcome::Refused { number: 9, line: 0 };
+            assert_eq!(
+                ordered(&tried.sheet(), places),
+                (too_short, vec![usize::MAX; places])
+            );
+        }
+    }
+}
+
+#[test]
+fn orders_refused() {
+    for tried in refused() {
+        let expected = Outcome::Refused {
+            number: tried.number,
+            line: tried.line,
+        };
+        for places in [0, 1, SITES] {
+            let kept = vec![usize::MAX; places];
+            assert_eq!(
+                ordered(&tried.sheet, places),
+                (expected, kept),
+                "{}",
+                tried.title
+            );
+        }
+    }
+}
+
+#[test]
+fn lines_of_an_order() {
+    let lines = report(order_lines, &sheets::order::TRIED[0].sheet());
+    assert_eq!(lines, b"2\ta\n3\tb\n1\thub\n4\tc\n");
 }
 
 #[test]

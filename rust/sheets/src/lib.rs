@@ -3,6 +3,7 @@
 
 #![forbid(unsafe_code)]
 
+pub mod order;
 mod random;
 mod tree;
 pub mod tried;

@@ -1,8 +1,9 @@
 //! Reads one sheet on standard input and writes the report, or the line `refused`, tab, number,
-//! tab, line. With the word `whole` behind its name it plans in whole circuits.
+//! tab, line. With the word `whole` behind its name it plans in whole circuits; with the word `order`
+//! it writes the numbers of the sites in the order of work, one a line.
 
 use std::io::{Read, Write, stdin, stdout};
-use waderarmoire::{REPORT_BYTES, Refusal, SHEET_BYTES, plan, whole};
+use waderarmoire::{REPORT_BYTES, Refusal, SHEET_BYTES, SITES, order, plan, whole};
 
 fn main() -> std::io::Result<()> {
     // One byte more than a sheet may have shows that it has too many.
@@ -10,13 +11,26 @@ fn main() -> std::io::Result<()> {
     stdin()
         .take(SHEET_BYTES as u64 + 1)
         .read_to_end(&mut sheet)?;
-    let mut buffer = [0; REPORT_BYTES];
-    let in_circuits = std::env::args().nth(1).is_some_and(|word| word == "whole");
-    let planner = if in_circuits { whole } else { plan };
+    let answer = match std::env::args().nth(1).as_deref() {
+        Some("order") => numbers(&sheet),
+        Some("whole") => whole(&sheet, &mut [0; REPORT_BYTES]).map(<[u8]>::to_vec),
+        _ => plan(&sheet, &mut [0; REPORT_BYTES]).map(<[u8]>::to_vec),
+    };
     let mut out = stdout();
-    match planner(&sheet, &mut buffer) {
-        Ok(report) => out.write_all(report)?,
+    match answer {
+        Ok(text) => out.write_all(&text)?,
         Err(Refusal { number, line }) => writeln!(out, "refused\t{number}\t{line}")?,
     }
     out.flush()
+}
+
+/// The numbers of the sites in the order of work, one a line.
+fn numbers(sheet: &[u8]) -> Result<Vec<u8>, Refusal> {
+    let mut list = [0; SITES];
+    let mut lines = Vec::new();
+    for number in order(sheet, &mut list)? {
+        lines.extend_from_slice(number.to_string().as_bytes());
+        lines.push(b'\n');
+    }
+    Ok(lines)
 }

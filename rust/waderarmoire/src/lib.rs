@@ -26,6 +26,16 @@
 //! # Ok::<(), waderarmoire::Refusal>(())
 //! ```
 //!
+//! [`order`] lists the sites as they are taken when the sizes are trimmed with a pencil, inward from
+//! the ends:
+//!
+//! ```
+//! let sheet = b"network\t1\nN\thub\nN\ta\nN\tb\nN\tc\nL\thub\ta\t1\nL\thub\tb\t1\nL\thub\tc\t1\n";
+//! let mut list = [0; waderarmoire::SITES];
+//! assert_eq!(waderarmoire::order(sheet, &mut list)?, [2, 3, 1, 4]);
+//! # Ok::<(), waderarmoire::Refusal>(())
+//! ```
+//!
 //! A sheet with a fault is refused with the number of its cause and its line, and says in the
 //! words of the program what is wrong:
 //!
@@ -37,10 +47,11 @@
 //!
 //! # What a call does
 //!
-//! [`plan`] and [`whole`] are safe for every sheet and every buffer, and every call ends. They
-//! allocate nothing, keep nothing between calls and have no global state: any number of threads may
-//! call them at once, each with a buffer of its own. The caller of this crate owes nothing more; what the
-//! library below asks, pointers that are not null and areas that do not overlap, slices have.
+//! [`plan`], [`whole`] and [`order`] are safe for every sheet and every buffer or list, and every
+//! call ends. They allocate nothing, keep nothing between calls and have no global state: any number
+//! of threads may call them at once, each with a buffer or list of its own. The caller of this crate
+//! owes nothing more; what the library below asks, pointers that are not null and areas that do not
+//! overlap, slices have.
 //!
 //! A call needs at most 112 KiB of stack, whatever the shape of the tree: nothing recurses
 //! (measured, with what a new thread itself needs). A thread of [`STACK_BYTES`] has enough for
@@ -62,11 +73,14 @@ pub const SHEET_BYTES: usize = 16_384;
 /// A report buffer of this length is enough for every accepted sheet.
 pub const REPORT_BYTES: usize = 65_536;
 
+/// A list of this length is enough for the order of every accepted sheet.
+pub const SITES: usize = 256;
+
 /// A thread with a stack of this many bytes can plan every sheet.
 pub const STACK_BYTES: usize = 131_072;
 
-/// A function of the library: the sheet and the report buffer, each with its length.
-type Planner = unsafe extern "C" fn(*const u8, usize, *mut u8, usize) -> u64;
+/// A function of the library: the sheet and what is lent for the answer, each with its length.
+type Function<Place> = unsafe extern "C" fn(*const u8, usize, *mut Place, usize) -> u64;
 
 unsafe extern "C" {
     fn waderarmoire_plan(
@@ -82,9 +96,16 @@ unsafe extern "C" {
         report: *mut u8,
         report_len: usize,
     ) -> u64;
+
+    fn waderarmoire_order(
+        sheet: *const u8,
+        sheet_len: usize,
+        list: *mut usize,
+        list_len: usize,
+    ) -> u64;
 }
 
-/// Why there is no report.
+/// Why there is no report, or no order.
 #[derive(Clone, Copy, Debug, PartialEq, Eq)]
 pub struct Refusal {
     /// The number of the cause:
@@ -97,7 +118,7 @@ pub struct Refusal {
     /// 6. link to a name not given on a line above
     /// 7. link whose sites are already joined by links above, or are one site
     /// 8. fewer than two sites, or not all sites are joined
-    /// 9. report longer than the buffer
+    /// 9. report longer than the buffer; of [`order`], more sites than places in the list
     /// 10. wrong number of fields
     /// 11. a name is not 1 to 12 letters or digits
     /// 12. a number is not written in decimal without a leading zero
@@ -172,25 +193,36 @@ pub fn whole<'buffer>(sheet: &[u8], buffer: &'buffer mut [u8]) -> Result<&'buffe
     call(waderarmoire_whole, sheet, buffer)
 }
 
-/// Calls one of the two functions of the library.
-fn call<'buffer>(
-    planner: Planner,
+/// Writes the numbers of all sites of `sheet`, counted from 1 by their lines, to the start of `list`
+/// in the order of work, and returns them.
+///
+/// The order is that of trimming with a pencil, inward from the ends: always the lowest-numbered
+/// untaken site with at most one unvisited link is taken. A link is visited once one of its sites is
+/// taken.
+///
+/// The places after the order keep their values. Nothing is allocated, and threads may call this
+/// at once.
+///
+/// # Errors
+///
+/// The refusal, if the sheet has a fault, the same as [`plan`] tells, or the list has fewer places
+/// than there are sites. The whole list then keeps its values.
+pub fn order<'list>(sheet: &[u8], list: &'list mut [usize]) -> Result<&'list [usize], Refusal> {
+    call(waderarmoire_order, sheet, list)
+}
+
+/// Calls one of the functions of the library.
+fn call<'lent, Place>(
+    function: Function<Place>,
     sheet: &[u8],
-    buffer: &'buffer mut [u8],
-) -> Result<&'buffer [u8], Refusal> {
+    lent: &'lent mut [Place],
+) -> Result<&'lent [Place], Refusal> {
     // SAFETY: the pointers and lengths are those of two slices, which do not overlap as one of
     // them is borrowed mutably, and the pointer of an empty slice is not null either. The library
-    // reads the sheet and writes the buffer within these lengths, and keeps neither.
-    let answer = unsafe {
-        planner(
-            sheet.as_ptr(),
-            sheet.len(),
-            buffer.as_mut_ptr(),
-            buffer.len(),
-        )
-    };
+    // reads the sheet and writes what is lent within these lengths, and keeps neither.
+    let answer = unsafe { function(sheet.as_ptr(), sheet.len(), lent.as_mut_ptr(), lent.len()) };
     match (answer >> 40) as u8 {
-        0 => Ok(&buffer[..(answer & 0xf_ffff) as usize]),
+        0 => Ok(&lent[..(answer & 0xf_ffff) as usize]),
         number => Err(Refusal {
             number,
             line: (answer >> 20) as u32 & 0xf_ffff,

@@ -3,7 +3,7 @@
 
 use sheets::tried::{ACCEPTED, refused};
 use sheets::whole::TRIED;
-use waderarmoire::{REPORT_BYTES, Refusal, plan, whole};
+use waderarmoire::{REPORT_BYTES, Refusal, SITES, order, plan, whole};
 
 type Planner = for<'buffer> fn(&[u8], &'buffer mut [u8]) -> Result<&'buffer [u8], Refusal>;
 const PLANNERS: [Planner; 2] = [plan, whole];
@@ -50,6 +50,40 @@ fn refusals() {
                 );
                 assert!(buffer.iter().all(|&byte| byte == 0xee));
             }
+        }
+    }
+}
+
+#[test]
+fn orders() {
+    for tried in &sheets::order::TRIED {
+        let length = tried.order.len();
+        for places in [length, length + 1, SITES] {
+            let mut list = vec![usize::MAX; places];
+            assert_eq!(order(&tried.sheet(), &mut list), Ok(tried.order));
+            assert!(list[length..].iter().all(|&place| place == usize::MAX));
+        }
+        for places in 0..length {
+            let mut list = vec![usize::MAX; places];
+            let too_short = Refusal { number: 9, line: 0 };
+            assert_eq!(order(&tried.sheet(), &mut list), Err(too_short));
+            assert!(list.iter().all(|&place| place == usize::MAX));
+        }
+    }
+}
+
+#[test]
+fn orders_refused() {
+    for tried in refused() {
+        let expected = Refusal {
+            number: tried.number,
+            line: tried.line,
+        };
+        for places in [0, 1, SITES] {
+            let mut list = vec![usize::MAX; places];
+            let outcome = order(&tried.sheet, &mut list);
+            assert_eq!(outcome, Err(expected), "{}", tried.title);
+            assert!(list.iter().all(|&place| place == usize::MAX));
         }
     }
 }

@@ -3,7 +3,7 @@
 use sheets::{Layout, Names, Network, Random, SHAPES, SITES, SIZE, Shape};
 use std::env;
 use std::thread::{self, Builder};
-use waderarmoire::{REPORT_BYTES, STACK_BYTES, plan, whole};
+use waderarmoire::{REPORT_BYTES, STACK_BYTES, order, plan, whole};
 
 /// The sheet of a tree of a shape, its sites in the order of the shape or the other way round.
 fn sheet(shape: Shape, count: usize, seed: u64, turned: bool) -> Vec<u8> {
@@ -24,20 +24,26 @@ fn sheet(shape: Shape, count: usize, seed: u64, turned: bool) -> Vec<u8> {
     network.sheet(Layout::SitesFirst, &mut random)
 }
 
-/// The two reports of a sheet, planned where this is called into buffers of so many bytes.
-fn reports(sheet: &[u8], room: [usize; 2]) -> [Vec<u8>; 2] {
+/// The two reports of a sheet, and its order.
+type Answers = ([Vec<u8>; 2], Vec<usize>);
+
+/// The answers on a sheet, worked out where this is called, with buffers of so many bytes.
+fn answers(sheet: &[u8], room: [usize; 2]) -> Answers {
     let mut halves = vec![0; room[0]];
     let mut circuits = vec![0; room[1]];
+    let mut list = vec![0; SITES];
     let halves = plan(sheet, &mut halves).expect("a tree").to_vec();
-    [halves, whole(sheet, &mut circuits).expect("a tree").to_vec()]
+    let circuits = whole(sheet, &mut circuits).expect("a tree").to_vec();
+    let order = order(sheet, &mut list).expect("a tree").to_vec();
+    ([halves, circuits], order)
 }
 
 /// Plans a sheet in threads with so many bytes of stack, into buffers for every report and into
 /// such that have just the bytes of these; too few bytes of stack end the whole test.
 fn in_thread(sheet: Vec<u8>, stack: usize) {
-    let alone = reports(&sheet, [REPORT_BYTES; 2]);
-    let lengths = [alone[0].len(), alone[1].len()];
-    let both = move || (reports(&sheet, [REPORT_BYTES; 2]), reports(&sheet, lengths));
+    let alone = answers(&sheet, [REPORT_BYTES; 2]);
+    let lengths = [alone.0[0].len(), alone.0[1].len()];
+    let both = move || (answers(&sheet, [REPORT_BYTES; 2]), answers(&sheet, lengths));
     let thread = Builder::new().stack_size(stack).spawn(both);
     assert_eq!(thread.unwrap().join().unwrap(), (alone.clone(), alone));
 }
@@ -56,7 +62,7 @@ fn little_stack() {
     in_thread(sheet(Shape::Star, 4, 1, false), stack);
 }
 
-/// Threads that plan at once get the reports that one alone gets.
+/// Threads that plan at once get the answers that one alone gets.
 #[test]
 fn many_at_once() {
     let sheets: Vec<_> = (1..=8)
@@ -64,13 +70,13 @@ fn many_at_once() {
         .collect();
     let alone: Vec<_> = sheets
         .iter()
-        .map(|sheet| reports(sheet, [REPORT_BYTES; 2]))
+        .map(|sheet| answers(sheet, [REPORT_BYTES; 2]))
         .collect();
     thread::scope(|scope| {
         for (sheet, alone) in sheets.iter().zip(&alone) {
             scope.spawn(move || {
                 for _ in 0..50 {
-                    assert_eq!(&reports(sheet, [REPORT_BYTES; 2]), alone);
+                    assert_eq!(&answers(sheet, [REPORT_BYTES; 2]), alone);
                 }
             });
         }

@@ -1,0 +1,91 @@
+//! The order of work: always the lowest-numbered untaken site with at most one unvisited link.
+
+use crate::SITES;
+use crate::network::Network;
+use crate::planted::{Error, planted};
+use crate::report::{push_name, push_number};
+use std::collections::BTreeSet;
+
+/// The neighbours of every site, one list behind the other.
+struct Neighbours {
+    sites: [u8; 2 * SITES],
+    /// Where the list of each site ends; it starts where that of the site before ends.
+    end: [usize; SITES],
+}
+
+impl Neighbours {
+    fn new(network: &Network) -> Self {
+        let mut end = [0; SITES];
+        let mut before = 0;
+        for (end, fold) in end.iter_mut().zip(network.folds()) {
+            *end = before;
+            before += usize::from(fold.degree);
+        }
+        let mut sites = [0; 2 * SITES];
+        for link in network.links() {
+            let [first, second] = link.sites;
+            for (site, neighbour) in [(first, second), (second, first)] {
+                let end = &mut end[usize::from(site)];
+                sites[*end] = neighbour;
+                *end += 1;
+            }
+        }
+        Neighbours { sites, end }
+    }
+
+    fn of(&self, site: u8) -> &[u8] {
+        let start = match usize::from(site) {
+            0 => 0,
+            after => self.end[after - 1],
+        };
+        &self.sites[start..self.end[usize::from(site)]]
+    }
+}
+
+/// All sites, in the order taken.
+///
+/// A link is visited once one of its sites is taken: an untaken site has as many unvisited links
+/// as untaken neighbours.
+pub fn order(network: &Network) -> Vec<u8> {
+    let neighbours = Neighbours::new(network);
+    let most_unvisited = if planted(Error::TwoUnvisited) { 2 } else { 1 };
+    let mut unvisited = network.folds().map(|fold| fold.degree);
+    let sites = (0..network.site_count()).map(|site| site as u8);
+    let mut ready: BTreeSet<u8> = sites
+        .filter(|&site| unvisited[usize::from(site)] <= most_unvisited)
+        .collect();
+    let mut is_taken = [false; SITES];
+    let mut order = Vec::with_capacity(network.site_count());
+    while let Some(site) = next(&mut ready) {
+        is_taken[usize::from(site)] = true;
+        order.push(site);
+        for &neighbour in neighbours.of(site) {
+            let left = &mut unvisited[usize::from(neighbour)];
+            *left -= 1;
+            if *left <= most_unvisited && !is_taken[usize::from(neighbour)] {
+                ready.insert(neighbour);
+            }
+        }
+    }
+    order
+}
+
+/// Takes the lowest of the sites that may be taken.
+fn next(ready: &mut BTreeSet<u8>) -> Option<u8> {
+    if planted(Error::HighestTaken) {
+        return ready.pop_last();
+    }
+    ready.pop_first()
+}
+
+/// A line for each site in the order taken: its number, tab, its name.
+pub fn lines(network: &Network) -> Vec<u8> {
+    let mut text = Vec::new();
+    for site in order(network) {
+        push_number(&mut text, u32::from(site) + 1);
+        text.push(b'\t');
+        push_name(&mut text, network.name(site));
+        text.push(b'\n');
+    }
+    text
+}
