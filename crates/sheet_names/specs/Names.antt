@@ -1,5 +1,5 @@
 -- The names of sites as ranges of the sheet, the look-up of a name, and the table of hashes by which the code looks it up.
--- Document 01, "The network sheet" (a name given above).
+-- Document 01, "The network sheet" (a name given above), and 02, Card 4 (names in either case).
 use mathlib.Core.Bool.{cond}
 use mathlib.Core.List.{List, [], _∷_}
 use mathlib.Core.Logic.{_≢_}
@@ -10,7 +10,7 @@ use lib.ListN.{length, getD, take, drop, set}
 use denote.Ref.{RefT, ptr, now}
 use Rattle.lists.specs.Numbers.{look}
 use Rattle.model.specs.Limits.{PLACES, SITES}
-use Rattle.text_fields.specs.Fields.{same, lastWord}
+use Rattle.text_fields.specs.Fields.{SameName, sameName, caseless, lastWord}
 use Rattle.sheet_names.specs.declared.Found.{Found}
 use Rattle.sheet_names.specs.declared.Found.the-variants.{At, Absent}
 
@@ -28,10 +28,10 @@ pub record IsPart (sheet : RefT (List ℕ)) (r : ℕ × ℕ) (q : RefT (List ℕ
   pub bytes : now q ≡ part (now sheet) r
   pub place : ptr q ≡ (ptr sheet .0, ptr sheet .1 + partStart (now sheet) r)
 
--- the number of the first site whose name is f, the names given being those of the sites from k up
+-- the number of the first site whose name is the same as f, the names given being those of the sites from k up
 unfoldable pub lookupFrom : List ℕ → List (ℕ × ℕ) → ℕ → List ℕ → Found
 lookupFrom s [] k f = Absent
-lookupFrom s (r ∷ rs) k f = cond (same (part s r) f) (At k) (lookupFrom s rs (suc k) f)
+lookupFrom s (r ∷ rs) k f = cond (sameName (part s r) f) (At k) (lookupFrom s rs (suc k) f)
 
 abbrev pub lookup : List ℕ → List (ℕ × ℕ) → List ℕ → Found
 lookup s names f = lookupFrom s names 1 f
@@ -60,9 +60,9 @@ unfoldable pub hashFrom : ℕ → List ℕ → ℕ
 hashFrom h [] = h
 hashFrom h (b ∷ bs) = hashFrom ((h * 31 + b) % HASHES) bs
 
--- the hash of a name, a number below HASHES: that of its last eight bytes, or of all of fewer
+-- the hash of a name, a number below HASHES: that of its last eight caseless bytes, or of all of fewer
 unfoldable pub hash : List ℕ → ℕ
-hash f = cond (ltb (length f) 8) (hashFrom 0 f) (lastWord f % 65521 % HASHES)
+hash f = cond (ltb (length f) 8) (hashFrom 0 (caseless f)) (lastWord (caseless f) % 65521 % HASHES)
 
 -- the table with one site more, whose name has the hash h: it is the newest with that hash, and the one that was comes before it
 abbrev pub entered : List ℕ → ℕ → ℕ → List ℕ
@@ -74,9 +74,9 @@ pub record Newest (s : List ℕ) (names : List (ℕ × ℕ)) (h n v : ℕ) : Typ
   pub own : 1 ≤ v → hash (nameAt s names (v - 1)) ≡ h
   pub after : (i : ℕ) → v ≤ i → i < n → hash (nameAt s names i) ≢ h
 
--- no two sites have one name
+-- no two sites have the same name
 abbrev pub Different : List ℕ → List (ℕ × ℕ) → Type 0
-Different s names = (j : ℕ) → j < length names → (i : ℕ) → i < j → nameAt s names i ≢ nameAt s names j
+Different s names = (j : ℕ) → j < length names → (i : ℕ) → i < j → ¬ (SameName (nameAt s names i) (nameAt s names j))
 
 -- a table of different names: at every hash the newest site with it, and for every site the newest before it with the same hash
 pub record Indexes (s : List ℕ) (names : List (ℕ × ℕ)) (table : List ℕ) : Type 0 where

@@ -9,6 +9,7 @@ use native.Mathlib.Nat.{mod-lt}
 use native.Mathlib.Decide.{decLt}
 use native.Mathlib.Numerals.{add-one}
 use native.Mathlib.Omega.{arith}
+use lib.Bits.{bitAnd}
 use lib.Dec.{ltb}
 use lib.ListN.{length, drop, set, replicate, length-replicate, length-set, length-append, drop-of-length-le, List·getD-append}
 use lib.Seq.{drop-cons, getD-set-same, getD-set-other, getD-append-seam}
@@ -16,7 +17,8 @@ use Rattle.lists.specs.Numbers.{look}
 use Rattle.lists.specs.Places.{look-zeros}
 use Rattle.lists.specs.Sums.{same?}
 use Rattle.model.specs.Limits.{SITES}
-use Rattle.text_fields.specs.Fields.{lastWord}
+use Rattle.text_fields.specs.Fields.{SameName, caseless, lastWord}
+use Rattle.text_fields.specs.Capitals.{length-caseless, caseless-at, same-length, same-names-are-caseless-alike}
 use Rattle.sheet_names.specs.Names.{HASHES, TABLE, part, lookup, nameAt, hashFrom, hash, entered, Newest, Different, Indexes}
 use Rattle.sheet_names.specs.LookupLaws.{Says, lookup-says, first-is-found}
 use Rattle.sheet_names.specs.declared.Found.{Found}
@@ -34,18 +36,24 @@ pub hash-below : (f : List ℕ) → hash f < HASHES
 unfolding hash
 hash-below f = by (ltb (length f) 8)
   where
-    by : (t : Bool) → cond t (hashFrom 0 f) (lastWord f % 65521 % HASHES) < HASHES
-    by true = from-below 0 f (omega arith)
-    by false = mod-lt (lastWord f % 65521) (omega arith)
+    by : (t : Bool) → cond t (hashFrom 0 (caseless f)) (lastWord (caseless f) % 65521 % HASHES) < HASHES
+    by true = from-below 0 (caseless f) (omega arith)
+    by false = mod-lt (lastWord (caseless f) % 65521) (omega arith)
 
--- the bytes from place i on, by the byte at i
-pub hash-step : (h : ℕ) (f : List ℕ) (i : ℕ) → i < length f → hashFrom h (drop i f) ≡ hashFrom ((h * 31 + look f i) % HASHES) (drop (i + 1) f)
-unfolding hashFrom
-hash-step h f i l = rw (drop-cons f i 0 l, add-one)
+-- names that are the same have one hash
+pub same-names-have-one-hash : (f g : List ℕ) → SameName f g → hash f ≡ hash g
+unfolding hash
+same-names-have-one-hash f g e = rw (same-length f g e, same-names-are-caseless-alike f g e)
 
-pub hash-end : (h : ℕ) (f : List ℕ) (i : ℕ) → length f ≤ i → hashFrom h (drop i f) ≡ h
+-- the caseless bytes from place i on, by the byte at i
+pub hash-step : (h : ℕ) (f : List ℕ) (i : ℕ) → i < length f
+    → hashFrom h (drop i (caseless f)) ≡ hashFrom ((h * 31 + bitAnd (look f i) 223) % HASHES) (drop (i + 1) (caseless f))
 unfolding hashFrom
-hash-end h f i l = rw (drop-of-length-le f l)
+hash-step h f i l = rw (drop-cons (caseless f) i 0 (omega (arith, length-caseless f)), add-one, caseless-at f i)
+
+pub hash-end : (h : ℕ) (f : List ℕ) (i : ℕ) → length f ≤ i → hashFrom h (drop i (caseless f)) ≡ h
+unfolding hashFrom
+hash-end h f i l = rw (drop-of-length-le (caseless f) {i = i} (omega (arith, length-caseless f)))
 
 -- ---- the look-up
 
@@ -53,16 +61,16 @@ hash-end h f i l = rw (drop-of-length-le f l)
 pub record Back (s : List ℕ) (names : List (ℕ × ℕ)) (f : List ℕ) (v : ℕ) : Type 0 where
   pub within : v ≤ length names
   pub own : 1 ≤ v → hash (nameAt s names (v - 1)) ≡ hash f
-  pub after : (i : ℕ) → v ≤ i → i < length names → nameAt s names i ≢ f
+  pub after : (i : ℕ) → v ≤ i → i < length names → ¬ (SameName (nameAt s names i) f)
 
 module _ {s : List ℕ} {names : List (ℕ × ℕ)} {table : List ℕ} (t : Indexes s names table) (f : List ℕ) where
   -- at the newest site
   pub back-from : Back s names f (look table (hash f))
   back-from = let n = t .newest (hash f) (hash-below f) in
-      record { within = n .within; own = n .own; after = λ i l h e. n .after i l h (ap hash e) }
+      record { within = n .within; own = n .own; after = λ i l h e. n .after i l h (same-names-have-one-hash _ f e) }
 
   -- from a site of another name to the next
-  pub back-to : (v : ℕ) → Back s names f v → 1 ≤ v → nameAt s names (v - 1) ≢ f → Back s names f (look table (HASHES + v))
+  pub back-to : (v : ℕ) → Back s names f v → 1 ≤ v → (¬ (SameName (nameAt s names (v - 1)) f)) → Back s names f (look table (HASHES + v))
   back-to v b l d =
       let here : v - 1 + 1 ≡ v = omega arith in
       let n = rw (here, b .own l) at (t .older (v - 1) (omega (arith, b .within))) in
@@ -71,7 +79,7 @@ module _ {s : List ℕ} {names : List (ℕ × ℕ)} {table : List ℕ} (t : Inde
         own = n .own;
         after = λ i g h. same? i (v - 1)
             (λ e. rw e d)
-            (λ e. elim (decLt i v) [ yes k ↦ λ z. n .after i g (omega arith) (ap hash z) | no k ↦ b .after i (omega arith) h ]);
+            (λ e. elim (decLt i v) [ yes k ↦ λ z. n .after i g (omega arith) (same-names-have-one-hash _ f z) | no k ↦ b .after i (omega arith) h ]);
       }
 
   -- which is an older one
@@ -89,7 +97,7 @@ module _ {s : List ℕ} {names : List (ℕ × ℕ)} {table : List ℕ} (t : Inde
       by (At v) h = absurd (b .after (h .0) (omega arith) (h .2) (h .3))
       by Absent h = refl
 
-  pub site-there : (v : ℕ) → 1 ≤ v → v ≤ length names → nameAt s names (v - 1) ≡ f → lookup s names f ≡ At v
+  pub site-there : (v : ℕ) → 1 ≤ v → v ≤ length names → SameName (nameAt s names (v - 1)) f → lookup s names f ≡ At v
   site-there v l h e =
       first-is-found s f names 1 (v - 1) (omega arith) e (λ j b z. t .different (v - 1) (omega arith) j b (z ∙ sym e)) ∙ ap At (omega arith)
 

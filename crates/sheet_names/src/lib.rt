@@ -2,6 +2,7 @@
 ghost use mathlib.Core.Path.{_≡_};
 ghost use Prim.Native.Nat.{_≤_, min};
 ghost use Rattle.model.specs.Limits.{SITES};
+ghost use Rattle.text_fields.specs.Fields.{caseless};
 ghost use Rattle.sheet_names.specs.Names.{part, IsPart, lookup, ranges, hashFrom, hash, entered, Indexes};
 use model::PLACES;
 use model::SITES;
@@ -36,20 +37,20 @@ pub fn part(sheet: &[u8], start: usize, end: usize) -> &[u8]
     &sheet[start..stop]
 }
 
-// The hash of a name of a few bytes.
+// The hash of a name of a few bytes, each without the bit by which a-z differ from A-Z.
 fn hash_bytes(name: &[u8]) -> usize
-    ensures { λ r. ⌜ r ≡ hashFrom 0 (now (name .entry)) ⌝ }
+    ensures { λ r. ⌜ r ≡ hashFrom 0 (caseless (now (name .entry))) ⌝ }
 {
     let mut value = 0;
     let mut i = 0;
     while i < name.len() {
-        value = (value * 31 + name[i] as usize) % HASHES;
+        value = (value * 31 + (name[i] & 223) as usize) % HASHES;
         i += 1;
     }
     value
 }
 
-// The hash of a name: that of its last eight bytes, or of all of fewer.
+// The hash of a name: that of its last eight bytes, or of all of fewer. Names that are the same have one.
 fn hash(name: &[u8]) -> usize
     ensures { λ r. ⌜ r ≡ hash (now (name .entry)) ⌝ }
 {
@@ -70,7 +71,7 @@ pub fn enter(table: &mut [u16; TABLE], sheet: &[u8], start: usize, end: usize, s
     table[place] = site as u16;
 }
 
-// The number of the site whose name is the part from a start to an end, the names of the sites being ranges of the sheet, by the table:
+// The number of the site whose name is the same as the part from a start to an end, the names of the sites being ranges of the sheet, by the table:
 // from the newest site with the name's hash back to the oldest. Only the planner's own crates call it.
 pub fn find(
     sheet: &[u8],
@@ -88,7 +89,7 @@ pub fn find(
     let mut site = table[hash(name)] as usize;
     while 0 < site {
         let i = site - 1;
-        if text_fields::same(part(sheet, starts[i], ends[i]), name) {
+        if text_fields::same_name(part(sheet, starts[i], ends[i]), name) {
             return Found::At(site);
         }
         site = table[HASHES + site] as usize;

@@ -1,8 +1,10 @@
 -- The fields of a line, and which of them are names and numbers.
--- Document 01, "The network sheet". Bytes are numbers: 9 tab, 48 .. 57 digits.
+-- Document 01, "The network sheet", and 02, Card 4 (names in either case). Bytes are numbers: 9 tab, 48 .. 57 digits, 65 .. 90 A-Z, 97 .. 122 a-z.
 use mathlib.Core.Bool.{Bool, true, false, cond, _&&_, _||_}
-use mathlib.Core.List.{List, [], _∷_}
+use mathlib.Core.List.{List, [], _∷_, map}
+use mathlib.Core.Path.{_≡_}
 use Prim.Native.Nat.{ℕ, suc, _+_, _-_, _*_}
+use lib.Bits.{bitAnd}
 use lib.Dec.{eqb, leb, ltb}
 use lib.ListN.{length, getD}
 
@@ -12,6 +14,26 @@ same [] [] = true
 same [] (y ∷ ys) = false
 same (x ∷ xs) [] = false
 same (x ∷ xs) (y ∷ ys) = eqb x y && same xs ys
+
+-- a byte, a-z read as A-Z; every other byte is read as it is (02, Card 4)
+abbrev pub capital : ℕ → ℕ
+capital b = cond (leb 97 b && leb b 122) (b - 32) b
+
+-- a string so read
+unfoldable pub capitals : List ℕ → List ℕ
+capitals f = map capital f
+
+-- two names are the same: they agree when a-z is read as A-Z (02, Card 4)
+abbrev pub SameName : List ℕ → List ℕ → Type 0
+SameName f g = capitals f ≡ capitals g
+
+-- whether they are
+abbrev pub sameName : List ℕ → List ℕ → Bool
+sameName f g = same (capitals f) (capitals g)
+
+-- the bytes of a string without the bit of 32, by which a-z differ from A-Z: what names are hashed by
+unfoldable pub caseless : List ℕ → List ℕ
+caseless f = map (λ b. bitAnd b 223) f
 
 -- four bytes from place i on as one number, the first of them lowest
 unfoldable pub halfWord : List ℕ → ℕ → ℕ

@@ -1,3 +1,4 @@
 pub mod Fields
 pub mod FieldLaws
+pub mod Capitals
 pub mod Words

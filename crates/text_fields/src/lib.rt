@@ -5,7 +5,7 @@ ghost use mathlib.Core.Bool.{_&&_};
 ghost use Prim.Native.Nat.{_+_, _≤_, _<_};
 ghost use lib.Dec.{leb};
 ghost use lib.ListN.{length};
-ghost use Rattle.text_fields.specs.Fields.{same, word, lastWord, all, isDigit, isLetterOrDigit, isName, isNumber};
+ghost use Rattle.text_fields.specs.Fields.{same, capital, sameName, caseless, word, lastWord, all, isDigit, isLetterOrDigit, isName, isNumber};
 ghost use Rattle.text_fields.specs.Words.{HalfWord, SameWord};
 
 // A byte as a wider number.
@@ -23,17 +23,25 @@ fn half_word(s: &[u8], at: usize) -> u64
     wide(s[at]) + 256 * wide(s[at + 1]) + 65536 * wide(s[at + 2]) + 16777216 * wide(s[at + 3])
 }
 
-// Eight bytes of a string from a place on, as one number.
-fn word(s: &[u8], at: usize) -> u64
-    requires { ⌜ at + 8 ≤ length (now s) ⌝ }
-    ensures { λ r. ⌜ r ≡ word (now (s .entry)) at ⌝ }
+// Four bytes of a string from a place on, as one number, each without the bit by which a-z differ from A-Z.
+fn caseless_half(s: &[u8], at: usize) -> u64
+    requires { ⌜ at + 4 ≤ length (now s) ⌝ }
+    ensures { λ r. ⌜ HalfWord (caseless (now (s .entry))) at r ⌝ }
 {
-    half_word(s, at) + 4294967296 * half_word(s, at + 4)
+    half_word(s, at) & 3755991007
 }
 
-// The last eight bytes of a string as one number, and 0 for a string of fewer.
+// So for eight bytes.
+fn word(s: &[u8], at: usize) -> u64
+    requires { ⌜ at + 8 ≤ length (now s) ⌝ }
+    ensures { λ r. ⌜ r ≡ word (caseless (now (s .entry))) at ⌝ }
+{
+    caseless_half(s, at) + 4294967296 * caseless_half(s, at + 4)
+}
+
+// So for the last eight bytes of a string, and 0 for a string of fewer: the same for names that are the same.
 pub fn last_word(s: &[u8]) -> u64
-    ensures { λ r. ⌜ r ≡ lastWord (now (s .entry)) ⌝ }
+    ensures { λ r. ⌜ r ≡ lastWord (caseless (now (s .entry))) ⌝ }
 {
     if s.len() < 8 {
         return 0;
@@ -91,6 +99,41 @@ pub fn same(a: &[u8], b: &[u8]) -> bool
         return same_bytes(a, b);
     }
     same_words(a, b)
+}
+
+// A byte, a-z read as A-Z.
+fn capital(b: u8) -> u8
+    ensures { λ r. ⌜ r ≡ capital b ⌝ }
+{
+    if between(b, b'a', b'z') { b - 32 } else { b }
+}
+
+// Whether two strings of one length are the same when a-z is read as A-Z, byte by byte.
+fn same_capitals(a: &[u8], b: &[u8]) -> bool
+    requires { ⌜ length (now a) ≡ length (now b) ⌝ }
+    ensures { λ r. ⌜ r ≡ sameName (now (a .entry)) (now (b .entry)) ⌝ }
+{
+    let mut at = 0;
+    while at < a.len() {
+        if capital(a[at]) != capital(b[at]) {
+            return false;
+        }
+        at += 1;
+    }
+    true
+}
+
+// Whether two names are the same (document 02, Card 4): spelt alike, or else when a-z is read as A-Z.
+pub fn same_name(a: &[u8], b: &[u8]) -> bool
+    ensures { λ r. ⌜ r ≡ sameName (now (a .entry)) (now (b .entry)) ⌝ }
+{
+    if a.len() != b.len() {
+        return false;
+    }
+    if same(a, b) {
+        return true;
+    }
+    same_capitals(a, b)
 }
 
 // Whether a field is one byte, the given one.

@@ -5,7 +5,7 @@ use Prim.Native.Nat.{_≤_, _<_, _+_, _-_}
 use native.Mathlib.Omega.{arith}
 use borrow.Author.Needs.{needs}
 use Rattle.lists.specs.Numbers.{look}
-use Rattle.text_fields.specs.Fields.{same}
+use Rattle.text_fields.specs.Fields.{same, capitals, sameName}
 use Rattle.text_fields.specs.FieldLaws.{same-are-equal, equal-are-same}
 use Rattle.sheet_names.specs.Names.{HASHES, part, ranges, nameAt, hash}
 use Rattle.sheet_names.specs.LookupLaws.{length-ranges, range-at}
@@ -38,15 +38,15 @@ starts-there c =
     rw (hash-is c) (omega (arith, from .within, length-ranges (a .starts .now) (a .ends .now) 0 (a .sites)), from)
 
 -- what the test says: whether the site has the name
-tested : (c : tie.After-same Inv-loop μ-loop) → let top = c .before .before .before .before .before in
+tested : (c : tie.After-same-name Inv-loop μ-loop) → let top = c .before .before .before .before .before in
     let a = top .before .before .before .before .before .args in
-    c .same .result
-    ≡ same (nameAt (a .sheet .now) (ranges (a .starts .now) (a .ends .now) 0 (a .sites)) (top .loop .site - 1)) (part (a .sheet .now) (a .start, a .end))
+    c .same-name .result
+    ≡ sameName (nameAt (a .sheet .now) (ranges (a .starts .now) (a .ends .now) 0 (a .sites)) (top .loop .site - 1)) (part (a .sheet .now) (a .start, a .end))
 tested c =
     let top = c .before .before .before .before .before in
     let a = top .before .before .before .before .before .args in
     rw (range-at (a .starts .now) (a .ends .now) (a .sites) (top .loop .site - 1) (omega arith))
-    (rw (c .before .part2 .ensures .bytes, top .before .before .before .part .ensures .bytes) at (c .same .ensures))
+    (rw (c .before .part2 .ensures .bytes, top .before .before .before .part .ensures .bytes) at (c .same-name .ensures))
 
 -- the next site is an older one
 next : (c : tie.After-site2 Inv-loop μ-loop) → let top = c .before .before .before .before .before .before .before in
@@ -72,7 +72,7 @@ loop-again c =
     let f = part (start .args .sheet .now) (start .args .start, start .args .end) in (
       omega (arith, next c),
       back-to (start .pre .1) f (top .loop .site) (top .loop .inv .1) (omega arith)
-          (λ e. true≢false (sym (equal-are-same f) ∙ ap (λ g. same g f) (sym e) ∙ sym (tested (test .before)) ∙ test .if1 .left)),
+          (λ e. true≢false (sym (equal-are-same (capitals f)) ∙ ap (λ g. same g (capitals f)) (sym e) ∙ sym (tested (test .before)) ∙ test .if1 .left)),
     )
 
 returns-2 : tie.Need-returns-2 Inv-loop μ-loop
