@@ -10,16 +10,17 @@ use lib.ListN.{length}
 use Rattle.model.specs.Flows.{Site, Joined}
 use Rattle.model.specs.declared.Edition.{Edition}
 use Rattle.text_lines.specs.Lines.{lineAt, afterLine}
+use Rattle.text_fields.specs.Fields.{SameName}
 use Rattle.sheet_kinds.specs.LineKinds.{fields, field, isHeading, IsSite}
 use Rattle.sheet_kinds.specs.FaultyLines.{WrongCount, BadName, BadNumber, NoLetter, Broken, TooLarge}
 use Rattle.sheet_kinds.specs.KindForms.{LinkWithin}
 use Rattle.sheet.specs.Sheet.{Network, empty, accepted, readLine}
 use Rattle.sheet_names.specs.Names.{nameAt}
 
--- site v has the name f
+-- site v has the name f: its own name is the same, in either case (02, Card 4)
 pub record Named (s : List ℕ) (names : List (ℕ × ℕ)) (f : List ℕ) (v : ℕ) : Type 0 where
   pub site : Site (length names) v
-  pub name : nameAt s names (v - 1) ≡ f
+  pub name : SameName (nameAt s names (v - 1)) f
 
 -- no site has the name f
 abbrev pub NotGiven : List ℕ → List (ℕ × ℕ) → List ℕ → Type 0

@@ -2,7 +2,7 @@
 -- joined two sites that the links above did not, and in the end all are joined. A sheet is refused for a cause of the table, and for no other.
 use mathlib.Core.Bool.{Bool, true, false, cond, _&&_}
 use mathlib.Core.List.{List, reverse, reverse-reverse}
-use mathlib.Core.Logic.{_≢_, _↔_}
+use mathlib.Core.Logic.{_↔_}
 use mathlib.Core.Path.{_≡_, refl, sym, subst}
 use Prim.Native.Nat.{ℕ, _≤_, _<_}
 use native.Mathlib.Omega.{arith}
@@ -14,6 +14,7 @@ use Rattle.model.specs.Flows.{Site, sites, label, Tree}
 use Rattle.model.specs.declared.Edition.{Edition}
 use Rattle.theory_trees.specs.Labels.{joined-label}
 use Rattle.theory_trees.specs.Fresh.{joined-reversed, fresh-links-make-a-tree, tree-reversed}
+use Rattle.text_fields.specs.Fields.{SameName}
 use Rattle.sheet_kinds.specs.LineKindLaws.{both}
 use Rattle.sheet.specs.Sheet.{Network, empty, Read, refused, accepted, readLines, allJoined, finish, andThen, readSheet}
 use Rattle.sheet_names.specs.Names.{nameAt}
@@ -22,15 +23,15 @@ use Rattle.sheet.specs.Causes.{Refusal}
 use Rattle.sheet.specs.RefusalLaws.{all-joined, a-refused-sheet-has-its-cause, a-cause-refuses-its-sheet}
 use Rattle.sheet.specs.Sound.{IsNameRange, Sound, Accepts, none-is-sound, goes-on, lines-keep-sound}
 
--- what an accepted sheet gives: a tree of sites within the limit, a capacity within the limit for each link, and different names, each a
--- range of the sheet
+-- what an accepted sheet gives: a tree of sites within the limit, a capacity within the limit for each link, and names of which no two are the
+-- same, each a range of the sheet
 pub record IsNetwork (ed : Edition) (s : List ℕ) (net : Network) : Type 0 where
   pub tree : Tree (net .links) (length (net .names))
   pub few : length (net .names) ≤ ed .sites
   pub capacities : length (net .capacities) ≡ length (net .links)
   pub sizes : (j : ℕ) → j < length (net .capacities) → look (net .capacities) j ≤ ed .size
   pub names : (i : ℕ) → i < length (net .names) → IsNameRange s (getD (net .names) i (0, 0))
-  pub different : (j : ℕ) → j < length (net .names) → (i : ℕ) → i < j → nameAt s (net .names) i ≢ nameAt s (net .names) j
+  pub different : (j : ℕ) → j < length (net .names) → (i : ℕ) → i < j → ¬ (SameName (nameAt s (net .names) i) (nameAt s (net .names) j))
 
 -- fresh links that join all sites make a tree, in the order of the sheet too
 sound-and-joined-is-a-tree : (ed : Edition) (s : List ℕ) (net : Network) → Sound ed s net → 2 ≤ length (net .names)

@@ -18,6 +18,7 @@ use Rattle.theory_trees.specs.Labels.{Fresh, reps, reps-eq, label-label, label-
 use Rattle.theory_trees.specs.Fresh.{joined-reversed}
 use Rattle.text_lines.specs.Lines.{lineLength, lineAt, afterLine, hasLine}
 use Rattle.text_lines.specs.LineLaws.{line-and-what-follows, line-stays-on-sheet}
+use Rattle.text_fields.specs.Fields.{SameName}
 use Rattle.sheet_kinds.specs.LineKinds.{isName, kind}
 use Rattle.sheet_kinds.specs.FormedLines.{Formed, kinds-are-formed}
 use Rattle.sheet_kinds.specs.declared.Line.{Line}
@@ -42,7 +43,7 @@ pub record IsNameRange (s : List ℕ) (r : ℕ × ℕ) : Type 0 where
 pub record Sound (ed : Edition) (s : List ℕ) (net : Network) : Type 0 where
   pub few : length (net .names) ≤ ed .sites
   pub names : (i : ℕ) → i < length (net .names) → IsNameRange s (getD (net .names) i (0, 0))
-  pub different : (j : ℕ) → j < length (net .names) → (i : ℕ) → i < j → nameAt s (net .names) i ≢ nameAt s (net .names) j
+  pub different : (j : ℕ) → j < length (net .names) → (i : ℕ) → i < j → ¬ (SameName (nameAt s (net .names) i) (nameAt s (net .names) j))
   pub ends : Ends (reverse (net .links)) (length (net .names))
   pub fresh : Fresh (reverse (net .links))
   pub capacities : length (net .capacities) ≡ length (net .links)
@@ -81,7 +82,7 @@ module _ (ed : Edition) (s : List ℕ) (net : Network) (k : ℕ) (sound : Sound 
   new-site r named few new = record {
     few = omega (arith, length-append (net .names) (r ∷ []));
     names = one-more (λ i q. IsNameRange s q) (net .names) r (0, 0) (sound .names) named;
-    different = one-more (λ j q. (i : ℕ) → i < j → nameAt s (net .names ++ (r ∷ [])) i ≢ part s q) (net .names) r (0, 0)
+    different = one-more (λ j q. (i : ℕ) → i < j → ¬ (SameName (nameAt s (net .names ++ (r ∷ [])) i) (part s q))) (net .names) r (0, 0)
         (λ j l i b. rw (List·getD-append (net .names) (r ∷ []) (0, 0) i (omega arith)) (sound .different j l i b))
         (λ i b. rw (List·getD-append (net .names) (r ∷ []) (0, 0) i b) (new i b));
     ends = λ j l. omega (arith, sound .ends j l, length-append (net .names) (r ∷ []));
