@@ -13,4 +13,6 @@ pub mod OwnLines
 pub mod SheetTheorem
 pub mod Answers
 pub mod NameLaws
+pub mod Earlier
 pub mod Renumbered
+pub mod Spelling

@@ -110,10 +110,10 @@ module _ (ed : Edition) (s : List ℕ) (net : Network) (k at : ℕ) where
 -- ---- the lines
 
 module _ (ed : Edition) (s : List ℕ) where
-  abbrev Own : List (ℕ × ℕ) → Type 0
+  abbrev pub Own : List (ℕ × ℕ) → Type 0
   Own names = (i : ℕ) → i < length names → OwnLine ed s i (getD names i (0, 0))
 
-  own-lines : {k at : ℕ} {net : Network} → Reached ed s k at net → Own (net .names)
+  pub own-lines : {k at : ℕ} {net : Network} → Reached ed s k at net → Own (net .names)
   own-lines start = λ i l. absurd (omega arith)
   own-lines (next {k = k} {at = at} {net = net} {after = after} r h e) = ⊎-elim
       (λ same. rw same (own-lines r))

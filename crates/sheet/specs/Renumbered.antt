@@ -1,8 +1,8 @@
--- Reading by another numbering of the form faults, and what Card 1 changed: by the numbering from before, which gave 2 for each of them, every sheet is
+-- What Card 1 changed in reading: by the numbering from before, which gave 2 for each of them, every sheet is
 -- read as today, but that 2 stands for 10, 11 and 12; the line, and everything else, is as it was. Document 02, Card 1. By the cases of a step.
 use mathlib.Core.Bool.{Bool, true, false, cond, _&&_}
 use mathlib.Core.List.{List}
-use mathlib.Core.Path.{_≡_, refl, sym, ap}
+use mathlib.Core.Path.{_≡_, refl, sym, ap, _∙_}
 use Prim.Native.Nat.{ℕ, zero, suc, _+_}
 use lib.Dec.{eqb, leb, ltb}
 use lib.ListN.{length, drop}
@@ -10,38 +10,17 @@ use Rattle.model.specs.Flows.{sites, joined}
 use Rattle.model.specs.declared.Edition.{Edition}
 use Rattle.text_lines.specs.Lines.{lineLength, lineAt, afterLine, hasLine}
 use Rattle.sheet_kinds.specs.LineKinds.{kind}
-pub use Rattle.sheet_kinds.specs.LineKinds.{faultOf}
-pub use Rattle.sheet_kinds.specs.Numbering.{Check, faultBefore}
 unfoldable pub use Rattle.sheet_kinds.specs.Numbering.{numberBefore}
-use Rattle.sheet_kinds.specs.Numbering.{kindBy, lineBefore, kind-is-by-the-numbering, a-line-is-as-before}
+use Rattle.sheet_kinds.specs.Numbering.{lineBefore, kind-is-by-the-numbering, a-line-is-as-before}
 use Rattle.sheet_kinds.specs.declared.Line.{Line}
 use Rattle.sheet_kinds.specs.declared.Line.the-variants as line
 use Rattle.sheet_names.specs.declared.Found.{Found}
 use Rattle.sheet_names.specs.declared.Found.the-variants.{At, Absent}
 use Rattle.sheet.specs.Sheet.{Network, empty, Read, refused, accepted, siteStep, siteBy, linkStep, headingStep, recordStep, stepOf, added, readLine}
 use Rattle.sheet.specs.Sheet.{andThen, readLines, allJoined, finish, readSheet, part, lookup}
+use Rattle.sheet.specs.Earlier.{faultOf, faultBefore, recordBy, record-by-the-look-up, stepBy, readLinesBy, readSheetBy}
 use Rattle.sheet.specs.declared.stepping.Step.{Step}
 use Rattle.sheet.specs.declared.stepping.Step.the-variants.{Nothing, Site, Link, Refused}
-
--- ---- reading by a numbering: `stepOf`, `readLines` and `readSheet` are those by `faultOf`
-
-module _ (numbering : Check → ℕ) (ed : Edition) (s : List ℕ) where
-  unfoldable pub stepBy : Network → ℕ → ℕ → Step
-  stepBy net k at =
-      let line = kindBy numbering (ed .size) (lineAt s at) in
-      cond (ltb (at + lineLength (drop at s)) (length s))
-      (cond (eqb k 1) (headingStep line) (recordStep ed s net k at line))
-      (Refused 2 k)
-
-  unfoldable pub readLinesBy : ℕ → ℕ → ℕ → Network → Read
-  readLinesBy zero k at net = accepted net
-  readLinesBy (suc fuel) k at net =
-      cond (hasLine s at)
-      (andThen (added net (stepBy net k at)) (λ next. readLinesBy fuel (suc k) (afterLine s at) next))
-      (accepted net)
-
-  unfoldable pub readSheetBy : Read
-  readSheetBy = cond (leb 1 (length s) && leb (length s) (ed .bytes)) (andThen (readLinesBy (length s) 1 0 empty) finish) (refused 1 0)
 
 -- what reading came to before: 2 for 10, 11 and 12, at the same line; everything else stays
 abbrev pub readBefore : Read → Read
@@ -92,22 +71,22 @@ module _ (ed : Edition) (s : List ℕ) where
     record-before (line.Link a e b f size) = sym (link-stays k net size _ _)
     record-before (line.Fault n) = refl
 
-    step-before : stepBy faultBefore ed s net k at ≡ stepBefore (stepOf ed s net k at)
+    step-before : stepBy faultBefore lookup ed s net k at ≡ stepBefore (stepOf ed s net k at)
     unfolding stepBy stepOf numberBefore
     step-before =
         rw (a-line-is-as-before (ed .size) (lineAt s at))
         (by (ltb (at + lineLength (drop at s)) (length s)) (eqb k 1) (kind (ed .size) (lineAt s at)))
       where
-        by : (t u : Bool) (w : Line) → cond t (cond u (headingStep (lineBefore w)) (recordStep ed s net k at (lineBefore w))) (Refused 2 k)
+        by : (t u : Bool) (w : Line) → cond t (cond u (headingStep (lineBefore w)) (recordBy lookup ed s net k at (lineBefore w))) (Refused 2 k)
             ≡ stepBefore (cond t (cond u (headingStep w) (recordStep ed s net k at w)) (Refused 2 k))
         by true true w = heading-before w
-        by true false w = record-before w
+        by true false w = record-by-the-look-up ed s net k at (lineBefore w) ∙ record-before w
         by false u w = refl
 
     -- by today's numbering it is today's step
-    step-by-the-numbering : stepBy faultOf ed s net k at ≡ stepOf ed s net k at
+    step-by-the-numbering : stepBy faultOf lookup ed s net k at ≡ stepOf ed s net k at
     unfolding stepBy stepOf
-    step-by-the-numbering = rw (kind-is-by-the-numbering (ed .size) (lineAt s at))
+    step-by-the-numbering = rw (kind-is-by-the-numbering (ed .size) (lineAt s at), record-by-the-look-up ed s net k at (kind (ed .size) (lineAt s at)))
 
   -- ---- the lines and the sheet
 
@@ -131,23 +110,23 @@ module _ (ed : Edition) (s : List ℕ) where
   either true q r x e f = e
   either false q r x e f = f
 
-  lines-before : (fuel k at : ℕ) (net : Network) → readLinesBy faultBefore ed s fuel k at net ≡ readBefore (readLines ed s fuel k at net)
+  lines-before : (fuel k at : ℕ) (net : Network) → readLinesBy faultBefore lookup ed s fuel k at net ≡ readBefore (readLines ed s fuel k at net)
   unfolding readLinesBy readLines readLine
   lines-before zero k at net = refl
   lines-before (suc fuel) k at net =
       either (hasLine s at) _ (andThen (added net (stepOf ed s net k at)) (readLines ed s fuel (suc k) (afterLine s at))) (accepted net)
       (rw (step-before net k at, added-before net (stepOf ed s net k at))
-      (then-before (added net (stepOf ed s net k at)) (readLinesBy faultBefore ed s fuel (suc k) (afterLine s at))
+      (then-before (added net (stepOf ed s net k at)) (readLinesBy faultBefore lookup ed s fuel (suc k) (afterLine s at))
       (readLines ed s fuel (suc k) (afterLine s at)) (λ next. lines-before fuel (suc k) (afterLine s at) next)))
       refl
 
-  lines-by-the-numbering : (fuel k at : ℕ) (net : Network) → readLinesBy faultOf ed s fuel k at net ≡ readLines ed s fuel k at net
+  lines-by-the-numbering : (fuel k at : ℕ) (net : Network) → readLinesBy faultOf lookup ed s fuel k at net ≡ readLines ed s fuel k at net
   unfolding readLinesBy readLines readLine
   lines-by-the-numbering zero k at net = refl
   lines-by-the-numbering (suc fuel) k at net =
       ap (λ r. cond (hasLine s at) r (accepted net))
       (rw (step-by-the-numbering net k at)
-      (then-alike (added net (stepOf ed s net k at)) (readLinesBy faultOf ed s fuel (suc k) (afterLine s at))
+      (then-alike (added net (stepOf ed s net k at)) (readLinesBy faultOf lookup ed s fuel (suc k) (afterLine s at))
       (readLines ed s fuel (suc k) (afterLine s at)) (λ next. lines-by-the-numbering fuel (suc k) (afterLine s at) next)))
 
   finish-stays : (net : Network) → finish net ≡ readBefore (finish net)
@@ -159,12 +138,12 @@ module _ (ed : Edition) (s : List ℕ) where
       by false = refl
 
   -- today's reading is the one by today's numbering
-  pub a-sheet-is-read-by-the-numbering : readSheetBy faultOf ed s ≡ readSheet ed s
+  pub a-sheet-is-read-by-the-numbering : readSheetBy faultOf lookup ed s ≡ readSheet ed s
   unfolding readSheetBy readSheet
   a-sheet-is-read-by-the-numbering = rw (lines-by-the-numbering (length s) 1 0 empty)
 
   -- what was 2 before is one of 2, 10, 11, 12 now, at the same line, and everything else is as it was
-  pub a-sheet-is-read-as-before : readSheetBy faultBefore ed s ≡ readBefore (readSheet ed s)
+  pub a-sheet-is-read-as-before : readSheetBy faultBefore lookup ed s ≡ readBefore (readSheet ed s)
   unfolding readSheetBy readSheet numberBefore
   a-sheet-is-read-as-before =
       either (leb 1 (length s) && leb (length s) (ed .bytes)) _ (andThen (readLines ed s (length s) 1 0 empty) finish) (refused 1 0)
