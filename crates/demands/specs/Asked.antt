@@ -6,8 +6,8 @@
 use mathlib.Core.Path.{_≡_}
 use mathlib.Core.Logic.{_≢_, _↔_, _⊎_}
 use mathlib.Core.List.{List, _++_, map}
-use Prim.Native.Nat.{ℕ, _*_, _≤_, _<_}
-use lib.ListN.{length, drop}
+use Prim.Native.Nat.{ℕ, _-_, _*_, _≤_, _<_}
+use lib.ListN.{length, getD, drop}
 use Rattle.model.specs.Edition.{edition1}
 use Rattle.lists.specs.Numbers.{count, look, Each}
 use Rattle.model.specs.Flows.{Site, Fits, sites, load, total}
@@ -19,13 +19,14 @@ use Rattle.model.specs.declared.Pair.{Pair}
 use Rattle.theory_walk.specs.Sound.{arises, Ascending}
 use Rattle.sheet_kinds.specs.LineKinds.{field}
 use Rattle.sheet.specs.Sheet.{Network, refused, accepted, readSheet}
-use Rattle.sheet.specs.Causes.{Refusal}
+use Rattle.sheet.specs.Causes.{fieldsAt, Refusal}
+use Rattle.sheet.specs.OwnLines.{OwnLine}
 use Rattle.sheet.specs.Answers.{SheetNumber}
 use Rattle.sheet.specs.SheetTheorem.{IsNetwork}
 use Rattle.report.specs.Report.{report, refusalLine}
 use Rattle.planner.specs.Outcome.{Planned, number, lineOf, lengthOf, Reporter, plannedBy}
 use Rattle.demands.specs.Printed.{IsPlan, siteCount, isEnd, records, firstLine, endsAmong, Printed, readReport, numberRead, lineRead}
-use Rattle.demands.specs.Printed.{printedTrimmed, printedOwner, printedDash, setSize, sizeSum}
+use Rattle.demands.specs.Printed.{siteNamed, headed, printedTrimmed, printedOwner, printedDash, setSize, sizeSum}
 
 -- ---- demand 1: a refusal with number and line and the buffer as it was, or a full report
 -- (that the code does just this, without harm and to an end, for sheets and buffers of any length and content, is the contract of `planner`)
@@ -118,13 +119,31 @@ pub record Demand3 (net : Network) (p : Printed) : Type 0 where
 
 -- ---- all of it, of the bytes told or printed
 
--- the bytes r are the full report on the sheet s: that of its network, a tree; they show the sheet and meet demands 2 and 3
+-- a name f in a report is spelt as on the `N` line of its site (02, Card 4): some site has the name f, in either case, and f is the name on that
+-- site's own line, byte for byte
+pub record SpeltAsGiven (ed : Edition) (s : List ℕ) (net : Network) (f : List ℕ) : Type 0 where
+  pub site : ℕ
+  pub is-site : Site (siteCount net) site
+  pub named : siteNamed s net f ≡ site
+  pub line : OwnLine ed s (site - 1) (getD (net .names) (site - 1) (0, 0))
+  pub name : f ≡ field (fieldsAt s (line .offset)) 1
+
+-- so is every name in the report r: in its `L` lines, its `N` lines, where `-` stands for no owner, its `X` lines and its `P` lines
+pub record NamesAsGiven (ed : Edition) (s : List ℕ) (net : Network) (r : List ℕ) : Type 0 where
+  pub links : Each (λ l. SpeltAsGiven ed s net (field l 1) × SpeltAsGiven ed s net (field l 2)) (headed (bytes "L") (records r))
+  pub sites : Each (λ l. SpeltAsGiven ed s net (field l 1) × ((field l 2 ≡ bytes "-") ⊎ SpeltAsGiven ed s net (field l 2)))
+      (headed (bytes "N") (records r))
+  pub sets : Each (λ l. SpeltAsGiven ed s net (field l 1)) (headed (bytes "X") (records r))
+  pub pairs : Each (λ l. SpeltAsGiven ed s net (field l 1) × SpeltAsGiven ed s net (field l 2)) (headed (bytes "P") (records r))
+
+-- the bytes r are the full report on the sheet s: that of its network, a tree; they show the sheet, spell its names as given and meet demands 2 and 3
 pub record IsReport (ed : Edition) (s r : List ℕ) : Type 0 where
   pub net : Network
   pub read : readSheet ed s ≡ accepted net
   pub network : IsNetwork ed s net
   pub whole : r ≡ report s net
   pub shows-the-sheet : ShowsSheet (bytes "plan") net (readReport s net r)
+  pub names : NamesAsGiven ed s net r
   pub meets-demand-2 : Demand2 net (readReport s net r)
   pub is-in-order : InOrder net (readReport s net r)
   pub meets-demand-3 : Demand3 net (readReport s net r)

@@ -18,7 +18,7 @@ use Rattle.sheet.specs.Sheet.{Network, accepted, readSheet}
 use Rattle.sheet.specs.SheetTheorem.{IsNetwork}
 use Rattle.report.specs.Report.{wholeReport}
 use Rattle.demands.specs.Printed.{IsPlan, siteCount, isEnd, endsAmong, Printed, readReport, printedLoad, printedOwner, setSize, sizeSum}
-use Rattle.demands.specs.Asked.{ShowsSheet, InOrder}
+use Rattle.demands.specs.Asked.{ShowsSheet, NamesAsGiven, InOrder}
 
 -- a plan in whole circuits that fits the link sizes (02: a fitting plan whose amounts are all even in halves)
 pub record FittingWhole (net : Network) (fs : List Pair) : Type 0 where
@@ -69,6 +69,7 @@ pub record IsWholeReport (ed : Edition) (s r : List ℕ) : Type 0 where
   pub network : IsNetwork ed s net
   pub text : r ≡ wholeReport s net
   pub shows-the-sheet : ShowsSheet (bytes "whole") net (readReport s net r)
+  pub names : NamesAsGiven ed s net r
   pub has-a-largest-plan : LargestPlan net (readReport s net r)
   pub is-in-order : InOrder net (readReport s net r)
   pub has-its-sets : PrintedSets net (readReport s net r)

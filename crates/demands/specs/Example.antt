@@ -4,7 +4,7 @@ use mathlib.Core.List.{List, [], _∷_, _++_}
 use Prim.Native.Nat.{ℕ}
 use Rattle.model.specs.Text.{bytes}
 use Rattle.sheet_kinds.specs.LineKinds.{push, fields, same, valueFrom}
-use Rattle.sheet.specs.Sheet.{Network, lookupFrom}
+use Rattle.sheet.specs.Sheet.{Network, capitals, lookupFrom}
 use Rattle.demands.specs.Printed.{linesOf, records, headed, firstLine, numberRead, lineRead, dash, siteFound, siteNamed, readRecords, readReport}
 
 -- the sites `hub`, `a`, `b`, `c` and their names on the sheet
@@ -36,7 +36,7 @@ what-it-says : readReport sheet net worked ≡ record {
   pieces = [];
   plan = record { first = 2; second = 3; amount = 2 } ∷ record { first = 2; second = 4; amount = 2 } ∷ [];
 }
-unfolding readReport readRecords records linesOf headed dash siteNamed siteFound lookupFrom same push fields valueFrom
+unfolding readReport readRecords records linesOf headed dash siteNamed siteFound capitals lookupFrom same push fields valueFrom
 what-it-says = refl
 
 -- the same sites in whole circuits, star 1, 1, 1
@@ -58,7 +58,7 @@ what-the-whole-report-says : readReport sheet net whole ≡ record {
   pieces = 1 ∷ [];
   plan = record { first = 2; second = 3; amount = 2 } ∷ [];
 }
-unfolding readReport readRecords records linesOf headed dash siteNamed siteFound lookupFrom same push fields valueFrom
+unfolding readReport readRecords records linesOf headed dash siteNamed siteFound capitals lookupFrom same push fields valueFrom
 what-the-whole-report-says = refl
 
 -- refused with 7 at line 12

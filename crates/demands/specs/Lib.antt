@@ -10,6 +10,7 @@ pub mod Parsing
 pub mod Records
 pub mod Names
 pub mod ReadBack
+pub mod Spelling
 pub mod Agree
 pub mod Sets
 pub mod Refusals

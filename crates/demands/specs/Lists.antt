@@ -21,6 +21,11 @@ module _ {A : Type 0} where
       let next : (i : ℕ) → suc b + i ≡ b + suc i = λ i. omega arith in
       rw (ap f here ∙ h 0 (omega arith), places-from l d f (suc b) (λ i k. ap f (next i) ∙ h (suc i) (omega arith)))
 
+  -- what holds of what is made of each element holds of each that is made
+  pub each-made : {B : Type 0} (P : B → Type 0) (g : A → B) (l : List A) → Each (λ a. P (g a)) l → Each P (map g l)
+  each-made P g [] h = tt
+  each-made P g (a ∷ l) h = (h .0, each-made P g l (h .1))
+
   -- a list is made of its elements, place by place
   pub map-places : (l : List A) (d : A) (f : ℕ → A) → ((i : ℕ) → i < length l → f i ≡ getD l i d) → map f (upfrom 0 (length l)) ≡ l
   map-places l d f h = places-from l d f 0 (λ i k. let same : 0 + i ≡ i = omega arith in ap f same ∙ h i k)

@@ -31,6 +31,7 @@ use Rattle.demands.specs.Lists.{map-own}
 use Rattle.demands.specs.Plans.{multiflow-is-plan, plan-is-multiflow, fullPlan, trimmed-is-greatest, full-plan-is-sound, full-plan-fits}
 use Rattle.demands.specs.Records.{refusal-line, refusal-fields, refusal-number, refusal-at}
 use Rattle.demands.specs.ReadBack.{figuresSay, planSays, report-read-back}
+use Rattle.demands.specs.Spelling.{the-report-spells-names-as-given}
 use Rattle.demands.specs.Sets.{setBy, TellsSets, sizes-summed, told-sets-are-owned, owners-tell-the-cuts}
 use Rattle.demands.specs.Sets.{cut-sizes-are-set-sizes, cut-counts-are-set-counts}
 use Rattle.demands.specs.Sets.{an-owner-is-told-for-each-site, owners-are-told-or-dashes, a-dash-tells-no-owner, a-dash-tells-that-no-cut-holds-the-site}
@@ -148,6 +149,7 @@ the-report-is-full ed s net read =
       network = N;
       whole = refl;
       shows-the-sheet = rw said (plan-shows-sheet N);
+      names = the-report-spells-names-as-given ed s net read;
       meets-demand-2 = rw said (plan-meets-demand-2 N);
       is-in-order = rw said (plan-is-in-order N);
       meets-demand-3 = rw said (plan-meets-demand-3 N);

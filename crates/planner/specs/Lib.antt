@@ -10,4 +10,4 @@ pub mod Taken
 pub mod Works
 pub mod WholeWorks
 pub mod Fits
-pub mod Renumbered
+pub mod Earlier

@@ -18,6 +18,7 @@ use Rattle.sheet.specs.declared.stepping.Step.the-variants.{Nothing, Sit
 -- a part of the sheet, and the look-up of a name
 pub use Rattle.sheet_names.specs.Names.{part, lookup}
 unfoldable pub use Rattle.sheet_names.specs.Names.{lookupFrom}
+unfoldable pub use Rattle.text_fields.specs.Fields.{capitals}
 
 -- ---- the network read so far
 

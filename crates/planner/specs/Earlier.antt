@@ -1,0 +1,58 @@
+-- What Cards 1 and 4 changed in planning (document 02), for either report, every sheet and every buffer. By the numbering from before, which gave 2 for each
+-- fault of form, outcome and buffer are today's, but that 2 stands for 10, 11 and 12; by the look-up from before, which went by the bytes of names, they are
+-- today's wherever no two names differ in case alone. Since sheets are read so, and a report that is too long is told as 9.
+use mathlib.Core.Bool.{Bool, true, false, cond}
+use mathlib.Core.List.{List}
+use mathlib.Core.Path.{_≡_, refl}
+use Prim.Native.Nat.{ℕ}
+use lib.Dec.{leb}
+use lib.ListN.{length}
+use Rattle.model.specs.declared.Edition.{Edition}
+use Rattle.sheet.specs.Sheet.{Read, refused, accepted, readSheet, lookup}
+use Rattle.sheet.specs.Earlier.{Check, faultOf, faultBefore, Lookup, lookupBytes, readSheetBy}
+use Rattle.sheet.specs.Renumbered.{numberBefore, readBefore, a-sheet-is-read-by-the-numbering, a-sheet-is-read-as-before}
+use Rattle.sheet.specs.Spelling.{SpeltAlike, a-sheet-spelt-alike-is-read-as-before}
+use Rattle.planner.specs.Outcome.{Planned, Reporter, deliver, planRead, plannedBy}
+use Rattle.planner.specs.declared.Outcome.{Outcome}
+use Rattle.planner.specs.declared.Outcome.the-variants.{Report, Refused}
+
+-- planning by a numbering of the form faults and a look-up of names: `plannedBy` is that by `faultOf` and `lookup`
+unfoldable pub plannedReading : (Check → ℕ) → Lookup → Reporter → Edition → List ℕ → List ℕ → Planned
+plannedReading numbering find text ed s b = planRead text s b (readSheetBy numbering find ed s)
+
+-- the outcome before: 2 for 10, 11 and 12, at the same line; everything else stays, and so does the buffer
+abbrev pub outcomeBefore : Outcome → Outcome
+outcomeBefore (Report n) = Report n
+outcomeBefore (Refused k l) = Refused (numberBefore k) l
+
+abbrev pub plannedBefore : Planned → Planned
+plannedBefore p = record { outcome = outcomeBefore (p .outcome); buffer = p .buffer }
+
+module _ (text : Reporter) (ed : Edition) (s b : List ℕ) where
+  delivered-stays : (r : List ℕ) → deliver r b ≡ plannedBefore (deliver r b)
+  unfolding deliver numberBefore
+  delivered-stays r = by (leb (length r) (length b)) _ _ refl refl
+    where
+      by : (t : Bool) (p q : Planned) → p ≡ plannedBefore p → q ≡ plannedBefore q → cond t p q ≡ plannedBefore (cond t p q)
+      by true p q e f = e
+      by false p q e f = f
+
+  read-before : (r : Read) → planRead text s b (readBefore r) ≡ plannedBefore (planRead text s b r)
+  unfolding planRead
+  read-before (refused n k) = refl
+  read-before (accepted net) = delivered-stays (text s net)
+
+  -- today's planning is the one by today's numbering and look-up
+  pub a-sheet-is-planned-by-the-numbering : plannedReading faultOf lookup text ed s b ≡ plannedBy text ed s b
+  unfolding plannedReading plannedBy
+  a-sheet-is-planned-by-the-numbering = rw (a-sheet-is-read-by-the-numbering ed s)
+
+  -- what was told as 2 before is told as one of 2, 10, 11, 12 now, at the same line; every other outcome, and the buffer, is as it was
+  pub a-sheet-is-planned-as-before : plannedReading faultBefore lookup text ed s b ≡ plannedBefore (plannedBy text ed s b)
+  unfolding plannedReading plannedBy
+  a-sheet-is-planned-as-before = rw (a-sheet-is-read-as-before ed s) (read-before (readSheet ed s))
+
+  -- a sheet on which no two names differ in case alone, and whose link lines spell as its site lines do, gets the outcome and the buffer that it had
+  pub a-sheet-spelt-alike-is-planned-as-before : SpeltAlike s → plannedReading faultOf lookupBytes text ed s b ≡ plannedBy text ed s b
+  unfolding plannedReading plannedBy
+  a-sheet-spelt-alike-is-planned-as-before alike = rw (a-sheet-spelt-alike-is-read-as-before ed s alike)
