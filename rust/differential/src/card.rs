@@ -72,10 +72,7 @@ fn owners(network: &Network, lines: &mut Lines) -> Result<Vec<Option<usize>>, St
     let mut owners = Vec::with_capacity(network.names.len());
     for site in 0..network.names.len() {
         let [printed, owner] = lines.next("N")?;
-        demand(
-            network.site(printed) == Some(site),
-            "a site has another name",
-        )?;
+        demand(network.is_name(printed, site), "a site has another name")?;
         let owner = if owner == b"-" {
             None
         } else {

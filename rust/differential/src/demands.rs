@@ -74,10 +74,9 @@ pub fn check(sheet: &[u8], report: &[u8]) -> Result<u64, String> {
     }
     for (site, owner) in owner.iter().enumerate() {
         let [name, printed] = lines.next("N")?;
-        demand(network.site(name) == Some(site), "a site has another name")?;
-        let is_none = owner.is_none() && printed == b"-";
-        let is_owner = owner.is_some() && network.site(printed) == *owner;
-        demand(is_none || is_owner, "a site has another owner")?;
+        demand(network.is_name(name, site), "a site has another name")?;
+        let is_owner = owner.map_or(printed == b"-", |end| network.is_name(printed, end));
+        demand(is_owner, "a site has another owner")?;
     }
 
     let set_sum = lines.set_sizes(&network, &owner)?;

@@ -63,20 +63,25 @@ impl<'sheet> Network<'sheet> {
         self.number.get(&capitals(name)?).copied()
     }
 
+    /// Whether a name is that of a site, in either case.
+    pub fn is_name(&self, name: &[u8], site: usize) -> bool {
+        self.names[site].eq_ignore_ascii_case(name)
+    }
+
     /// Checks that every name in a report, whose lines are known to have the right fields, is byte
     /// for byte that on its site's own line.
     pub fn check_spelling(&self, report: &[u8]) -> Result<(), String> {
         for line in report.split(|&byte| byte == b'\n') {
-            let fields: Vec<&[u8]> = line.split(|&byte| byte == b'\t').collect();
-            let names = match fields[..] {
-                [b"N", _, b"-"] | [b"X", ..] => &fields[1..2],
-                [b"L" | b"N" | b"P", ..] => &fields[1..3],
-                _ => &[],
+            let mut fields = line.split(|&byte| byte == b'\t');
+            let names = match fields.next() {
+                Some(b"L" | b"N" | b"P") => 2,
+                Some(b"X") => 1,
+                _ => 0,
             };
-            for name in names {
+            for name in fields.take(names).filter(|name| *name != b"-") {
+                let own = self.site(name).map(|site| self.names[site]);
                 demand(
-                    self.site(name)
-                        .is_some_and(|site| self.names[site] == *name),
+                    own == Some(name),
                     "a name is spelt otherwise than on its site's line",
                 )?;
             }
@@ -174,8 +179,11 @@ impl<'report> Lines<'report> {
     /// The number behind the names and the given size of a link on its line.
     pub fn link(&mut self, network: &Network, link: &Link) -> Result<u64, String> {
         let [first, second, given, printed] = self.next("L")?;
-        let sites = [first, second].map(|name| network.site(name));
-        demand(sites == link.sites.map(Some), "a link has other names")?;
+        let [one, other] = link.sites;
+        demand(
+            network.is_name(first, one) && network.is_name(second, other),
+            "a link has other names",
+        )?;
         demand(read(given)? == link.given, "a link has another given size")?;
         read(printed)
     }
@@ -196,10 +204,7 @@ impl<'report> Lines<'report> {
         }
         for end in network.ends() {
             let [name, size, count] = self.next("X")?;
-            demand(
-                network.site(name) == Some(end),
-                "an end set has another name",
-            )?;
+            demand(network.is_name(name, end), "an end set has another name")?;
             demand(read(size)? == sizes[end], "an end set has another size")?;
             demand(read(count)? == counts[end], "an end set has another count")?;
         }
