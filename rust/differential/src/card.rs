@@ -43,6 +43,7 @@ pub fn check(sheet: &[u8], report: &[u8]) -> Result<Checked, String> {
 
     let pair_lines = lines.rest;
     let pairs = lines.pairs(&network, pair_count)?;
+    network.check_spelling(report)?;
     let mut amounts = pairs.iter().map(|&(_, amount)| amount);
     demand(
         amounts.clone().all(|amount| amount % 2 == 0),
@@ -69,14 +70,13 @@ pub fn check(sheet: &[u8], report: &[u8]) -> Result<Checked, String> {
 /// The owner of each site on its line: an end, and for an end itself.
 fn owners(network: &Network, lines: &mut Lines) -> Result<Vec<Option<usize>>, String> {
     let mut owners = Vec::with_capacity(network.names.len());
-    for (site, &name) in network.names.iter().enumerate() {
+    for site in 0..network.names.len() {
         let [printed, owner] = lines.next("N")?;
-        demand(printed == name, "a site has another name")?;
+        demand(network.is_name(printed, site), "a site has another name")?;
         let owner = if owner == b"-" {
             None
         } else {
-            let number = network.number.get(owner).copied();
-            Some(number.ok_or("an owner has an unknown name")?)
+            Some(network.site(owner).ok_or("an owner has an unknown name")?)
         };
         demand(
             owner.is_none_or(|owner| network.is_end(owner)),
@@ -302,6 +302,36 @@ P e f 2
             let due = "the odd pieces are counted wrongly";
             wrong(&TWO_STARS, &[("Q 2", joined)], due);
         }
+    }
+
+    #[test]
+    fn wrong_spelling() {
+        let due = "a name is spelt otherwise than on its site's line";
+        for (from, to) in [
+            ("L hub a", "L Hub a"),
+            ("L hub b", "L hub B"),
+            ("N hub -", "N HUB -"),
+            ("N a a", "N A a"),
+            ("N c c", "N c C"),
+            ("X b", "X B"),
+            ("P b c", "P B c"),
+            ("P b c", "P b C"),
+        ] {
+            wrong(&STAR, &[(from, to)], due);
+        }
+        // A sheet may spell names otherwise on its link lines, its report may not.
+        let sheet = STAR
+            .sheet
+            .replace("L hub a 1\nL hub b", "L HUB A 1\nL hUb b");
+        let right = Checked {
+            total: 2,
+            odd_pieces: 1,
+        };
+        assert_eq!(checked(&sheet, STAR.report), Ok(right));
+        let report = STAR.report.replace("L hub a", "L HUB A");
+        assert_eq!(checked(&sheet, &report), Err(due.to_string()));
+        // In either case it is another name.
+        wrong(&STAR, &[("L hub a", "L hub A0")], "a link has other names");
     }
 
     #[test]

@@ -1,5 +1,6 @@
 //! Damaged sheets: every refusal, faults in any number and place, and noise.
 
+use sheets::cases::in_either_case;
 use sheets::{
     HEADING, Layout, Names, Network, Random, SHEET_BYTES, SITES, SIZE, Shape, Sizes, join_lines,
 };
@@ -103,7 +104,7 @@ fn near_the_limit(random: &mut Random) -> Damaged {
     }
 }
 
-/// A 257th site line, of the wrong form or with a name already given or not.
+/// A 257th site line, of the wrong form or with a name already given, in either case, or not.
 fn too_many_sites(random: &mut Random) -> Damaged {
     let names = *random.pick(&[Names::Counted, Names::Any]);
     let network = Network::random(Shape::Attached, SITES, Sizes::Small, names, random);
@@ -114,7 +115,7 @@ fn too_many_sites(random: &mut Random) -> Damaged {
         .expect("there are sites");
     let place = random.between(last_site + 1, lines.len());
     let (text, number) = match random.below(4) {
-        0 => (lines[last_site].clone(), 4),
+        0 => (site_in_either_case(&lines[last_site], random), 4),
         1 => wrong_form(&lines[last_site], random),
         _ => (
             [b"N", unknown_name(&network.names, random).as_slice()].join(&b'\t'),
@@ -205,9 +206,10 @@ fn edited(random: &mut Random) -> Damaged {
     let mut sheet = join_lines(&small_lines(random));
     for _ in 0..random.between(1, 6) {
         let place = random.below(sheet.len());
-        let byte = match random.below(3) {
+        let byte = match random.below(4) {
             0 => random.bits() as u8,
             1 => *random.pick(b"\t\n0NL"),
+            2 => sheet[place] ^ 0x20,
             _ => *random.pick(&sheet),
         };
         match random.below(4) {
@@ -337,22 +339,29 @@ fn places(lines: &[Vec<u8>], letter: u8) -> Vec<usize> {
         .collect()
 }
 
-/// A name given to no site: a new one, or one that looks much like one given.
+/// A site line with its name in either case.
+fn site_in_either_case(line: &[u8], random: &mut Random) -> Vec<u8> {
+    [b"N", in_either_case(&line[2..], random).as_slice()].join(&b'\t')
+}
+
+/// A name given to no site in either case: a new one, or one that looks much like one given.
 fn unknown_name(names: &[Vec<u8>], random: &mut Random) -> Vec<u8> {
-    let known: HashSet<&[u8]> = names.iter().map(Vec::as_slice).collect();
+    let known: HashSet<Vec<u8>> = names.iter().map(|name| name.to_ascii_uppercase()).collect();
     loop {
-        let mut name = random.pick(names).clone();
+        let like = random.pick(names);
+        let mut name = in_either_case(like, random);
         match random.below(4) {
             0 if name.len() < 12 => name.push(*random.pick(b"0aZ")),
             1 if name.len() > 1 => _ = name.pop(),
             2 => {
+                // As of `0` and `P`, of `0` and `p`, of `A` and `Q`, of `A` and `C`.
                 let place = random.below(name.len());
-                name[place] ^= 0x20;
+                name[place] ^= *random.pick(&[0x60, 0x40, 0x10, 0x02]);
             }
             _ => name = Names::Any.list(1, random).swap_remove(0),
         }
         let is_name = name.iter().all(u8::is_ascii_alphanumeric);
-        if is_name && !known.contains(name.as_slice()) {
+        if is_name && !known.contains(&name.to_ascii_uppercase()) {
             return name;
         }
     }
@@ -440,9 +449,15 @@ fn badly_written(size: &[u8], random: &mut Random) -> Vec<u8> {
 /// No name: empty, too long, or with a byte that is no letter and no digit.
 fn bad_name_like(name: &[u8], random: &mut Random) -> Vec<u8> {
     let mut name = name.to_vec();
-    match random.below(4) {
+    match random.below(5) {
         0 => name.clear(),
         1 => {
+            // A digit without the bit that tells letters' cases apart, or a letter above 127.
+            let place = random.below(name.len());
+            let is_digit = name[place].is_ascii_digit();
+            name[place] ^= if is_digit { 0x20 } else { 0x80 };
+        }
+        2 => {
             let most = *random.pick(&[13, 16, 17, 40, 6_000]);
             let length = random.between(13, most);
             name.resize(length, b'n');
@@ -549,10 +564,11 @@ fn with_faulty_line(random: &mut Random) -> (Lines, u8, usize) {
             (lines, number, place + 1)
         }
         13 => {
-            // A name already given, after its line.
+            // A name already given, after its line, in either case.
             let given = *random.pick(&sites);
             let place = random.between(given + 1, lines.len());
-            lines.insert(place, lines[given].clone());
+            let line = site_in_either_case(&lines[given], random);
+            lines.insert(place, line);
             (lines, 5, place + 1)
         }
         14 => {
@@ -561,9 +577,10 @@ fn with_faulty_line(random: &mut Random) -> (Lines, u8, usize) {
             let line = lines.remove(link);
             let mut later_site = 0;
             for name in line.split(|&byte| byte == b'\t').skip(1).take(2) {
-                let site = sites
-                    .iter()
-                    .find(|&&site| lines[site - usize::from(site > link)][2..] == *name);
+                let site = sites.iter().find(|&&site| {
+                    let line = &lines[site - usize::from(site > link)];
+                    line[2..].eq_ignore_ascii_case(name)
+                });
                 later_site = later_site.max(*site.expect("links name their sites"));
             }
             let place = random.between(1, later_site);
@@ -583,7 +600,7 @@ fn with_faulty_link(
 ) -> (Lines, u8, usize) {
     let [is_wrong, is_large, is_unknown] = [2, 3, 3].map(|times| random.once_in(times));
     // A copy of a link after it, turned round or not, joins what is already joined; so does a
-    // link from a site to itself.
+    // link from a site to itself. Names may be spelt otherwise then.
     let link = *random.pick(links);
     let place = random.between(link + 1, lines.len());
     let mut fields = fields(&lines[link]);
@@ -594,6 +611,11 @@ fn with_faulty_link(
             after[0].clone_from(&before[1]);
         }
         _ => (),
+    }
+    if random.once_in(2) {
+        for name in &mut fields[1..3] {
+            *name = in_either_case(name, random);
+        }
     }
     if is_unknown {
         fields[random.between(1, 2)] = unknown_name(&network.names, random);

@@ -72,10 +72,11 @@ pub fn check(sheet: &[u8], report: &[u8]) -> Result<u64, String> {
             owner[site] = Some(end);
         }
     }
-    for (name, owner) in network.names.iter().zip(&owner) {
-        let printed: [&[u8]; 2] = lines.next("N")?;
-        let owner = owner.map_or(&b"-"[..], |end| network.names[end]);
-        demand(printed == [*name, owner], "a site has another owner")?;
+    for (site, owner) in owner.iter().enumerate() {
+        let [name, printed] = lines.next("N")?;
+        demand(network.is_name(name, site), "a site has another name")?;
+        let is_owner = owner.map_or(printed == b"-", |end| network.is_name(printed, end));
+        demand(is_owner, "a site has another owner")?;
     }
 
     let set_sum = lines.set_sizes(&network, &owner)?;
@@ -85,6 +86,7 @@ pub fn check(sheet: &[u8], report: &[u8]) -> Result<u64, String> {
     )?;
 
     let pairs = lines.pairs(&network, pair_count)?;
+    network.check_spelling(report)?;
     let pair_sum: u64 = pairs.iter().map(|&(_, amount)| amount).sum();
     demand(pair_sum == total, "the total is not the sum of the pairs")?;
     let loads = network.loads(&pairs);

@@ -5,15 +5,15 @@
 //!              [--runs N] [--program FILE] [--whole FILE] [--order FILE] [--example FILE]...
 //! ```
 //!
-//! The sheets of the scope document come first, then all small trees, then random trees and
-//! damaged sheets from a seed, then the programs over standard input and output. Reports headed
-//! `plan` are compared byte for byte. Of those headed `whole` loads and end sets are free: totals
-//! are compared, and pairs with those that the walk gives for the printed loads. Of every accepted
-//! sheet the reports are checked against the demands on them. Orders of work are compared place for
-//! place, and some checked against the card's rule. The first sheet with a
-//! difference is kept in a file, and the seed and index that make it again are printed. With an
-//! error planted in the second planner, which needs the feature `planted`, only the random sheets
-//! are compared, to show that they find it.
+//! The sheets of the scope document come first, then small sheets with names in either case, then
+//! all small trees, then random trees and damaged sheets from a seed, then the programs over
+//! standard input and output. Reports headed `plan` are compared byte for byte. Of those headed
+//! `whole` loads and end sets are free: totals are compared, and pairs with those that the walk gives
+//! for the printed loads. Of every accepted sheet the reports are checked against the demands on
+//! them. Orders of work are compared place for place, and some checked against the card's rule. The
+//! first sheet with a difference is kept in a file, and the seed and index that make it again are
+//! printed. With an error planted in the second planner, which needs the feature `planted`, only the
+//! random sheets are compared, to show that they find it.
 
 mod card;
 mod circuits;
@@ -27,6 +27,7 @@ mod programs;
 mod random;
 mod search;
 mod small;
+mod spelling;
 
 use programs::Programs;
 use std::path::PathBuf;
@@ -107,10 +108,11 @@ fn options() -> Result<Options, String> {
 
 #[cfg(feature = "planted")]
 fn plant(number: u64) -> Result<(), String> {
-    let error = second::planted::ERRORS
+    let errors = second::planted::ERRORS;
+    let error = errors
         .into_iter()
         .find(|&error| error as u64 == number)
-        .ok_or("errors are numbered from 1 to 24")?;
+        .ok_or_else(|| format!("errors are numbered from 1 to {}", errors.len()))?;
     println!("planted in the second planner: {error:?}");
     second::planted::plant(error);
     Ok(())
@@ -129,6 +131,7 @@ fn run(options: &Options) -> ExitCode {
         random::compare_all(options.seed, options.sheets)
     } else {
         small::tried_sheets()
+            .and_then(|()| small::names_in_either_case())
             .and_then(|()| small::small_trees())
             .and_then(|()| random::compare_all(options.seed, options.sheets))
             .and_then(|()| options.programs.compare(options.seed, options.runs))

@@ -1,15 +1,22 @@
 //! A sheet and its report read back, and what reports of either heading must fulfil.
+//!
+//! Names are looked up in either case. In a report each must be spelt as on its site's own line.
 
 use std::collections::HashMap;
 
 /// A network read back from a sheet that was accepted.
 pub struct Network<'sheet> {
+    /// The name of each site as its own line spells it.
     pub names: Vec<&'sheet [u8]>,
-    pub number: HashMap<&'sheet [u8], usize>,
+    /// The site of each name, in capitals.
+    number: HashMap<[u8; NAME_BYTES], usize>,
     pub links: Vec<Link>,
     /// For each site its links: their numbers and their other sites.
     pub around: Vec<Vec<(usize, usize)>>,
 }
+
+/// The most bytes a name may have.
+const NAME_BYTES: usize = 12;
 
 pub struct Link {
     pub sites: [usize; 2],
@@ -33,12 +40,12 @@ impl<'sheet> Network<'sheet> {
             let fields: Vec<&[u8]> = line.split(|&byte| byte == b'\t').collect();
             match fields[..] {
                 [b"N", name] => {
-                    network.number.insert(name, network.names.len());
+                    network.number.insert(capitals(name)?, network.names.len());
                     network.names.push(name);
                     network.around.push(Vec::new());
                 }
                 [b"L", first, second, size] => {
-                    let sites = [*network.number.get(first)?, *network.number.get(second)?];
+                    let sites = [network.site(first)?, network.site(second)?];
                     let link = network.links.len();
                     network.around[sites[0]].push((link, sites[1]));
                     network.around[sites[1]].push((link, sites[0]));
@@ -49,6 +56,37 @@ impl<'sheet> Network<'sheet> {
             }
         }
         Some(network)
+    }
+
+    /// The site of a name in either case.
+    pub fn site(&self, name: &[u8]) -> Option<usize> {
+        self.number.get(&capitals(name)?).copied()
+    }
+
+    /// Whether a name is that of a site, in either case.
+    pub fn is_name(&self, name: &[u8], site: usize) -> bool {
+        self.names[site].eq_ignore_ascii_case(name)
+    }
+
+    /// Checks that every name in a report, whose lines are known to have the right fields, is byte
+    /// for byte that on its site's own line.
+    pub fn check_spelling(&self, report: &[u8]) -> Result<(), String> {
+        for line in report.split(|&byte| byte == b'\n') {
+            let mut fields = line.split(|&byte| byte == b'\t');
+            let names = match fields.next() {
+                Some(b"L" | b"N" | b"P") => 2,
+                Some(b"X") => 1,
+                _ => 0,
+            };
+            for name in fields.take(names).filter(|name| *name != b"-") {
+                let own = self.site(name).map(|site| self.names[site]);
+                demand(
+                    own == Some(name),
+                    "a name is spelt otherwise than on its site's line",
+                )?;
+            }
+        }
+        Ok(())
     }
 
     pub fn is_end(&self, site: usize) -> bool {
@@ -94,6 +132,14 @@ impl<'sheet> Network<'sheet> {
     }
 }
 
+/// A name with a-z read as A-Z, followed by zero bytes.
+fn capitals(name: &[u8]) -> Option<[u8; NAME_BYTES]> {
+    let mut capitals = [0; NAME_BYTES];
+    capitals.get_mut(..name.len())?.copy_from_slice(name);
+    capitals.make_ascii_uppercase();
+    Some(capitals)
+}
+
 /// Reads a number written without a leading zero.
 fn number(text: &[u8]) -> Option<u64> {
     let is_canonical = text == b"0" || text.first().is_some_and(|&digit| digit != b'0');
@@ -133,8 +179,11 @@ impl<'report> Lines<'report> {
     /// The number behind the names and the given size of a link on its line.
     pub fn link(&mut self, network: &Network, link: &Link) -> Result<u64, String> {
         let [first, second, given, printed] = self.next("L")?;
-        let names = link.sites.map(|site| network.names[site]);
-        demand([first, second] == names, "a link has other names")?;
+        let [one, other] = link.sites;
+        demand(
+            network.is_name(first, one) && network.is_name(second, other),
+            "a link has other names",
+        )?;
         demand(read(given)? == link.given, "a link has another given size")?;
         read(printed)
     }
@@ -155,7 +204,7 @@ impl<'report> Lines<'report> {
         }
         for end in network.ends() {
             let [name, size, count] = self.next("X")?;
-            demand(name == network.names[end], "an end set has another name")?;
+            demand(network.is_name(name, end), "an end set has another name")?;
             demand(read(size)? == sizes[end], "an end set has another size")?;
             demand(read(count)? == counts[end], "an end set has another count")?;
         }
@@ -176,8 +225,7 @@ impl<'report> Lines<'report> {
         let mut pairs: Vec<([usize; 2], u64)> = Vec::new();
         for _ in 0..count {
             let [first, second, amount] = self.next("P")?;
-            let [first, second] = [first, second].map(|name| network.number.get(name).copied());
-            let (Some(first), Some(second)) = (first, second) else {
+            let [Some(first), Some(second)] = [first, second].map(|name| network.site(name)) else {
                 return Err("a pair has an unknown name".to_string());
             };
             let sites = [first, second];

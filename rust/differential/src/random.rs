@@ -4,7 +4,7 @@ use crate::compare::{Answer, LIST_PLACES, Planners};
 use crate::damage::{self, Damaged};
 use crate::printed;
 use crate::small::accepted;
-use crate::{Failure, circuits, demands, inward};
+use crate::{Failure, circuits, demands, inward, spelling};
 use second::REPORT_BYTES;
 use sheets::{Layout, Network, Random};
 use std::cell::Cell;
@@ -23,6 +23,11 @@ const FORM: [usize; 4] = [2, 10, 11, 12];
 const LEAST_FORM_SHARE: u64 = 10;
 /// One in this many sheets must at least have odd pieces when planned in whole circuits.
 const LEAST_ODD_SHARE: u64 = 20;
+/// One in this many sheets must at least have another answer when names are read by bytes, and one in
+/// this many of each of the answers that names decide: a report, and refusals 5 and 7.
+const LEAST_SPELT_SHARE: u64 = 10;
+const SPELT: [usize; 3] = [0, 5, 7];
+const LEAST_SPELT_SHARES: u64 = 200;
 /// With fewer sheets the shares are left to chance.
 const ENOUGH_FOR_SHARES: u64 = 100_000;
 
@@ -40,11 +45,14 @@ pub struct Tally {
     odd: u64,
     /// How many orders of work are checked against the rule, and trimmed along.
     ordered: u64,
+    /// How many sheets of each outcome would have another one if names were read by bytes.
+    spelt: [u64; 13],
 }
 
 impl Tally {
     fn add(&mut self, other: &Tally) {
-        for (count, more) in self.outcomes.iter_mut().zip(other.outcomes) {
+        let counts = self.outcomes.iter_mut().chain(&mut self.spelt);
+        for (count, more) in counts.zip(other.outcomes.iter().chain(&other.spelt)) {
             *count += more;
         }
         self.solved += other.solved;
@@ -96,6 +104,7 @@ impl Case {
                 let whole = whole.to_vec();
                 tally.odd += u64::from(checked.odd_pieces > 0);
                 tally.outcomes[0] += 1;
+                tally.spelt[0] += u64::from(spelling::matters(&self.sheet, None));
                 tally.solved += u64::from(solve);
                 let sites = network.names.len();
                 self.check_order(sites, planners, tally)?;
@@ -236,7 +245,9 @@ impl Case {
         };
         self.check_damaged_whole(answer, length, planners)?;
         self.check_damaged_order(answer, planners)?;
-        tally.outcomes[answer.map_or(0, |(number, _)| usize::from(number))] += 1;
+        let outcome = answer.map_or(0, |(number, _)| usize::from(number));
+        tally.outcomes[outcome] += 1;
+        tally.spelt[outcome] += u64::from(spelling::matters(&self.sheet, answer));
         if refusal.is_some() && answer != refusal {
             return Err(format!(
                 "both planners answer {answer:?} where {refusal:?} is due"
@@ -327,6 +338,11 @@ pub fn compare_all(seed: u64, count: u64) -> Result<(), Failure> {
         tally.ordered,
         &tally.outcomes[1..]
     );
+    println!(
+        "  names in either case decide {} sheets; accepted, refused with 5, with 7: {:?}",
+        tally.spelt.iter().sum::<u64>(),
+        SPELT.map(|outcome| tally.spelt[outcome])
+    );
     let has_share = |(number, &sheets): (usize, &u64)| {
         let share = if FORM.contains(&number) {
             LEAST_FORM_SHARE
@@ -335,8 +351,10 @@ pub fn compare_all(seed: u64, count: u64) -> Result<(), Failure> {
         };
         sheets >= count / share
     };
-    let has_shares =
-        tally.outcomes.iter().enumerate().all(has_share) && tally.odd >= count / LEAST_ODD_SHARE;
+    let has_shares = tally.outcomes.iter().enumerate().all(has_share)
+        && tally.odd >= count / LEAST_ODD_SHARE
+        && tally.spelt.iter().sum::<u64>() >= count / LEAST_SPELT_SHARE
+        && SPELT.map(|outcome| tally.spelt[outcome] >= count / LEAST_SPELT_SHARES) == [true; 3];
     if count >= ENOUGH_FOR_SHARES && !has_shares {
         return Err(Failure {
             sheet: None,

@@ -5,7 +5,9 @@ use crate::compare::{Answer, LIST_PLACES, Planners};
 use crate::exact::{self, Fraction};
 use crate::{Failure, circuits, demands, inward, search};
 use second::REPORT_BYTES;
-use sheets::{Layout, Names, Network, Random, SHAPES, Sizes, order, prufer_links, tried, whole};
+use sheets::cases::{self, Due};
+use sheets::{Layout, Names, Network, Random, SHAPES, Sizes, Spelling};
+use sheets::{order, prufer_links, tried, whole};
 use std::collections::HashSet;
 
 /// Both planners on the sheets of the scope document, against answers written by hand.
@@ -80,6 +82,47 @@ fn tried_orders(planners: &mut Planners) -> Result<(), Failure> {
     Ok(())
 }
 
+/// Both planners on small sheets with names in either case, of two sites and a link each, against
+/// what is due by the words of the card.
+pub fn names_in_either_case() -> Result<(), Failure> {
+    let mut planners = Planners::new();
+    let count = cases::every_sheet(|sheet, due| {
+        in_either_case(&mut planners, sheet, due).map_err(|what| failure(sheet, what))
+    })?;
+    println!("names in either case: {count} sheets of two sites, answers by the words of the card");
+    Ok(())
+}
+
+fn in_either_case(planners: &mut Planners, sheet: &[u8], due: &Due) -> Result<(), String> {
+    let answer = match planners.plan(sheet, REPORT_BYTES)? {
+        Answer::Report(report) => Due::Report(report.to_vec()),
+        Answer::Refused(number, line) => Due::Refused(number, line),
+    };
+    if answer != *due {
+        return Err(format!(
+            "both planners answer {answer:?} where {due:?} is due"
+        ));
+    }
+    let refusal = match due {
+        Due::Report(report) => {
+            demands::check(sheet, report)?;
+            circuits::accepted(planners, sheet)?;
+            return inward::compare(planners, sheet, Answer::Report(2), LIST_PLACES);
+        }
+        Due::Refused(number, line) => (*number, *line),
+    };
+    match planners.whole(sheet, REPORT_BYTES)? {
+        Answer::Refused(number, line) if (number, line) == refusal => (),
+        answer => {
+            return Err(format!(
+                "whole: the answer is {answer:?} where {due:?} is due"
+            ));
+        }
+    }
+    let due = Answer::Refused(refusal.0, refusal.1);
+    inward::compare(planners, sheet, due, LIST_PLACES)
+}
+
 /// Both planners on all trees of 2 to 5 sites: in halves with sizes 0 to 2, in whole circuits with
 /// sizes 0 to 3; and in whole circuits on some of 6 to 8 sites.
 pub fn small_trees() -> Result<(), Failure> {
@@ -147,6 +190,7 @@ fn every_tree(
                         .iter()
                         .map(|&size| size as u32)
                         .collect(),
+                    spelling: Spelling::AsGiven,
                 };
                 let sheet = network.sheet(Layout::SitesFirst, &mut Random::new(0));
                 see(&network, &sheet).map_err(|what| failure(&sheet, what))?;

@@ -13,7 +13,7 @@
 //! |---|---|
 //! | `network` | reads the sheet: sites, links, refusals 1 to 8 and 10 to 12 |
 //! | `form` | tells what is off in a line of the wrong form: refusals 2, 10, 11, 12 |
-//! | `names` | finds a site by its name |
+//! | `names` | finds a site by its name, in either case |
 //! | `tree` | roots the tree by taking off its leaves |
 //! | `trim` | trims the capacities in two passes |
 //! | `cuts` | works out the end sets (terminal cuts) |

@@ -1,6 +1,8 @@
-//! Names of sites, and a table that finds a site by its name.
+//! Names of sites, and a table that finds a site by its name, in either case.
 
-/// A name of 1 to 12 bytes: its bytes in order from the lowest, then zero bytes.
+use crate::planted::{Error, planted};
+
+/// A name of 1 to 12 bytes as it is spelt: its bytes in order from the lowest, then zero bytes.
 ///
 /// No name holds a zero byte, so the length is told by the highest byte that is not zero.
 #[derive(Clone, Copy, PartialEq, Eq)]
@@ -11,6 +13,9 @@ pub const NAME_BYTES: usize = 12;
 
 const EVERY_BYTE: u128 = u128::MAX / 0xff;
 const HIGH_BITS: u128 = EVERY_BYTE * 0x80;
+/// In a letter this bit alone tells small from capital. All digits have it, so that without it they
+/// still differ from each other and from letters.
+const CASE_BIT: u128 = 0x20;
 
 /// The high bit of every byte of `bytes` that lies in `low..=high`, both below 128. The bytes
 /// themselves must be below 128.
@@ -31,7 +36,7 @@ impl Name {
         let word = u128::from_le_bytes(bytes);
         let low_seven = word & !HIGH_BITS;
         let letter_or_digit = bytes_between(low_seven, b'0', b'9')
-            | bytes_between(low_seven | (EVERY_BYTE * 0x20), b'a', b'z');
+            | bytes_between(low_seven | (EVERY_BYTE * CASE_BIT), b'a', b'z');
         let other = (letter_or_digit & !word) ^ HIGH_BITS;
         let length = (other.trailing_zeros() / 8) as usize;
         if length == 0 || length > NAME_BYTES {
@@ -53,13 +58,45 @@ impl Name {
         16 - (self.0.leading_zeros() / 8) as usize
     }
 
+    /// The same name in capitals.
+    #[cold]
+    pub fn in_capitals(self) -> Name {
+        Name(u128::from_le_bytes(
+            self.bytes().map(|byte| byte.to_ascii_uppercase()),
+        ))
+    }
+
+    /// Whether it is the same name as another: they agree when a-z is read as A-Z.
+    #[inline]
+    fn is_same(self, other: Name) -> bool {
+        (self.0 ^ other.0) & telling() == 0
+    }
+
+    /// Where the search for the name starts, however it is spelt.
     #[inline]
     fn slot(self) -> usize {
-        let low = self.0 as u64;
-        let high = (self.0 >> 64) as u64;
+        let read = if planted(Error::HashByBytes) {
+            self.0
+        } else {
+            self.0 & telling()
+        };
+        let low = read as u64;
+        let high = (read >> 64) as u64;
         let mixed = (low ^ high.rotate_left(29)).wrapping_mul(0x9e37_79b9_7f4a_7c15);
         (mixed >> (64 - SLOT_BITS)) as usize
     }
+}
+
+/// The bits that tell names apart.
+#[inline(always)]
+fn telling() -> u128 {
+    if planted(Error::FirstLetterOnly) {
+        return !CASE_BIT;
+    }
+    if planted(Error::LowFiveBits) {
+        return EVERY_BYTE * 0x1f;
+    }
+    !(EVERY_BYTE * CASE_BIT)
 }
 
 const SLOT_BITS: u32 = 9;
@@ -84,9 +121,10 @@ impl NameTable {
         NameTable { slots: [0; SLOTS] }
     }
 
-    /// Looks `name` up among the `names` of the sites put into the table.
+    /// Looks `name` up, in either case, among the `names` of the sites put into the table; but by
+    /// bytes if the error that does so is planted.
     #[inline]
-    pub fn find(&self, names: &[Name; crate::SITES], name: Name) -> Found {
+    pub fn find(&self, names: &[Name; crate::SITES], name: Name, by_bytes: Error) -> Found {
         let mut slot = name.slot();
         loop {
             let entry = self.slots[slot];
@@ -94,7 +132,13 @@ impl NameTable {
                 return Found::Empty(slot);
             }
             let site = (entry - 1) as u8;
-            if names[usize::from(site)] == name {
+            let other = names[usize::from(site)];
+            let is_same = if planted(by_bytes) {
+                name == other
+            } else {
+                name.is_same(other)
+            };
+            if is_same {
                 return Found::Site(site);
             }
             slot = (slot + 1) % SLOTS;
@@ -147,29 +191,102 @@ mod tests {
         }
     }
 
+    /// All letters and digits, each read as the card says: a-z as A-Z.
+    fn letters_and_digits() -> impl Iterator<Item = (u8, u8)> {
+        let names = (0..=u8::MAX).filter(u8::is_ascii_alphanumeric);
+        names.map(|byte| match byte {
+            b'a'..=b'z' => (byte, byte - b'a' + b'A'),
+            _ => (byte, byte),
+        })
+    }
+
+    fn name(text: &[u8]) -> Name {
+        let (name, length) = Name::at_start(padded(text)).expect("letters and digits");
+        assert_eq!(length, text.len());
+        name
+    }
+
+    #[test]
+    fn names_are_the_same_in_either_case() {
+        let text = b"Hill9zA0pP5q";
+        for length in [1, 7, 8, 9, 12] {
+            for place in 0..length {
+                let with = |byte| {
+                    let mut text = text[..length].to_vec();
+                    text[place] = byte;
+                    name(&text)
+                };
+                for (one, read) in letters_and_digits() {
+                    for (other, other_read) in letters_and_digits() {
+                        let is_same = read == other_read;
+                        let texts = [with(one), with(other)];
+                        assert_eq!(texts[0].is_same(texts[1]), is_same, "{one} {other}");
+                        assert!(!is_same || texts[0].slot() == texts[1].slot());
+                        assert_eq!(texts[0] == texts[1], one == other);
+                    }
+                }
+            }
+        }
+    }
+
+    #[test]
+    fn spellings_are_kept() {
+        let spellings: [&[u8]; 4] = [
+            b"abcXYZ019azA",
+            b"ABCXYZ019AZA",
+            b"abcxyz019aza",
+            b"aBcXyZ019AzA",
+        ];
+        for one in spellings {
+            assert_eq!(name(one).bytes()[..12], *one);
+            assert_eq!(name(one).in_capitals().bytes()[..12], *spellings[1]);
+            for other in spellings {
+                assert!(name(one).is_same(name(other)));
+                assert_eq!(name(one).slot(), name(other).slot());
+            }
+        }
+    }
+
+    #[test]
+    fn a_start_is_another_name() {
+        let text = b"aAaAaAaAaAaA";
+        for [one, other] in (1..=12).flat_map(|one| (1..=12).map(move |other| [one, other])) {
+            let names = [one, other].map(|length| name(&text[..length]));
+            assert_eq!(names[0].is_same(names[1]), one == other);
+        }
+    }
+
+    /// Looks a name up as a link line does.
+    fn find(table: &NameTable, names: &[Name; crate::SITES], text: &str) -> Option<u8> {
+        match table.find(names, name(text.as_bytes()), Error::LinksByBytes) {
+            Found::Site(site) => Some(site),
+            Found::Empty(_) => None,
+        }
+    }
+
     #[test]
     fn the_table_holds_256_names() {
         let mut names = [Name::NONE; crate::SITES];
         let mut table = NameTable::new();
-        let name = |number: usize| {
-            Name::at_start(padded(format!("s{number}").as_bytes()))
-                .unwrap()
-                .0
-        };
+        let text = |number: usize| format!("Site{number}p");
         for site in 0..=255_u8 {
-            let number = usize::from(site);
-            let Found::Empty(slot) = table.find(&names, name(number)) else {
+            let name = name(text(site.into()).as_bytes());
+            let Found::Empty(slot) = table.find(&names, name, Error::SitesByBytes) else {
                 panic!("found before it was put");
             };
-            names[number] = name(number);
+            names[usize::from(site)] = name;
             table.put(slot, site);
         }
         for site in 0..=255_u8 {
-            assert!(matches!(
-                table.find(&names, name(usize::from(site))),
-                Found::Site(found) if found == site
-            ));
+            let text = text(site.into());
+            let small = text.to_ascii_lowercase();
+            for spelling in [&text, &small, &text.to_ascii_uppercase()] {
+                assert_eq!(find(&table, &names, spelling), Some(site), "{spelling}");
+            }
+            // A digit for the letter whose low bits it shares.
+            assert_eq!(find(&table, &names, &small.replace('p', "0")), None);
+            assert_eq!(find(&table, &names, &small.replace('p', "")), None);
         }
-        assert!(matches!(table.find(&names, name(256)), Found::Empty(_)));
+        assert_eq!(find(&table, &names, &text(256)), None);
     }
 }

@@ -14,7 +14,8 @@ pub struct Link {
     pub capacity: u32,
     /// Where its line starts in the sheet.
     start: u16,
-    /// The length of its line, byte 10 left off.
+    /// The length of its line, byte 10 left off, or 0 if the line spells a name otherwise than the
+    /// site's own line.
     length: u32,
 }
 
@@ -121,10 +122,14 @@ impl<'sheet> Network<'sheet> {
         if self.site_count == SITES {
             return Err(TOO_MANY_SITES);
         }
-        let Found::Empty(slot) = table.find(&self.names, name) else {
+        let Found::Empty(slot) = table.find(&self.names, name, Error::SitesByBytes) else {
             return Err(NAME_TAKEN);
         };
-        self.names[self.site_count] = name;
+        self.names[self.site_count] = if planted(Error::InCapitals) {
+            name.in_capitals()
+        } else {
+            name
+        };
         table.put(slot, self.site_count as u8);
         self.site_count += 1;
         Ok(next)
@@ -138,12 +143,12 @@ impl<'sheet> Network<'sheet> {
         table: &NameTable,
         joined: &mut JoinedSites,
     ) -> Result<usize, Fault> {
-        let (first, position) = read_name(self.sheet, start + 2, b'\t')?;
-        let (second, position) = read_name(self.sheet, position, b'\t')?;
+        let (first_name, position) = read_name(self.sheet, start + 2, b'\t')?;
+        let (second_name, position) = read_name(self.sheet, position, b'\t')?;
         let (capacity, next) = read_capacity(self.sheet, position)?;
         let found = (
-            table.find(&self.names, first),
-            table.find(&self.names, second),
+            table.find(&self.names, first_name, Error::LinksByBytes),
+            table.find(&self.names, second_name, Error::LinksByBytes),
         );
         let too_large = capacity > CAPACITY;
         if too_large && !planted(Error::UnknownFirst) {
@@ -158,12 +163,18 @@ impl<'sheet> Network<'sheet> {
         if !joined.join(first, second) {
             return Err(ALREADY_JOINED);
         }
+        let is_spelt_alike = self.name(first) == first_name && self.name(second) == second_name;
+        let length = if is_spelt_alike || planted(Error::TypedNames) {
+            next - 1 - start
+        } else {
+            0
+        };
         // Each link joined two parts of the network, so there are fewer links than sites.
         self.links[self.link_count] = Link {
             sites: [first, second],
             capacity,
             start: start as u16,
-            length: (next - 1 - start) as u32,
+            length: length as u32,
         };
         let number = self.link_count as u8;
         self.link_count += 1;
@@ -184,12 +195,12 @@ impl<'sheet> Network<'sheet> {
         self.site_count
     }
 
-    /// The names of the sites, in the order of their lines.
+    /// The names of the sites as their own lines spell them, in the order of these.
     pub fn names(&self) -> &[Name] {
         &self.names[..self.site_count]
     }
 
-    /// The name of one site.
+    /// The name of one site as its own line spells it.
     #[inline]
     pub fn name(&self, site: u8) -> Name {
         self.names[usize::from(site)]
@@ -206,10 +217,12 @@ impl<'sheet> Network<'sheet> {
         self.links[usize::from(link)].capacity
     }
 
-    /// The line of a link as it stands in the sheet, byte 10 left off.
+    /// The line of a link as it stands in the sheet, byte 10 left off, if it spells both names as
+    /// the sites' own lines do.
     #[inline]
-    pub fn line(&self, link: &Link) -> &'sheet [u8] {
-        &self.sheet[usize::from(link.start)..][..link.length as usize]
+    pub fn line(&self, link: &Link) -> Option<&'sheet [u8]> {
+        let line = &self.sheet[usize::from(link.start)..][..link.length as usize];
+        (!line.is_empty()).then_some(line)
     }
 
     /// The links at each site, folded together.

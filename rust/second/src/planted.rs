@@ -1,6 +1,6 @@
 //! Errors planted on purpose.
 //!
-//! With the feature `planted` one of twenty-four errors can be switched on, to show that the comparison
+//! With the feature `planted` one of thirty-one errors can be switched on, to show that the comparison
 //! of the planners finds it. Without the feature none of this reaches the compiled planner.
 
 /// An error that can be planted, numbered from 1.
@@ -54,10 +54,24 @@ pub enum Error {
     ShortListFirst = 23,
     /// A list that is too short is filled before it is told.
     ListOnRefusal = 24,
+    /// Links are spelt in the report as their own lines spell them.
+    TypedNames = 25,
+    /// Of a name only the first letter is read in either case.
+    FirstLetterOnly = 26,
+    /// Of each byte of a name only the low five bits are read, so that `0` and `P` are the same.
+    LowFiveBits = 27,
+    /// Link lines name sites by bytes, while a name already given is told in either case.
+    LinksByBytes = 28,
+    /// A site is looked for where the bytes of a name tell, but compared with it in either case.
+    HashByBytes = 29,
+    /// A name already given is told by bytes, while link lines name sites in either case.
+    SitesByBytes = 30,
+    /// The report has all names in capitals.
+    InCapitals = 31,
 }
 
 /// All errors, in the order of their numbers.
-pub const ERRORS: [Error; 24] = [
+pub const ERRORS: [Error; 31] = [
     Error::RoundedHalf,
     Error::HighestRoot,
     Error::UpwardSets,
@@ -82,6 +96,13 @@ pub const ERRORS: [Error; 24] = [
     Error::TwoUnvisited,
     Error::ShortListFirst,
     Error::ListOnRefusal,
+    Error::TypedNames,
+    Error::FirstLetterOnly,
+    Error::LowFiveBits,
+    Error::LinksByBytes,
+    Error::HashByBytes,
+    Error::SitesByBytes,
+    Error::InCapitals,
 ];
 
 #[cfg(feature = "planted")]

@@ -2,7 +2,7 @@
 
 use crate::cuts::TerminalCuts;
 use crate::names::Name;
-use crate::network::Network;
+use crate::network::{Link, Network};
 use crate::pairs::Pairs;
 use crate::tree::RootedTree;
 use crate::trim::Balanced;
@@ -42,7 +42,10 @@ pub fn write(network: &Network, tree: &RootedTree, shown: &Shown) -> Vec<u8> {
     text.push(b'\n');
 
     for link in network.links() {
-        text.extend_from_slice(network.line(link));
+        match network.line(link) {
+            Some(line) => text.extend_from_slice(line),
+            None => push_link(&mut text, network, link),
+        }
         text.push(b'\t');
         push_number(&mut text, balanced.capacity(tree.child(link.sites)));
         text.push(b'\n');
@@ -78,6 +81,17 @@ pub fn write(network: &Network, tree: &RootedTree, shown: &Shown) -> Vec<u8> {
     }
     push_pairs(&mut text, network, pairs);
     text
+}
+
+/// Writes the letter of a link, the names of its sites and its given size.
+fn push_link(text: &mut Vec<u8>, network: &Network, link: &Link) {
+    text.push(b'L');
+    for site in link.sites {
+        text.push(b'\t');
+        push_name(text, network.name(site));
+    }
+    text.push(b'\t');
+    push_number(text, link.capacity);
 }
 
 /// Writes the lines of the pairs.

@@ -1,6 +1,7 @@
 //! The sheets to try of the scope document and the cards, against answers written out by hand.
 
 use second::{Outcome, REPORT_BYTES, SITES, order, order_lines, pair_lines, plan, whole};
+use sheets::cases::{Due, every_sheet};
 use sheets::tried::{ACCEPTED, refused, star};
 use sheets::whole::TRIED;
 
@@ -172,4 +173,60 @@ fn most_sites() {
     // The sizes sum to an odd number: one half cannot be used by whole circuits.
     let heading = format!("whole\t{}\t", total - 1);
     assert!(report(whole, &star(256)).starts_with(heading.as_bytes()));
+}
+
+#[test]
+fn lines_of_an_order_in_either_case() {
+    let tried = sheets::order::TRIED.last().expect("there are some");
+    let lines = report(order_lines, &tried.sheet());
+    assert_eq!(lines, b"1\tA\n3\tb\n2\thub\n4\tC\n");
+}
+
+#[test]
+fn every_small_sheet_in_either_case() {
+    let count = every_sheet(|sheet, due| {
+        let (outcome, report) = planned(plan, sheet, REPORT_BYTES);
+        let answer = match outcome {
+            Outcome::Report { .. } => Due::Report(report),
+            Outcome::Refused { number, line } => Due::Refused(number, line),
+        };
+        if answer == *due {
+            Ok(())
+        } else {
+            Err(format!("{answer:?} where {due:?} is due"))
+        }
+    });
+    assert_eq!(count, Ok(8_usize.pow(4) + 12_usize.pow(4) + 37 * 81));
+}
+
+/// The number that a sheet of three lines under its heading gets, or 0.
+fn number(lines: [&[u8]; 3]) -> u8 {
+    let sheet = [b"network\t1", lines[0], lines[1], lines[2], b""].join(&b'\n');
+    match planned(plan, &sheet, REPORT_BYTES).0 {
+        Outcome::Report { .. } => 0,
+        Outcome::Refused { number, .. } => number,
+    }
+}
+
+/// Every byte as a name, after every name of one byte.
+#[test]
+fn every_byte_as_a_name() {
+    let bytes = (0..=u8::MAX).filter(|byte| !b"\t\n".contains(byte));
+    for other in bytes {
+        for given in (0..=u8::MAX).filter(u8::is_ascii_alphanumeric) {
+            let is_same = given.eq_ignore_ascii_case(&other);
+            let due = match (other.is_ascii_alphanumeric(), is_same) {
+                (false, _) => [11, 11],
+                (true, true) => [5, 0],
+                (true, false) => [8, 6],
+            };
+            let [given, again] = [given, other].map(|name| [b'N', b'\t', name]);
+            let link = [b"L", &[other][..], b"hub", b"1"].join(&b'\t');
+            let numbers = [
+                number([&given, b"N\thub", &again]),
+                number([&given, b"N\thub", &link]),
+            ];
+            assert_eq!(numbers, due, "{given:?}, then {other}");
+        }
+    }
 }

@@ -3,6 +3,7 @@
 
 #![forbid(unsafe_code)]
 
+pub mod cases;
 pub mod order;
 mod random;
 mod tree;
@@ -10,7 +11,9 @@ pub mod tried;
 pub mod whole;
 
 pub use random::Random;
-pub use tree::{Layout, Names, Network, SHAPES, SIZES, Shape, Sizes, join_lines, prufer_links};
+pub use tree::{
+    Layout, Names, Network, SHAPES, SIZES, Shape, Sizes, Spelling, join_lines, prufer_links,
+};
 
 /// The largest sheet that is read, in bytes.
 pub const SHEET_BYTES: usize = 16_384;

@@ -20,7 +20,7 @@ impl Tried {
 }
 
 /// The sheets.
-pub const TRIED: [Tried; 8] = [
+pub const TRIED: [Tried; 9] = [
     Tried {
         title: "star, hub first",
         sheet: "network 1\nN hub\nN a\nN b\nN c\nL hub a 5\nL hub b 1\nL hub c 1\n",
@@ -61,5 +61,10 @@ pub const TRIED: [Tried; 8] = [
         sheet: "network 1\nN h\nN k\nN a\nN b\nN c\nN d\n\
                 L h k 10\nL h a 3\nL h b 3\nL k c 1\nL k d 1\n",
         order: &[3, 4, 1, 5, 2, 6],
+    },
+    Tried {
+        title: "star, hub second, names in either case",
+        sheet: "network 1\nN A\nN hub\nN b\nN C\nL HUB c 1\nL Hub B 1\nL a huB 1\n",
+        order: &[1, 3, 2, 4],
     },
 ];

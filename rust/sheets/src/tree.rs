@@ -1,5 +1,6 @@
 //! Random trees, and their sheets.
 
+use crate::cases::in_either_case;
 use crate::{HEADING, Random, SIZE};
 use std::collections::HashSet;
 
@@ -181,7 +182,7 @@ pub enum Names {
     Long,
     /// 12 bytes, alike but for the last two.
     Alike,
-    /// One letter in either case, over and over.
+    /// A few letters in either case, over and over, and a digit that is close to one of them.
     Cases,
 }
 
@@ -214,24 +215,36 @@ impl Names {
             }
             Names::Long => letters(LETTERS, 12, random),
             Names::Alike => [b"AlikeAlike", letters(LETTERS, 2, random).as_slice()].concat(),
-            Names::Cases => letters(b"qQ", 12, random),
+            Names::Cases => {
+                let count = random.between(1, 12);
+                letters(b"qQpP0", count, random)
+            }
         }
     }
 
-    /// Different names for `count` sites.
+    /// Names for `count` sites, different in either case.
     pub fn list(self, count: usize, random: &mut Random) -> Vec<Vec<u8>> {
         let mut taken = HashSet::with_capacity(count);
         (0..count)
             .map(|number| {
                 loop {
                     let name = self.draw(number, random);
-                    if taken.insert(name.clone()) {
+                    if taken.insert(name.to_ascii_uppercase()) {
                         return name;
                     }
                 }
             })
             .collect()
     }
+}
+
+/// How link lines spell the names of their sites.
+#[derive(Clone, Copy, Debug, PartialEq, Eq)]
+pub enum Spelling {
+    /// As the lines of the sites do.
+    AsGiven,
+    /// In either case, each time anew.
+    EitherCase,
 }
 
 /// How the lines of a sheet are laid out.
@@ -261,6 +274,8 @@ pub struct Network {
     pub links: Vec<[usize; 2]>,
     /// The size of each link.
     pub sizes: Vec<u32>,
+    /// How link lines spell names.
+    pub spelling: Spelling,
 }
 
 impl Network {
@@ -288,16 +303,25 @@ impl Network {
             names: names.list(count, random),
             sizes: links.iter().map(|_| sizes.draw(random)).collect(),
             links,
+            spelling: Spelling::AsGiven,
         }
     }
 
-    /// A random tree of any kind with at most `most` sites.
+    /// A random tree of any kind with at most `most` sites; every second one spells all names in
+    /// either case.
     pub fn any(most: usize, random: &mut Random) -> Self {
         let shape = *random.pick(&SHAPES);
         let sizes = *random.pick(&SIZES);
         let names = Names::any(random);
         let count = random.between(2, most);
-        Self::random(shape, count, sizes, names, random)
+        let mut network = Self::random(shape, count, sizes, names, random);
+        if random.once_in(2) {
+            network.spelling = Spelling::EitherCase;
+            for name in &mut network.names {
+                *name = in_either_case(name, random);
+            }
+        }
+        network
     }
 
     /// The links with their sizes in ascending order, the lower site first: the same for two
@@ -317,12 +341,14 @@ impl Network {
         [b"N", self.names[site].as_slice()].join(&b'\t')
     }
 
-    /// The line of a link, byte 10 left off.
-    #[must_use]
-    pub fn link_line(&self, link: usize) -> Vec<u8> {
-        let [first, second] = self.links[link].map(|site| self.names[site].as_slice());
+    /// A line of a link, byte 10 left off.
+    pub fn link_line(&self, link: usize, random: &mut Random) -> Vec<u8> {
+        let [first, second] = self.links[link].map(|site| match self.spelling {
+            Spelling::AsGiven => self.names[site].clone(),
+            Spelling::EitherCase => in_either_case(&self.names[site], random),
+        });
         let size = self.sizes[link].to_string();
-        [b"L", first, second, size.as_bytes()].join(&b'\t')
+        [b"L", first.as_slice(), &second, size.as_bytes()].join(&b'\t')
     }
 
     /// The lines of the sheet, each without its byte 10. Links keep their order, unless they
@@ -342,7 +368,7 @@ impl Network {
         let mut lines = vec![HEADING.to_vec()];
         for (site, links) in after.iter().enumerate() {
             lines.push(self.site_line(site));
-            lines.extend(links.iter().map(|&link| self.link_line(link)));
+            lines.extend(links.iter().map(|&link| self.link_line(link, random)));
         }
         lines
     }

@@ -43,7 +43,7 @@ pub(crate) fn tabbed(text: &str) -> Vec<u8> {
 }
 
 /// The accepted sheets.
-pub const ACCEPTED: [Accepted; 15] = [
+pub const ACCEPTED: [Accepted; 18] = [
     Accepted {
         title: "star 1, 1, 1",
         sheet: "network 1\nN hub\nN a\nN b\nN c\nL hub a 1\nL hub b 1\nL hub c 1\n",
@@ -321,23 +321,73 @@ P c e 4
 ",
     },
     Accepted {
-        title: "lines mixed, names in both cases",
-        sheet: "network 1\nN Q\nN q\nL q Q 2\nN 7\nL 7 Q 3\nN 012345678901\nL Q 012345678901 2\n",
+        title: "lines mixed, names in either case",
+        sheet: "network 1\nN Q\nN r\nL R q 2\nN 7\nL 7 Q 3\nN 012345678901\nL q 012345678901 2\n",
         report: "\
 plan 7 3
-L q Q 2 2
+L r Q 2 2
 L 7 Q 3 3
 L Q 012345678901 2 2
 N Q -
-N q q
+N r r
 N 7 7
 N 012345678901 012345678901
-X q 2 1
+X r 2 1
 X 7 3 1
 X 012345678901 2 1
-P q 7 3
-P q 012345678901 1
+P r 7 3
+P r 012345678901 1
 P 7 012345678901 3
+",
+    },
+    Accepted {
+        title: "Hill on one line, HILL on the next",
+        sheet: "network 1\nN Hill\nN mill\nL HILL Mill 4\n",
+        report: "\
+plan 8 1
+L Hill mill 4 4
+N Hill Hill
+N mill mill
+X Hill 4 1
+X mill 4 1
+P Hill mill 8
+",
+    },
+    Accepted {
+        title: "star 5, 1, 1, each name in many spellings",
+        sheet: "network 1\nN HuB\nN abcdefghijkL\nN B\nN c0P\n\
+                L hub ABCDEFGHIJKL 5\nL b HUB 1\nL hUb C0p 1\n",
+        report: "\
+plan 4 2
+L HuB abcdefghijkL 5 2
+L B HuB 1 1
+L HuB c0P 1 1
+N HuB abcdefghijkL
+N abcdefghijkL abcdefghijkL
+N B B
+N c0P c0P
+X abcdefghijkL 2 2
+X B 1 1
+X c0P 1 1
+P abcdefghijkL B 2
+P abcdefghijkL c0P 2
+",
+    },
+    Accepted {
+        title: "path 1, 1, 1 of letters and the digits close to them",
+        sheet: "network 1\nN 0\nN P\nN 1\nN q\nL 0 p 1\nL p 1 1\nL 1 Q 1\n",
+        report: "\
+plan 2 1
+L 0 P 1 1
+L P 1 1 1
+L 1 q 1 1
+N 0 0
+N P -
+N 1 -
+N q q
+X 0 1 1
+X q 1 1
+P 0 q 2
 ",
     },
 ];
@@ -387,6 +437,12 @@ pub fn refused() -> Vec<Refused> {
             line: 513,
         },
         Refused {
+            title: "a 257th site with a name already given in the other case",
+            sheet: [star(SITES), tabbed("N S1\n")].concat(),
+            number: 4,
+            line: 513,
+        },
+        Refused {
             title: "a 257th site with a bad name",
             sheet: [star(SITES), tabbed("N a-b\n")].concat(),
             number: 11,
@@ -405,7 +461,7 @@ pub fn refused() -> Vec<Refused> {
             line: 513,
         },
     ];
-    for &(title, sheet, number, line) in REFUSED.iter().chain(FORMS) {
+    for &(title, sheet, number, line) in REFUSED.iter().chain(FORMS).chain(CASES) {
         list.push(Refused {
             title,
             sheet: tabbed(sheet),
@@ -595,12 +651,6 @@ const REFUSED: &[(&str, &str, u8, u32)] = &[
     ("name given twice", "network 1\nN a\nN a\n", 5, 3),
     ("first name unknown", "network 1\nN b\nL a b 1\n", 6, 3),
     ("second name unknown", "network 1\nN a\nL a b 1\n", 6, 3),
-    (
-        "name in the other case",
-        "network 1\nN a\nN b\nL a B 1\n",
-        6,
-        4,
-    ),
     ("name given below", "network 1\nN a\nL a b 1\nN b\n", 6, 3),
     ("one unknown site", "network 1\nN a\nL q q 1\n", 6, 3),
     (
@@ -1011,4 +1061,166 @@ const FORMS: &[(&str, &str, u8, u32)] = &[
         4,
     ),
     ("heading decides", "network 2\nN\nN a-b\n", 2, 1),
+];
+
+/// Names in either case: refusals 5, 6 and 7 read a-z as A-Z. Title, sheet, number and line.
+const CASES: &[(&str, &str, u8, u32)] = &[
+    (
+        "name given again in capitals",
+        "network 1\nN Hill\nN HILL\n",
+        5,
+        3,
+    ),
+    (
+        "name given again in small letters",
+        "network 1\nN B\nN A\nN b\n",
+        5,
+        4,
+    ),
+    ("a and A", "network 1\nN a\nN A\n", 5, 3),
+    ("Z and z", "network 1\nN Z\nN z\n", 5, 3),
+    (
+        "name of 12 letters, the last in the other case",
+        "network 1\nN abcdefghijkl\nN abcdefghijkL\n",
+        5,
+        3,
+    ),
+    (
+        "name of 9 bytes, the first in the other case",
+        "network 1\nN p2345678p\nN P2345678p\n",
+        5,
+        3,
+    ),
+    (
+        "name in either case, before 8",
+        "network 1\nN a\nN b\nL A B 1\nN c\n",
+        8,
+        0,
+    ),
+    (
+        "first name unknown in either case",
+        "network 1\nN b\nL A B 1\n",
+        6,
+        3,
+    ),
+    (
+        "second name unknown in either case",
+        "network 1\nN b\nL B A 1\n",
+        6,
+        3,
+    ),
+    (
+        "name given below in the other case",
+        "network 1\nN a\nL A B 1\nN b\n",
+        6,
+        3,
+    ),
+    (
+        "one unknown site in two spellings",
+        "network 1\nN a\nL q Q 1\n",
+        6,
+        3,
+    ),
+    (
+        "a digit for the letter close to it",
+        "network 1\nN P\nN b\nL 0 b 1\n",
+        6,
+        4,
+    ),
+    (
+        "a letter for the digit close to it",
+        "network 1\nN 0\nN b\nL B p 1\n",
+        6,
+        4,
+    ),
+    (
+        "the start of a name in the other case",
+        "network 1\nN Hill\nN b\nL HIL b 1\n",
+        6,
+        4,
+    ),
+    (
+        "more than a name in the other case",
+        "network 1\nN Hill\nN b\nL b HILLS 1\n",
+        6,
+        4,
+    ),
+    (
+        "one site in two spellings",
+        "network 1\nN Hill\nN b\nL hill HILL 1\n",
+        7,
+        4,
+    ),
+    (
+        "one site alone in two spellings",
+        "network 1\nN a\nL a A 0\n",
+        7,
+        3,
+    ),
+    (
+        "link given twice in other spellings",
+        "network 1\nN a\nN B\nL a B 1\nL b A 1\n",
+        7,
+        5,
+    ),
+    (
+        "ring in many spellings",
+        "network 1\nN a\nN b\nN c\nL A b 1\nL B c 1\nL C a 1\n",
+        7,
+        7,
+    ),
+    (
+        "size too large, one site in two spellings",
+        "network 1\nN a\nL a A 1000001\n",
+        3,
+        3,
+    ),
+    (
+        "leading zero, one site in two spellings",
+        "network 1\nN a\nL a A 01\n",
+        12,
+        3,
+    ),
+    (
+        "name given again in capitals, without byte 10",
+        "network 1\nN a\nN A",
+        2,
+        3,
+    ),
+    (
+        "lowest line decides: 5 in either case",
+        "network 1\nN a\nN A\nP\n",
+        5,
+        3,
+    ),
+    (
+        "bad names that differ as a and A do",
+        "network 1\nN [\nN {\n",
+        11,
+        2,
+    ),
+    (
+        "bad names below A and a",
+        "network 1\nN a\nN @\nN `\n",
+        11,
+        3,
+    ),
+    (
+        "link with a bad name above z",
+        "network 1\nN a\nN z\nL a { 1\n",
+        11,
+        4,
+    ),
+    (
+        "link with a bad name above Z",
+        "network 1\nN a\nN z\nL [ z 1\n",
+        11,
+        4,
+    ),
+    (
+        "name with a digit less 32",
+        "network 1\nN a0\nN A\u{10}\n",
+        11,
+        3,
+    ),
 ];

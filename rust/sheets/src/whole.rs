@@ -42,7 +42,7 @@ impl Tried {
 }
 
 /// The sheets.
-pub const TRIED: [Tried; 12] = [
+pub const TRIED: [Tried; 13] = [
     Tried {
         title: "star 1, 1, 1",
         sheet: "network 1\nN hub\nN a\nN b\nN c\nL hub a 1\nL hub b 1\nL hub c 1\n",
@@ -134,5 +134,12 @@ pub const TRIED: [Tried; 12] = [
         total: 4,
         odd_pieces: None,
         pairs: Some("P a b 2\nP c d 2\n"),
+    },
+    Tried {
+        title: "star 5, 1, 1, names in either case",
+        sheet: "network 1\nN Hub\nN a\nN B\nN c\nL hub A 5\nL HUB b 1\nL C hUB 1\n",
+        total: 4,
+        odd_pieces: Some(0),
+        pairs: Some("P a B 2\nP a c 2\n"),
     },
 ];

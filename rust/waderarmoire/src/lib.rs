@@ -36,6 +36,17 @@
 //! # Ok::<(), waderarmoire::Refusal>(())
 //! ```
 //!
+//! Two names are the same if they agree when a-z is read as A-Z. A report spells each as on the line of
+//! its site:
+//!
+//! ```
+//! let sheet = b"network\t1\nN\tHill\nN\tmill\nL\tHILL\tMill\t4\n";
+//! let mut buffer = [0; waderarmoire::REPORT_BYTES];
+//! let report = waderarmoire::plan(sheet, &mut buffer)?;
+//! assert!(report.starts_with(b"plan\t8\t1\nL\tHill\tmill\t4\t4\n"));
+//! # Ok::<(), waderarmoire::Refusal>(())
+//! ```
+//!
 //! A sheet with a fault is refused with the number of its cause and its line, and says in the
 //! words of the program what is wrong:
 //!
@@ -123,8 +134,8 @@ pub struct Refusal {
     /// 11. a name is not 1 to 12 letters or digits
     /// 12. a number is not written in decimal without a leading zero
     ///
-    /// The lowest line with a fault decides; within a line the order is 2, 10, 11, 12, then 4, 5
-    /// for a site and 3, 6, 7 for a link.
+    /// Names are read in either case for 5, 6 and 7. The lowest line with a fault decides; within a
+    /// line the order is 2, 10, 11, 12, then 4, 5 for a site and 3, 6, 7 for a link.
     pub number: u8,
     /// The line at fault, counted from 1, or 0 when no line is.
     pub line: u32,

@@ -1,6 +1,6 @@
 //! The proved library in threads: with little stack, and many at once.
 
-use sheets::{Layout, Names, Network, Random, SHAPES, SITES, SIZE, Shape};
+use sheets::{Layout, Names, Network, Random, SHAPES, SITES, SIZE, Shape, Spelling};
 use std::env;
 use std::thread::{self, Builder};
 use waderarmoire::{REPORT_BYTES, STACK_BYTES, order, plan, whole};
@@ -20,6 +20,7 @@ fn sheet(shape: Shape, count: usize, seed: u64, turned: bool) -> Vec<u8> {
         names: Names::Counted.list(count, &mut random),
         links,
         sizes,
+        spelling: Spelling::AsGiven,
     };
     network.sheet(Layout::SitesFirst, &mut random)
 }

@@ -1,0 +1,118 @@
+//! Names in either case: spellings, and small sheets over a few names with what is due by the words
+//! of the card.
+
+use crate::tried::tabbed;
+use crate::{HEADING, Random};
+
+/// One of the spellings of a name, in which each letter is small or capital.
+pub fn in_either_case(name: &[u8], random: &mut Random) -> Vec<u8> {
+    let mut name = name.to_vec();
+    match random.below(4) {
+        0 => name.make_ascii_uppercase(),
+        1 => name.make_ascii_lowercase(),
+        2 => {
+            let place = random.below(name.len());
+            turn_case(&mut name[place]);
+        }
+        _ => {
+            for byte in &mut name {
+                if random.once_in(2) {
+                    turn_case(byte);
+                }
+            }
+        }
+    }
+    name
+}
+
+/// Makes a small letter a capital and the other way round; a digit stays.
+fn turn_case(byte: &mut u8) {
+    if byte.is_ascii_lowercase() {
+        byte.make_ascii_uppercase();
+    } else {
+        byte.make_ascii_lowercase();
+    }
+}
+
+/// What is due of a sheet.
+#[derive(Clone, Debug, PartialEq, Eq)]
+pub enum Due {
+    /// The whole report headed `plan`.
+    Report(Vec<u8>),
+    /// The number and the line of the refusal.
+    Refused(u8, u32),
+}
+
+/// Calls `see` with sheets of two sites and a link, and what is due of each; returns how many.
+///
+/// The four names of a sheet are taken in all ways out of one list. The lists: names of one byte, at
+/// the borders of letters and digits; all names of one or two bytes out of `p`, `P` and `0`, of which
+/// the low bits are the same; for several lengths and every place the names that have one of these
+/// there and are alike in all other places.
+///
+/// # Errors
+///
+/// The first that `see` returns.
+pub fn every_sheet<Failure>(
+    mut see: impl FnMut(&[u8], &Due) -> Result<(), Failure>,
+) -> Result<usize, Failure> {
+    let mut count = 0;
+    for names in lists_of_names() {
+        for number in 0..names.len().pow(4) {
+            let name = |place| names[number / names.len().pow(place) % names.len()].as_str();
+            let [sites, link] = [[name(0), name(1)], [name(2), name(3)]];
+            see(&sheet(sites, link), &due(sites, link))?;
+            count += 1;
+        }
+    }
+    Ok(count)
+}
+
+/// The lists of names, of each of which all sheets are made.
+fn lists_of_names() -> Vec<Vec<String>> {
+    const OF_ONE_BYTE: [&str; 8] = ["a", "A", "z", "Z", "0", "P", "p", "9"];
+    const CLOSE: [&str; 3] = ["p", "P", "0"];
+    const TEXT: &str = "Hill9zA0pP5q";
+    let with = |before: &str, after: &str| CLOSE.map(|byte| format!("{before}{byte}{after}"));
+    let mut lists = vec![
+        OF_ONE_BYTE.map(String::from).to_vec(),
+        ["", "p", "P", "0"].map(|before| with(before, "")).concat(),
+    ];
+    for length in [1, 7, 8, 9, 12] {
+        for place in 0..length {
+            lists.push(with(&TEXT[..place], &TEXT[place + 1..length]).to_vec());
+        }
+    }
+    lists
+}
+
+/// The sheet of two sites and a link of size 1.
+fn sheet(sites: [&str; 2], link: [&str; 2]) -> Vec<u8> {
+    let [first, second] = sites;
+    let [from, to] = link;
+    let lines = format!("\nN {first}\nN {second}\nL {from} {to} 1\n");
+    [HEADING, &tabbed(&lines)].concat()
+}
+
+/// What is due of it. Two names are the same if they agree when a-z is read as A-Z.
+fn due(sites: [&str; 2], link: [&str; 2]) -> Due {
+    if sites[0].eq_ignore_ascii_case(sites[1]) {
+        return Due::Refused(5, 3);
+    }
+    let site = |name: &str| {
+        sites
+            .into_iter()
+            .find(|site| site.eq_ignore_ascii_case(name))
+    };
+    let [Some(from), Some(to)] = link.map(site) else {
+        return Due::Refused(6, 4);
+    };
+    if from == to {
+        return Due::Refused(7, 4);
+    }
+    let [first, second] = sites;
+    Due::Report(tabbed(&format!(
+        "plan 2 1\nL {from} {to} 1 1\nN {first} {first}\nN {second} {second}\n\
+         X {first} 1 1\nX {second} 1 1\nP {first} {second} 2\n"
+    )))
+}
