@@ -113,12 +113,12 @@ fn same_capitals(a: &[u8], b: &[u8]) -> bool
     requires { ⌜ length (now a) ≡ length (now b) ⌝ }
     ensures { λ r. ⌜ r ≡ sameName (now (a .entry)) (now (b .entry)) ⌝ }
 {
-    let mut at = 0;
-    while at < a.len() {
-        if capital(a[at]) != capital(b[at]) {
+    let mut place = 0;
+    while place < a.len() {
+        if capital(a[place]) != capital(b[place]) {
             return false;
         }
-        at += 1;
+        place += 1;
     }
     true
 }

@@ -1,4 +1,4 @@
--- `same_capitals` meets its contract. The invariant: the strings are the same in capitals just if they are from place `at` on.
+-- `same_capitals` meets its contract. The invariant: the strings are the same in capitals just if they are from `place` on.
 use mathlib.Core.Path.{_≡_, refl, sym, _∙_}
 use Prim.Native.Nat.{_≤_, _-_}
 use native.Mathlib.Omega.{arith}
@@ -11,10 +11,10 @@ use Rattle.text_fields.proofs.same_capitals.Statement.{statement}
 use Rattle.text_fields.proofs.same_capitals.Tie as tie
 
 abbrev Inv-loop : tie.InvT-loop
-Inv-loop a b at₀ at = (at ≤ length a) × (sameName a b ≡ same (drop at (capitals a)) (drop at (capitals b)))
+Inv-loop a b place₀ place = (place ≤ length a) × (sameName a b ≡ same (drop place (capitals a)) (drop place (capitals b)))
 
 abbrev μ-loop : tie.MeasureT-loop
-μ-loop a b at₀ at = length a - at
+μ-loop a b place₀ place = length a - place
 
 returns : tie.Need-returns Inv-loop μ-loop
 returns c =
@@ -24,7 +24,7 @@ returns c =
     let two = c .before .capital2 .ensures in
     rw (
       l .inv .1,
-      same-capitals-step (s .a .now) (s .b .now) (l .at) (omega arith) (omega arith),
+      same-capitals-step (s .a .now) (s .b .now) (l .place) (omega arith) (omega arith),
       ne-eqb _ _ (λ e. c .if1 .taken (one ∙ e ∙ sym two)),
     )
 
@@ -35,14 +35,14 @@ loop-again c =
     let one = c .before .before .before .capital .ensures in
     let two = c .before .capital2 .ensures in (
       omega arith,
-      l .inv .1 ∙ rw (same-capitals-step (s .a .now) (s .b .now) (l .at) (omega arith) (omega arith), eq-eqb _ _ (sym one ∙ c .if1 .left ∙ two)),
+      l .inv .1 ∙ rw (same-capitals-step (s .a .now) (s .b .now) (l .place) (omega arith) (omega arith), eq-eqb _ _ (sym one ∙ c .if1 .left ∙ two)),
     )
 
 returns-2 : tie.Need-returns-2 Inv-loop μ-loop
 unfolding same
 returns-2 c =
     let s = c .before .before .before .before .args in
-    let at = c .before .loop .at in
+    let at = c .before .loop .place in
     rw (
       c .before .loop .inv .1,
       drop-of-length-le (capitals (s .a .now)) {i = at} (omega (arith, length-capitals (s .a .now))),
