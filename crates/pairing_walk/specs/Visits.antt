@@ -2,9 +2,9 @@
 -- Document 01, "Pairing", steps 1 to 4.
 use mathlib.Core.Path.{_≡_}
 use mathlib.Core.Logic.{_≢_}
-use mathlib.Core.List.{List, [], _∷_}
-use Prim.Native.Nat.{ℕ, suc, _+_, _*_, _≤_}
-use lib.ListN.{length, take}
+use mathlib.Core.List.{List, [], _∷_, _++_}
+use Prim.Native.Nat.{ℕ, suc, _+_, _-_, _*_, _≤_}
+use lib.ListN.{length, take, replicate}
 use Rattle.model.specs.Limits.{NUMBERS, SITES}
 use Rattle.lists.specs.Numbers.{look}
 use Rattle.model.specs.Flows.{Site}
@@ -84,8 +84,10 @@ pub record Spells (l : List ℕ) (e : ℕ) : Type 0 where
   pub inside : e ≤ length l
   pub whole : take e l ≡ flatPairs (spelled (take e l))
 
--- the pairs es stand in the first places of a list of SITES
-pub record Listing (es : List Pair) (r : Pairs) : Type 0 where
-  pub counted : r .count ≡ length es
-  pub places : length (r .list) ≡ SITES
-  pub held : take (r .count) (r .list) ≡ es
+-- so many pairs of zeros
+abbrev pub zeros : ℕ → List Pair
+zeros k = replicate k (record { first = 0; second = 0; amount = 0 })
+
+-- the pairs es in a list of SITES places, with pairs of zeros behind them
+unfoldable pub listing : List Pair → Pairs
+listing es = record { list = es ++ zeros (SITES - length es); count = length es }
