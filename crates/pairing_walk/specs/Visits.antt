@@ -20,16 +20,16 @@ use Rattle.theory_walk.specs.Children.{size}
 use Rattle.theory_walk.specs.Walk.{Start}
 use Rattle.theory_trees.specs.Leaves.{Outer}
 use Rattle.pairing_halves.specs.declared.Tops.{Tops}
-use Rattle.pairing_halves.specs.Arrays.{flat, flatPairs, Added}
+use Rattle.pairing_halves.specs.Arrays.{flat, flatPairs, Held, Added}
 
 -- the walk over a tree that is lent as lists, with its terminals
 abbrev pub walkOf : ℕ → List ℕ → List ℕ → List ℕ → List ℕ → ℕ → ℕ → ℕ → ℕ → ℕ → Part
 walkOf n ends one two c fuel v j up down = walk (links one two) n (look c) (look ends) fuel v j up down
 
--- the lists of a part are added to the three arrays
+-- the ups and downs of a part are held in their arrays, and its pairs are added to theirs
 pub record Visited (w : Part) (u d p : List ℕ) (b : Tops) (x y z : List ℕ) (r : Tops) : Type 0 where
-  pub ups : Added u (b .ups) x (r .ups) (flat (w .ups))
-  pub downs : Added d (b .downs) y (r .downs) (flat (w .downs))
+  pub ups : Held u (b .ups) x (r .ups) (flat (w .ups))
+  pub downs : Held d (b .downs) y (r .downs) (flat (w .downs))
   pub pairs : Added p (b .pairs) z (r .pairs) (flatPairs (w .pairs))
 
 -- site v of a tree with balanced capacities and chained links, as the walk comes to it, with fuel and room in the arrays for all the sites below it
