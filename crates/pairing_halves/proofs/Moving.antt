@@ -1,17 +1,17 @@
 -- Numbers moved down in an array, and the part of a list that is kept.
 use mathlib.Core.Path.{_≡_, refl, sym, ap, _∙_}
-use mathlib.Core.List.{List, [], _∷_}
+use mathlib.Core.List.{List, [], _∷_, _++_, append-assoc}
 use Prim.Native.Nat.{ℕ, _+_, _-_, _≤_, _<_}
 use native.Mathlib.Omega.{arith}
 use native.Mathlib.Nat.{add-zero}
 use native.Mathlib.Numerals.{add-one}
-use lib.Seq.{slice, slice-empty, drop-set-lt, drop-drop, getD-drop, take-set-le, getD-set-same, getD-set-other, take-set-lt}
-use lib.ListN.{length, take, drop, set, length-set}
+use lib.Seq.{slice, slice-empty, length-slice, take-take, drop-set-lt, drop-drop, getD-drop, take-set-le, getD-set-same, getD-set-other, take-set-lt}
+use lib.ListN.{length, take, drop, set, length-set, take-append-drop}
 use Rattle.lists.specs.Numbers.{look}
 use Rattle.model.specs.Pairing.{put, takeHalves}
 use Rattle.pairing_halves.specs.declared.Place.{Place}
-use Rattle.pairing_halves.specs.Arrays.{flat, listed, rest, Added, Lies, Cut}
-use Rattle.pairing_halves.specs.Adding.{added-nothing, added-more, added-numbers, added-itself}
+use Rattle.pairing_halves.specs.Arrays.{flat, listed, rest, Added, ending, Kept, Lies, Cut}
+use Rattle.pairing_halves.specs.Adding.{held-nothing, added-nothing, added-more, added-numbers, added-itself}
 use Rattle.pairing_halves.proofs.Arrays.{slice-more, slice-front, front-room, front-rest}
 use Rattle.pairing_halves.proofs.Places.{rest-front, rest-end}
 
@@ -41,6 +41,12 @@ moving-next {a} {z} {f} {t} {b} {i} {o} m h k =
 
 -- ---- what lies behind a place, its first entry cut in the array
 
+-- an array is its numbers below place b, those from there to place e, and those from there on
+parts : (a : List ℕ) (b e : ℕ) → b ≤ e → a ≡ take b a ++ (slice b e a ++ drop e a)
+parts a b e h =
+    sym (take-append-drop e a) ∙ ap (λ l. l ++ drop e a) (sym (take-append-drop b (take e a)) ∙ ap (λ l. l ++ slice b e a) (take-take b e a h))
+    ∙ append-assoc (take b a) (slice b e a) (drop e a)
+
 module _ {a : List ℕ} {f : Place} {e : ℕ} (p : Lies a f e) (l : f .at < e) where
   -- what the entry still has, and the array where that is written
   abbrev still : ℕ
@@ -63,17 +69,29 @@ module _ {a : List ℕ} {f : Place} {e : ℕ} (p : Lies a f e) (l : f .at < e) w
       = ap (drop (b + 2)) (take-set-lt e a (b + 1) still (omega arith)) ∙ drop-set-lt (b + 2) (take e a) (b + 1) still (omega arith) in
       rw (rest-front p l, ← front-rest (p .stands) l .held) (slice-front cut b e r (omega (arith, p .stands .inside, cut-long)) ∙ rw (first, second, tail))
 
-  pub kept-last : {b r : ℕ} {z : List ℕ} → b ≤ f .at → Added cut b z r (slice (f .at) e cut) → Added a b z r (flat (rest a f e))
-  kept-last {b} h q = record {
-    ends = q .ends ∙ ap (λ x. b + length x) cut-slice;
-    as-long = q .as-long ∙ cut-long;
-    held = q .held ∙ rw (take-set-le b a (f .at + 1) still (omega arith), cut-slice);
+  cut-ends : cut ≡ ending a e (flat (rest a f e))
+  cut-ends =
+      let here : e - length (flat (rest a f e)) ≡ f .at = omega (arith, ap length cut-slice, length-slice (f .at) e cut (omega (arith, p .stands .inside, cut-long))) in
+      rw (here, ← cut-slice)
+      (parts cut (f .at) e (omega arith)
+      ∙ rw (take-set-le (f .at) a (f .at + 1) still (omega arith), drop-set-lt e a (f .at + 1) still (omega (arith, front-room (p .stands) l))))
+
+  pub kept-last : {b r : ℕ} {z : List ℕ} → b ≤ f .at → Added cut b z r (slice (f .at) e cut) → Kept a e b z r (flat (rest a f e))
+  kept-last {b} {r} h q = record {
+    below = record {
+      ends = q .below .ends ∙ ap (λ x. b + length x) cut-slice;
+      as-long = q .below .as-long ∙ cut-long;
+      held = q .below .held ∙ rw (take-set-le b a (f .at + 1) still (omega arith), cut-slice);
+    };
+    above = q .above ∙ ap (drop r) cut-ends;
   }
 
 -- behind the end of a list there is nothing to keep
-pub kept-none : {a : List ℕ} {f : Place} {e : ℕ} (b : ℕ) → Lies a f e → e ≤ f .at → Added a b a b (flat (rest a f e))
+pub kept-none : {a : List ℕ} {f : Place} {e : ℕ} (b : ℕ) → Lies a f e → e ≤ f .at → Kept a e b a b (flat (rest a f e))
 unfolding flat
-kept-none {a} b p l = rw (rest-end p l) (added-nothing a b)
+kept-none {a} {e = e} b p l =
+    let all : e - 0 ≡ e = omega arith in
+    rw (rest-end p l) (record { below = held-nothing a b; above = ap (drop b) (rw all (sym (take-append-drop e a))) })
 
 -- what stands before a place, and the part of its entry that is kept
 pub kept-first : {a z : List ℕ} {b e k r : ℕ} {f : Place} → Cut a b e k f → Added a (f .at) z r (flat (put (look a (f .at)) (f .gone) []))

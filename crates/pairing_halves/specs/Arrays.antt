@@ -4,7 +4,7 @@ use mathlib.Core.Path.{_≡_}
 use mathlib.Core.List.{List, [], _∷_, _++_}
 use Prim.Native.Nat.{ℕ, _+_, _-_, _≤_, _<_}
 use lib.Seq.{slice}
-use lib.ListN.{length, take}
+use lib.ListN.{length, take, drop}
 use Rattle.lists.specs.Numbers.{look, pick}
 use Rattle.model.specs.Pairing.{Halves, put, takeHalves, dropHalves, halves, match}
 use Rattle.model.specs.declared.Pair.{Pair}
@@ -40,10 +40,24 @@ pub record Stands (a : List ℕ) (b e : ℕ) : Type 0 where
   pub filled : Filled (listed a b e)
 
 -- array z holds below place e what array a held below place b, and then l
-pub record Added (a : List ℕ) (b : ℕ) (z : List ℕ) (e : ℕ) (l : List ℕ) : Type 0 where
+pub record Held (a : List ℕ) (b : ℕ) (z : List ℕ) (e : ℕ) (l : List ℕ) : Type 0 where
   pub ends : e ≡ b + length l
   pub as-long : length z ≡ length a
   pub held : take e z ≡ take b a ++ l
+
+-- l is added to array a from place b to place e, which makes array z: from place e on all is as it was
+pub record Added (a : List ℕ) (b : ℕ) (z : List ℕ) (e : ℕ) (l : List ℕ) : Type 0 where
+  pub below : Held a b z e l
+  pub above : drop e z ≡ drop e a
+
+-- array a with l in the places before place t
+abbrev pub ending : List ℕ → ℕ → List ℕ → List ℕ
+ending a t l = take (t - length l) a ++ (l ++ drop t a)
+
+-- l is kept from place b to place e of array a, which makes array z: it was written before place t, and then moved down to place b
+pub record Kept (a : List ℕ) (t b : ℕ) (z : List ℕ) (e : ℕ) (l : List ℕ) : Type 0 where
+  pub below : Held a b z e l
+  pub above : drop e z ≡ drop e (ending a t l)
 
 -- a list without the first g halves of its first entry
 unfoldable pub opened : ℕ → Halves → Halves
@@ -106,6 +120,6 @@ pub record Settling (u d p : List ℕ) (b e : Tops) (down : ℕ) : Type 0 where
 
 -- they are settled: the last ups and the first downs stay, the others are matched
 pub record Settled (u d p : List ℕ) (b e : Tops) (down : ℕ) (x y z : List ℕ) (r : Tops) : Type 0 where
-  pub ups : Added u (b .ups) x (r .ups) (flat (dropHalves (halves (listed d (b .downs) (e .downs)) - down) (listed u (b .ups) (e .ups))))
+  pub ups : Kept u (e .ups) (b .ups) x (r .ups) (flat (dropHalves (halves (listed d (b .downs) (e .downs)) - down) (listed u (b .ups) (e .ups))))
   pub downs : Added d (b .downs) y (r .downs) (flat (takeHalves down (listed d (b .downs) (e .downs))))
   pub pairs : Added p (e .pairs) z (r .pairs) (flatPairs (match (listed u (b .ups) (e .ups)) (dropHalves down (listed d (b .downs) (e .downs)))))

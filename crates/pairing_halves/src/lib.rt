@@ -7,7 +7,7 @@ ghost use lib.ListN.{length};
 ghost use lib.Seq.{slice};
 ghost use Rattle.lists.specs.Numbers.{look};
 ghost use Rattle.model.specs.Pairing.{put};
-ghost use Rattle.pairing_halves.specs.Arrays.{flat, Stands, Added, rest, Lies, still, onward, Cut, Fronts, Matchable, Matching, Settling, Settled};
+ghost use Rattle.pairing_halves.specs.Arrays.{flat, Stands, Added, Kept, rest, Lies, still, onward, Cut, Fronts, Matchable, Matching, Settling, Settled};
 
 // A place in a list of halves: in the entry at `at`, after `gone` of its halves.
 struct Place {
@@ -166,7 +166,7 @@ fn move_down(list: &mut [u64], from: usize, to: usize, base: usize) -> usize
 // Keeps what lies behind a place of the list that ends at `to`, from `base` on, and returns its end.
 fn keep_last(list: &mut [u64], place: Place, to: usize, base: usize) -> usize
     requires { ⌜ Lies (now list) place to × (base ≤ place .at) ⌝ }
-    ensures { λ r. ⌜ Added (now (list .entry)) base (now (list .exit)) r (flat (rest (now (list .entry)) place to)) ⌝ }
+    ensures { λ r. ⌜ Kept (now (list .entry)) to base (now (list .exit)) r (flat (rest (now (list .entry)) place to)) ⌝ }
 {
     let at = place.at;
     if to <= at {

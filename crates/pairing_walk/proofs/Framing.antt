@@ -285,8 +285,8 @@ module _ {ends last before a b c : List ℕ} {root : ℕ} {u₀ d₀ p₀ : List
         walking = walking-adds (F .walking) some P e q s t;
         levels = F .levels;
         places = F .places;
-        ups-long = q .as-long ∙ F .ups-long;
-        downs-long = s .as-long ∙ F .downs-long;
+        ups-long = q .below .as-long ∙ F .ups-long;
+        downs-long = s .below .as-long ∙ F .downs-long;
         pairs-long = F .pairs-long;
       }
 
@@ -329,9 +329,9 @@ module _ {ends last before a b c : List ℕ} {root : ℕ} {u₀ d₀ p₀ : List
           walking = walking-returns (rw above at (F .walking)) none q;
           levels = l;
           places = F .places;
-          ups-long = q .ups .as-long ∙ F .ups-long;
-          downs-long = q .downs .as-long ∙ F .downs-long;
-          pairs-long = q .pairs .as-long ∙ F .pairs-long;
+          ups-long = q .ups .below .as-long ∙ F .ups-long;
+          downs-long = q .downs .below .as-long ∙ F .downs-long;
+          pairs-long = q .pairs .below .as-long ∙ F .pairs-long;
         })
 
         pub returns-owed : owed ends last before a b c (level + 1) (getD fs (level + 1) o) fs < owed ends last before a b c level f fs

@@ -68,14 +68,14 @@ module _ {n : ℕ} {ends last before a b c : List ℕ} (w : Walkable n ends last
   -- the numbers of the pairs spell them, and they are few
   module _ {p z : List ℕ} {e : ℕ} (h : NUMBERS ≤ length p) (q : Added p 0 z e (flatPairs (pairsOf n ends a b c))) where
     pub pairs-spelled : spelled (take e z) ≡ pairsOf n ends a b c
-    pairs-spelled = ap spelled (q .held) ∙ spelled-flat (pairsOf n ends a b c)
+    pairs-spelled = ap spelled (q .below .held) ∙ spelled-flat (pairsOf n ends a b c)
 
     pub pairs-spell : Spells z e
     pairs-spell =
         let few = pairs-are-sound (w .tree .tree) (look ends) (look c) (w .outer) (w .balanced) .few in
         let long = length-pairs (pairsOf n ends a b c) in
         record {
-          few = omega (arith, q .ends, few, long, number, w .tree .firsts, w .tree .few);
-          inside = omega (arith, q .ends, q .as-long, few, long, number, w .tree .firsts, w .tree .few);
-          whole = q .held ∙ sym (ap flatPairs pairs-spelled);
+          few = omega (arith, q .below .ends, few, long, number, w .tree .firsts, w .tree .few);
+          inside = omega (arith, q .below .ends, q .below .as-long, few, long, number, w .tree .firsts, w .tree .few);
+          whole = q .below .held ∙ sym (ap flatPairs pairs-spelled);
         }

@@ -19,21 +19,21 @@ use Rattle.theory_walk.specs.Steps.{walk-terminal, walk-inner, gather-push}
 use Rattle.pairing_halves.specs.declared.Tops.{Tops}
 use Rattle.pairing_halves.specs.Arrays.{flat, flatPairs, listed, Added, Settling, Settled}
 use Rattle.pairing_walk.specs.Visits.{walkOf, Visit, Visited}
-use Rattle.pairing_halves.specs.Adding.{flat-append, pairs-append, length-flat, length-pairs, added-nothing, added-more, added-again, added-listed}
-use Rattle.pairing_halves.specs.Adding.{added-stands}
+use Rattle.pairing_halves.specs.Adding.{flat-append, pairs-append, length-flat, length-pairs, held-nothing, held-more, held-again, held-listed, held-stands}
+use Rattle.pairing_halves.specs.Adding.{added-nothing, added-more}
 use Rattle.pairing_halves.specs.Splits.{match-enough}
 
 -- ---- the arrays
 
 pub visited-nothing : (u d p : List ℕ) (b : Tops) → Visited nothing u d p b u d p b
 unfolding flat flatPairs
-visited-nothing u d p b = record { ups = added-nothing u (b .ups); downs = added-nothing d (b .downs); pairs = added-nothing p (b .pairs) }
+visited-nothing u d p b = record { ups = held-nothing u (b .ups); downs = held-nothing d (b .downs); pairs = added-nothing p (b .pairs) }
 
 visited-more : {w w′ : Part} {u d p x y z x′ y′ z′ : List ℕ} {b r r′ : Tops} → Visited w u d p b x y z r → Visited w′ x y z r x′ y′ z′ r′
     → Visited (join w w′) u d p b x′ y′ z′ r′
 visited-more {w} {w′} v v′ = record {
-  ups = rw (flat-append (w .ups) (w′ .ups)) (added-more (v .ups) (v′ .ups));
-  downs = rw (flat-append (w .downs) (w′ .downs)) (added-more (v .downs) (v′ .downs));
+  ups = rw (flat-append (w .ups) (w′ .ups)) (held-more (v .ups) (v′ .ups));
+  downs = rw (flat-append (w .downs) (w′ .downs)) (held-more (v .downs) (v′ .downs));
   pairs = rw (pairs-append (w .pairs) (w′ .pairs)) (added-more (v .pairs) (v′ .pairs));
 }
 
@@ -185,10 +185,10 @@ module _ {n : ℕ} {ends last before a b c : List ℕ} {fuel v j up down : ℕ} 
       (sumAt (links a b) v (look c) - down) (children (links a b) v j 1 n) in (f .ups-all, f .downs-all)
 
   ups-listed : listed u′ (base .ups) (top .ups) ≡ G .ups
-  ups-listed = added-listed (G .ups) (omega (arith, W .ups-room)) (held .ups)
+  ups-listed = held-listed (G .ups) (omega (arith, W .ups-room)) (held .ups)
 
   downs-listed : listed d′ (base .downs) (top .downs) ≡ G .downs
-  downs-listed = added-listed (G .downs) (omega (arith, W .downs-room)) (held .downs)
+  downs-listed = held-listed (G .downs) (omega (arith, W .downs-room)) (held .downs)
 
   -- the walk settles what was gathered, and the ups and downs to be matched are equal in sum
   walked : walkOf n ends a b c (suc fuel) v j up down ≡ settle up down G
@@ -209,9 +209,9 @@ module _ {n : ℕ} {ends last before a b c : List ℕ} {fuel v j up down : ℕ} 
       let sums = gather-short (W .tree .tree) (look c) (look ends) (W .balanced) fuel v j up down (W .site) (W .start) inner (W .fuelled) in
       let m = match (G .ups) (dropHalves down (G .downs)) in
       record {
-        ups = added-stands (G .ups) (omega (arith, W .ups-room)) (omega (arith, W .ups-room, fit, held .ups, length-flat (G .ups))) (filled .0) (held .ups);
+        ups = held-stands (G .ups) (omega (arith, W .ups-room)) (omega (arith, W .ups-room, fit, held .ups, length-flat (G .ups))) (filled .0) (held .ups);
         downs =
-            added-stands (G .downs) (omega (arith, W .downs-room)) (omega (arith, W .downs-room, fit, held .downs, length-flat (G .downs))) (filled .1)
+            held-stands (G .downs) (omega (arith, W .downs-room)) (omega (arith, W .downs-room, fit, held .downs, length-flat (G .downs))) (filled .1)
             (held .downs);
         enough = rw (ups-listed, downs-listed) (omega (arith, sums .ups-sum, sums .downs-sum));
         spare = omega (arith, W .downs-room, fit, held .downs, length-flat (G .downs));
@@ -232,8 +232,8 @@ module _ {n : ℕ} {ends last before a b c : List ℕ} {fuel v j up down : ℕ} 
       → Visited (walkOf n ends a b c (suc fuel) v j up down) u d p base x′ y′ z′ r
   unfolding settle
   gathering-settled q = rw walked (record {
-    ups = rw own (added-again (omega (arith, W .ups-room)) (held .ups) (rw (ups-listed, downs-listed) at (q .ups)));
-    downs = added-again (omega (arith, W .downs-room)) (held .downs) (rw downs-listed at (q .downs));
+    ups = rw own (held-again (omega (arith, W .ups-room)) (held .ups) (rw (ups-listed, downs-listed) at (q .ups .below)));
+    downs = held-again (omega (arith, W .downs-room)) (held .downs) (rw downs-listed at (q .downs .below));
     pairs =
         rw (settled-pairs, pairs-append (G .pairs) (match (G .ups) (dropHalves down (G .downs))))
         (added-more (held .pairs) (rw (ups-listed, downs-listed) at (q .pairs)));
@@ -257,7 +257,7 @@ module _ {n : ℕ} {ends last before a b c : List ℕ} {fuel v j up down : ℕ} 
       → Visited (walkOf n ends a b c (suc fuel) v j up down) u d p base x y p r
   unfolding alone flatPairs
   visited-alone e q s k = rw (walk-terminal (links a b) n (look c) (look ends) fuel v j up down e)
-      (record { ups = q; downs = s; pairs = rw k (added-nothing p (base .pairs)) })
+      (record { ups = q .below; downs = s .below; pairs = rw k (added-nothing p (base .pairs)) })
 
 -- what comes down to an inner site is no more than its links carry
 pub down-within : {n : ℕ} {ends last before a b c : List ℕ} {fuel v j up down : ℕ} {u d p : List ℕ} {base : Tops}

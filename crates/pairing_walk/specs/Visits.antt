@@ -2,9 +2,9 @@
 -- Document 01, "Pairing", steps 1 to 4.
 use mathlib.Core.Path.{_≡_}
 use mathlib.Core.Logic.{_≢_}
-use mathlib.Core.List.{List, [], _∷_}
-use Prim.Native.Nat.{ℕ, suc, _+_, _*_, _≤_}
-use lib.ListN.{length, take}
+use mathlib.Core.List.{List, [], _∷_, _++_}
+use Prim.Native.Nat.{ℕ, suc, _+_, _-_, _*_, _≤_}
+use lib.ListN.{length, take, replicate}
 use Rattle.model.specs.Limits.{NUMBERS, SITES}
 use Rattle.lists.specs.Numbers.{look}
 use Rattle.model.specs.Flows.{Site}
@@ -20,16 +20,16 @@ use Rattle.theory_walk.specs.Children.{size}
 use Rattle.theory_walk.specs.Walk.{Start}
 use Rattle.theory_trees.specs.Leaves.{Outer}
 use Rattle.pairing_halves.specs.declared.Tops.{Tops}
-use Rattle.pairing_halves.specs.Arrays.{flat, flatPairs, Added}
+use Rattle.pairing_halves.specs.Arrays.{flat, flatPairs, Held, Added}
 
 -- the walk over a tree that is lent as lists, with its terminals
 abbrev pub walkOf : ℕ → List ℕ → List ℕ → List ℕ → List ℕ → ℕ → ℕ → ℕ → ℕ → ℕ → Part
 walkOf n ends one two c fuel v j up down = walk (links one two) n (look c) (look ends) fuel v j up down
 
--- the lists of a part are added to the three arrays
+-- the ups and downs of a part are held in their arrays, and its pairs are added to theirs
 pub record Visited (w : Part) (u d p : List ℕ) (b : Tops) (x y z : List ℕ) (r : Tops) : Type 0 where
-  pub ups : Added u (b .ups) x (r .ups) (flat (w .ups))
-  pub downs : Added d (b .downs) y (r .downs) (flat (w .downs))
+  pub ups : Held u (b .ups) x (r .ups) (flat (w .ups))
+  pub downs : Held d (b .downs) y (r .downs) (flat (w .downs))
   pub pairs : Added p (b .pairs) z (r .pairs) (flatPairs (w .pairs))
 
 -- site v of a tree with balanced capacities and chained links, as the walk comes to it, with fuel and room in the arrays for all the sites below it
@@ -84,8 +84,10 @@ pub record Spells (l : List ℕ) (e : ℕ) : Type 0 where
   pub inside : e ≤ length l
   pub whole : take e l ≡ flatPairs (spelled (take e l))
 
--- the pairs es stand in the first places of a list of SITES
-pub record Listing (es : List Pair) (r : Pairs) : Type 0 where
-  pub counted : r .count ≡ length es
-  pub places : length (r .list) ≡ SITES
-  pub held : take (r .count) (r .list) ≡ es
+-- so many pairs of zeros
+abbrev pub zeros : ℕ → List Pair
+zeros k = replicate k (record { first = 0; second = 0; amount = 0 })
+
+-- the pairs es in a list of SITES places, with pairs of zeros behind them
+unfoldable pub listing : List Pair → Pairs
+listing es = record { list = es ++ zeros (SITES - length es); count = length es }

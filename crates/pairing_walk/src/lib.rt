@@ -19,7 +19,7 @@ ghost use Rattle.model.specs.Pairing.{put, give, lowestInner};
 ghost use Rattle.pairing_halves.specs.Arrays.{flatPairs, Added};
 ghost use Rattle.tree.specs.Offer.{links};
 ghost use Rattle.pairing_walk.specs.Frames.{bottom, childOf, Entering, Entered, Coming, Passed};
-ghost use Rattle.pairing_walk.specs.Visits.{Visit, Walkable, Root, pairsOf, pairsBelow, spelledAt, spelled, Spells, Listing};
+ghost use Rattle.pairing_walk.specs.Visits.{Visit, Walkable, Root, pairsOf, pairsBelow, spelledAt, spelled, Spells, listing};
 
 // The site of lowest number that is no terminal, 0 where there is none.
 fn lowest_inner(n: usize, ends: &[u8; PLACES]) -> usize
@@ -257,10 +257,10 @@ fn pair_at(numbers: &[u64], at: usize) -> Pair
     }
 }
 
-// The pairs that the numbers below `end` spell.
+// The pairs that the numbers below `end` spell, with pairs of zeros behind them.
 fn read_pairs(numbers: &[u64], end: usize) -> Pairs
     requires { ⌜ Spells (now numbers) end ⌝ }
-    ensures { λ r. ⌜ Listing (spelled (take end (now (numbers .entry)))) r ⌝ }
+    ensures { λ r. ⌜ r ≡ listing (spelled (take end (now (numbers .entry)))) ⌝ }
 {
     let mut list = [Pair {
         first: 0,
@@ -277,7 +277,7 @@ fn read_pairs(numbers: &[u64], end: usize) -> Pairs
     Pairs { list, count }
 }
 
-// The pairs of a tree with balanced capacities, in the order in which the walk makes them.
+// The pairs of a tree with balanced capacities, in the order in which the walk makes them, with pairs of zeros behind them.
 pub fn decompose(
     n: usize,
     ends: &[u8; PLACES],
@@ -288,7 +288,7 @@ pub fn decompose(
     capacity: &[u64],
 ) -> Pairs
     requires { ⌜ Walkable n (now ends) (now last) (now before) (now one) (now two) (now capacity) ⌝ }
-    ensures { λ r. ⌜ Listing (pairsOf n (now (ends .entry)) (now (one .entry)) (now (two .entry)) (now (capacity .entry))) r ⌝ }
+    ensures { λ r. ⌜ r ≡ listing (pairsOf n (now (ends .entry)) (now (one .entry)) (now (two .entry)) (now (capacity .entry))) ⌝ }
 {
     let mut numbers = [0u64; NUMBERS];
     let end = walk_tree(n, ends, last, before, one, two, capacity, &mut numbers);

@@ -26,7 +26,8 @@ use Rattle.trimming.specs.Promise.{Promise, capacities-keep-the-promise, promis
 use Rattle.cuts_groups.specs.Places.{places, ofTerminal, length-places, look-places, of-terminal}
 use Rattle.cuts_groups.specs.Steps.{owned}
 use Rattle.cuts_groups.specs.declared.Owned.{Owned}
-use Rattle.pairing_walk.specs.Visits.{Walkable, Listing}
+use Rattle.pairing_walk.specs.Visits.{Walkable, listing}
+use Rattle.pairing_walk.specs.Laws.{listing-counts, listing-holds}
 use Rattle.pairing_order.specs.Laws.{ordering-keeps-length}
 use Rattle.sheet.specs.Sheet.{Network, accepted, readSheet}
 use Rattle.sheet.specs.SheetTheorem.{IsNetwork}
@@ -224,12 +225,13 @@ module _ {n : ℕ} {one two c : List ℕ} (w : TreeWithin largest n one two c) w
   }
 
 -- pairs put in order are the pair list
-pub pairs-in-order : (es : List Pair) (made ps : Pairs) → Listing es made
+pub pairs-in-order : (es : List Pair) (made ps : Pairs) → made ≡ listing es
     → (ps .count ≡ made .count) × (ps .list ≡ ordered (take (made .count) (made .list)) ++ drop (made .count) (made .list))
     → (take (ps .count) (ps .list) ≡ ordered es) × (ps .count ≤ length (ps .list))
 pairs-in-order es made ps l h =
-    let e : ps .list ≡ ordered es ++ drop (made .count) (made .list) = rw (l .held) at (h .1) in
-    let k : ps .count ≡ length (ordered es) = h .0 ∙ l .counted ∙ sym (ordering-keeps-length es) in (
+    let held : take (made .count) (made .list) ≡ es = rw l (listing-holds es) in
+    let e : ps .list ≡ ordered es ++ drop (made .count) (made .list) = rw held at (h .1) in
+    let k : ps .count ≡ length (ordered es) = h .0 ∙ ap (λ r. r .count) l ∙ listing-counts es ∙ sym (ordering-keeps-length es) in (
       rw (e, k) (take-at (ordered es) (drop (made .count) (made .list)) (length (ordered es)) refl),
       rw (e, k) (omega (arith, length-append (ordered es) (drop (made .count) (made .list)))),
     )

@@ -5,9 +5,10 @@ use Prim.Native.Nat.{ℕ, suc, _+_, _*_, _≤_, _<_}
 use native.Mathlib.Omega.{arith}
 use native.Mathlib.Numerals.{add-one}
 use lib.Seq.{getD-set-same, getD-set-other}
-use lib.ListN.{length, set, replicate, getD-replicate, length-set}
+use lib.ListN.{length, set, replicate, length-set}
 use Rattle.model.specs.Limits.{CHAINS, PLACES, SITES}
 use Rattle.lists.specs.Numbers.{pick, is, look}
+use Rattle.lists.specs.Places.{look-zeros}
 use Rattle.lists.specs.Sums.{pick-same, pick-other, pick-const, same?, is-same, is-other}
 use Rattle.tree.specs.Offer.{links}
 use Rattle.tree.specs.Links.{links-at-site}
@@ -28,10 +29,16 @@ pub record ChainedTo (a b : List ℕ) (j : ℕ) (last before : List ℕ) : Type 
   pub places : (length last ≡ PLACES) × (length before ≡ CHAINS)
   pub lasts : (v : ℕ) → v ≤ SITES → look last v ≡ lastAt (links a b) j v
   pub befores : (i : ℕ) → i < j → (look before (2 * i) ≡ lastAt (links a b) i (look a i)) × (look before (2 * i + 1) ≡ lastAt (links a b) i (look b i))
+  pub behind : (i : ℕ) → 2 * j ≤ i → look before i ≡ 0
 
 pub chain-start : (a b : List ℕ) → ChainedTo a b 0 (replicate PLACES 0) (replicate CHAINS 0)
 unfolding lastAt
-chain-start a b = record { places = (refl, refl); lasts = λ v h. getD-replicate PLACES v 0 0 (omega arith); befores = λ i l. absurd (omega arith) }
+chain-start a b = record {
+  places = (refl, refl);
+  lasts = λ v h. look-zeros PLACES v;
+  befores = λ i l. absurd (omega arith);
+  behind = λ i l. look-zeros CHAINS i;
+}
 
 pub chain-next : {a b : List ℕ} {j : ℕ} {last before : List ℕ} → Placed a b → j < length a → ChainedTo a b j last before
     → ChainedTo a b (j + 1) (set (set last (look a j) (j + 1)) (look b j) (j + 1))
@@ -57,4 +64,6 @@ chain-next {a} {b} {j} {last} {before} p h c =
             getD-set-other inner (2 * j + 1) (2 * i) y 0 (λ z. omega arith) ∙ getD-set-other before (2 * j) (2 * i) x 0 (λ z. omega arith) ∙ k .0,
             getD-set-other inner (2 * j + 1) (2 * i + 1) y 0 (λ z. omega arith) ∙ getD-set-other before (2 * j) (2 * i + 1) x 0 (λ z. omega arith) ∙ k .1,
           ));
+      behind = λ i l.
+          getD-set-other inner (2 * j + 1) i y 0 (λ z. omega arith) ∙ getD-set-other before (2 * j) i x 0 (λ z. omega arith) ∙ c .behind i (omega arith);
     }

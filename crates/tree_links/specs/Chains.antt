@@ -29,12 +29,13 @@ unfoldable pub lastAt : Links → ℕ → ℕ → ℕ
 lastAt ls zero v = 0
 lastAt ls (suc j) v = pick (at ls v j) 1 (suc j) (lastAt ls j v)
 
--- the last link at each site, and for link j the links before it at its first site (place 2 j) and at its second (place 2 j + 1)
+-- the last link at each site, and for link j the links before it at its first site (place 2 j) and at its second (place 2 j + 1), zeros behind them
 pub record Chained (one two last before : List ℕ) : Type 0 where
   pub placed : Placed one two
   pub lasts : (v : ℕ) → v ≤ SITES → look last v ≡ lastAt (links one two) (length one) v
   pub firsts : (j : ℕ) → j < length one → look before (2 * j) ≡ lastAt (links one two) j (look one j)
   pub others : (j : ℕ) → j < length one → look before (2 * j + 1) ≡ lastAt (links one two) j (look two j)
+  pub behind : (i : ℕ) → 2 * length one ≤ i → look before i ≡ 0
 
 -- a place for each link, with a capacity of at most SIZE
 pub record Limited (one c : List ℕ) : Type 0 where

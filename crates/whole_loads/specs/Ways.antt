@@ -44,7 +44,7 @@ module _ {n : ℕ} (order : List ℕ) {a b c : List ℕ} (w : TreeWithin largest
       }
 
   pub a-child-has-a-place : (j : ℕ) → j < length a → look child j ≤ SITES
-  a-child-has-a-place j h = P .children j (omega (arith, all)) .1
+  a-child-has-a-place j h = P .children .each j (omega (arith, all)) .1
 
   -- the notes of both ways
   module _ {ends : List ℕ} {notes : List Note} (F : Found n order parent up ends notes) where
@@ -73,7 +73,7 @@ module _ {n : ℕ} (order : List ℕ) {a b c : List ℕ} (w : TreeWithin largest
     load-is-whole j h =
         let l : j < length ls = omega (arith, all) in
         sym (link-load ls (loopless (w .tree)) (take n order) (the-order-is-inward (ordered-within {order = order} w ordered)) j (look child j) l
-        (P .children j l .0) (λ x. note notes x .load))
+        (P .children .each j l .0) (λ x. note notes x .load))
         ∙ ap (λ us. linkLoad ls us (λ x. note notes x .load) j) ordered
         ∙ ap (λ o. linkLoad ls (elimination ls n) (o .load) j) loading-is
 

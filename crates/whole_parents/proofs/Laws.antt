@@ -107,8 +107,10 @@ module _ {n : ℕ} {order a b : List ℕ} (w : Ordered n order a b) where
         (λ q. rw (q, getD-set-same child j r 0 (omega (arith, w .tree .firsts, w .tree .few))) (earlier-leads j h e, e .site))
         (λ d. rw (getD-set-other child j k r 0 d) (t k (omega arith)))
 
-  pub children-all : (child : List ℕ) → ChildrenTo (length a) child → Children ls us child
-  children-all child t j l = t j (omega (arith, length-links a b (omega (arith, w .tree .firsts, w .tree .seconds))))
+  pub children-all : (child : List ℕ) → ChildrenTo (length a) child → ((k : ℕ) → length a ≤ k → look child k ≡ 0) → Children ls us child
+  children-all child t z =
+      let m = length-links a b (omega (arith, w .tree .firsts, w .tree .seconds)) in
+      record { each = λ j l. t j (omega arith); behind = λ j l. z j (omega arith) }
 
   -- the sites of a link have places
   pub sites-within : (j : ℕ) → j < length a → (look a j ≤ SITES) × (look b j ≤ SITES)
@@ -131,7 +133,7 @@ module _ {n : ℕ} {order a b : List ℕ} (w : Ordered n order a b) where
     pub other : (j : ℕ) → j < length a → Other j
     other j h =
         let k : j < length b = omega (arith, w .tree .firsts, w .tree .seconds) in
-        let t = told j (omega (arith, length-links a b (omega (arith, w .tree .firsts, w .tree .seconds)))) in
+        let t = told .each j (omega (arith, length-links a b (omega (arith, w .tree .firsts, w .tree .seconds)))) in
         let p = links-one a b j h k in
         let q = links-two a b j h k in
         let s = sites-within j h in
@@ -156,7 +158,7 @@ module _ {n : ℕ} {order a b : List ℕ} (w : Ordered n order a b) where
         let k : j < length b = omega (arith, w .tree .firsts, w .tree .seconds) in
         let l : j < length ls = omega (arith, length-links a b (omega (arith, w .tree .firsts, w .tree .seconds))) in
         let o = other j h in
-        let up = leads-upward ls (loopless (w .tree .tree)) us (the-order-is-inward w) j c l (told j l .0) in
+        let up = leads-upward ls (loopless (w .tree .tree)) us (the-order-is-inward w) j c l (told .each j l .0) in
         same? x c
         (λ e. rw (e, getD-set-same parent c v 0 (omega arith), getD-set-same above c (look capacity j) 0 (omega arith)) record {
           low = o .low;
@@ -177,7 +179,7 @@ module _ {n : ℕ} {order a b : List ℕ} (w : Ordered n order a b) where
     settled-all parent above t =
         let m = length-links a b (omega (arith, w .tree .firsts, w .tree .seconds)) in
         let none : (x : ℕ) → ((i : ℕ) → i < length a → look child i ≢ x) → (f : ℕ → ℕ) → upward ls us x f ≡ 0 =
-        λ x d. no-child ls (loopless (w .tree .tree)) us (the-order-is-inward w) (look child) (λ j l. told j l .0) x (λ j l. d j (omega arith)) in
+        λ x d. no-child ls (loopless (w .tree .tree)) us (the-order-is-inward w) (look child) (λ j l. told .each j l .0) x (λ j l. d j (omega arith)) in
         record {
           children = told;
           parents = λ x. elim (t x .found) [ inl r ↦ r .0 | inr r ↦ r .0 ∙ sym (none x (r .2) (beyond ls x)) ];

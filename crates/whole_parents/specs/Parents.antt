@@ -46,9 +46,10 @@ pub record Leads (ls : Links) (us : List ℕ) (j c : ℕ) : Type 0 where
   pub here : at ls c j ≡ 1
   pub later : unvisited ls (from us c) j ≡ 1
 
--- the child of each link
-abbrev pub Children : Links → List ℕ → List ℕ → Type 0
-Children ls us child = (j : ℕ) → j < length ls → Leads ls us j (look child j) × (look child j ≤ SITES)
+-- the child of each link, zeros behind them
+pub record Children (ls : Links) (us child : List ℕ) : Type 0 where
+  pub each : (j : ℕ) → j < length ls → Leads ls us j (look child j) × (look child j ≤ SITES)
+  pub behind : (j : ℕ) → length ls ≤ j → look child j ≡ 0
 
 -- the child of each link; and of each site the parent and the capacity of the link to it, within the limits
 pub record ParentsOf (ls : Links) (us : List ℕ) (c : ℕ → ℕ) (child parent above : List ℕ) : Type 0 where

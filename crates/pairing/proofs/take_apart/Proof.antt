@@ -1,10 +1,12 @@
 -- `pairing::take_apart` meets its contract: a heavy link, or the pairs. The list of the ends that is lent holds the terminals.
 use mathlib.Core.Path.{refl, sym, ap, subst, _∙_}
+use Prim.Native.Nat.{_≤_}
 use native.Mathlib.Omega.{arith}
 use borrow.Author.Needs.{needs}
 use borrow.Author.Tests.{le-leb}
 use lib.ListN.{length}
 use Rattle.lists.specs.Numbers.{look}
+use Rattle.model.specs.Limits.{LINKS}
 use Rattle.model.specs.Edition.{largest}
 use Rattle.model.specs.Trimming.{Balanced}
 use Rattle.model.specs.Pairing.{pairs}
@@ -16,6 +18,8 @@ use Rattle.pairing.specs.Weighing.Heavy.{heavySomewhere, no-heavy-link-i
 use Rattle.theory_trees.specs.Leaves.{Outer}
 use Rattle.theory_trees.specs.Ends.{ends-are-outer}
 use Rattle.theory_walk.specs.PairingTheorem.{pairs-are-sound}
+use Rattle.pairing_walk.specs.Visits.{pairsOf}
+use Rattle.pairing_walk.specs.Laws.{listing-counts, listing-holds, listing-long}
 use Rattle.pairing.specs.declared.Pairing.the-variants as pairing
 use Rattle.pairing.specs.Outcome.{terminals, decide, answer, pairCount}
 use Rattle.pairing.specs.Storing.{toStore}
@@ -76,20 +80,20 @@ made c places enough =
     let w = s .pre in
     let ls = links (a .one .now) (a .two .now) in
     let m = c .decompose .ensures in
+    let es = pairsOf (a .n) (e .ends .result) (a .one .now) (a .two .now) (a .capacity .now) in
     let light : Balanced ls (terminals (a .n) (a .one .now) (a .two .now)) (look (a .capacity .now)) =
     subst (λ f. Balanced ls f (look (a .capacity .now))) (e .ends .ensures) (balanced i) in
     let same = ap (pairs ls (a .n) (look (a .capacity .now))) (e .ends .ensures) in
-    decomposition-works (a .n) (a .one .now) (a .two .now) (a .capacity .now) places w light enough _ (m .held ∙ same)
-    (omega (
+    let few : length es ≤ LINKS = omega (
       arith,
-      m .counted,
       ap length same,
       pairs-are-sound (w .tree) (terminals (a .n) (a .one .now) (a .two .now)) (look (a .capacity .now)) (ends-are-outer (w .tree)) light .few,
       length-links (a .one .now) (a .two .now) (omega (arith, w .firsts, w .seconds)),
       w .firsts,
       w .few,
-    ))
-    (m .places) refl
+    ) in
+    decomposition-works (a .n) (a .one .now) (a .two .now) (a .capacity .now) places w light enough _ (rw m (listing-holds es ∙ same))
+    (rw (m, listing-counts es) few) (rw m (listing-long es (omega (arith, few)))) refl
 
 pub take-apart-spec : {M : Type 1} → statement M
 take-apart-spec =

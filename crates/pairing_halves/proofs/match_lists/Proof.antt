@@ -52,7 +52,7 @@ ends c =
     let t = begun (c .before .before .before .before) in
     let s = t .before .before .before .loop .inv in
     let a = t .before .before .before .before .before .before .before in
-    omega (arith, match-room s (t .if1 .taken) (a .pre .room), s .pairs .as-long, a .good .1 .1 .1 .1 .0)
+    omega (arith, match-room s (t .if1 .taken) (a .pre .room), s .pairs .below .as-long, a .good .1 .1 .1 .1 .0)
 
 pub match-lists-spec : {M : Type 1} → statement M
 match-lists-spec =
@@ -67,6 +67,6 @@ match-lists-spec =
     ends
     falls
     next
-    (λ c. c .before .before .before .loop .inv .pairs .as-long)
+    (λ c. c .before .before .before .loop .inv .pairs .below .as-long)
     (λ c. let s = c .before .before .before .loop .inv in let e = match-ends s (c .if1 .left) in
     record { pairs = e .0; begins = s .begins; lies = s .ups; left = e .1 }))

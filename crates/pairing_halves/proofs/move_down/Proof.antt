@@ -40,5 +40,5 @@ move-down-spec =
     (λ c. omega arith)
     (λ c. omega arith)
     next
-    (λ c. c .before .loop .inv .moved .as-long)
+    (λ c. c .before .loop .inv .moved .below .as-long)
     at-end)

@@ -8,7 +8,7 @@ paired : tie.Need-returns
 paired c =
     let m = c .before .before .before .before .before .before in
     let added = c .before .before .push-pair .ensures in
-    (m .lesser .ensures ∙ rw (m .before .before .left .ensures, m .before .left2 .ensures), rw (added .ends) at added)
+    (m .lesser .ensures ∙ rw (m .before .before .left .ensures, m .before .left2 .ensures), rw (added .below .ends) at added)
 
 pub pair-fronts-spec : {M : Type 1} → statement M
 pair-fronts-spec =

@@ -1,5 +1,4 @@
 -- `pairing_walk::read_pairs` meets its contract: each turn reads one pair.
-use mathlib.Core.Path.{refl}
 use Prim.Native.Nat.{_+_, _-_, _<_, _≤_}
 use native.Mathlib.Omega.{arith}
 use lib.ListN.{length}
@@ -27,7 +26,7 @@ read-pairs-spec =
     (tie.spec
     Inv-loop
     μ-loop
-    (λ c. let s = c .before in reading-starts (s .args .numbers .now) (s .args .end) _ refl (s .pre))
+    (λ c. let s = c .before in reading-starts (s .args .numbers .now) (s .args .end) (s .pre))
     (λ c κs. room c .0)
     (λ c. omega (arith, room (c .before)))
     (λ c. room (c .before) .1)

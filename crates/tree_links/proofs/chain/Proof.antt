@@ -35,6 +35,7 @@ at-end c =
       lasts = λ v h. r .lasts v h ∙ ap (λ j. lastAt (links (s .args .one .now) (s .args .two .now)) j v) all;
       firsts = λ j h. r .befores j (omega arith) .0;
       others = λ j h. r .befores j (omega arith) .1;
+      behind = λ i h. r .behind i (omega arith);
     }
 
 pub chain-spec : {M : Type 1} → statement M

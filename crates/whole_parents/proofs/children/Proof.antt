@@ -1,11 +1,13 @@
 -- `children` meets its contract: after j turns the children of the first j links are told.
-use mathlib.Core.Path.{_≡_, refl}
+use mathlib.Core.Path.{_≡_, refl, _∙_}
 use mathlib.Core.List.{List}
 use Prim.Native.Nat.{ℕ, _-_, _≤_, _<_}
 use native.Mathlib.Omega.{arith}
+use lib.Seq.{getD-set-other}
 use lib.ListN.{length, length-set, take}
 use Rattle.model.specs.Limits.{SITES}
 use Rattle.lists.specs.Numbers.{look}
+use Rattle.lists.specs.Places.{look-zeros}
 use Rattle.tree.specs.Offer.{links}
 use Rattle.whole_parents.specs.Parents.{Leads, the-order-takes-no-site-twice}
 use Rattle.whole_parents.proofs.Laws.{children-next, children-all, sites-within}
@@ -15,12 +17,13 @@ use Rattle.whole_parents.proofs.children.Tie as tie
 abbrev Inv-loop : tie.InvT-loop
 Inv-loop n order one two place child₀ j₀ j-end child j =
     (j ≤ length one) × (length child ≡ SITES) × ((k : ℕ) → k < j → Leads (links one two) (take n order) k (look child k) × (look child k ≤ SITES))
+    × ((k : ℕ) → j ≤ k → look child k ≡ 0)
 
 abbrev μ-loop : tie.MeasureT-loop
 μ-loop n order one two place child₀ j₀ j-end child j = length one - j
 
 loop-holds : tie.Need-loop-holds Inv-loop μ-loop
-loop-holds c = (omega arith, refl, λ k h. absurd (omega arith))
+loop-holds c = (omega arith, refl, (λ k h. absurd (omega arith)), λ k h. look-zeros SITES k)
 
 -- link j, whose child is told in this turn
 pub record Turn (j : ℕ) (one two : List ℕ) : Type 0 where
@@ -49,13 +52,14 @@ loop-again c =
       simp length-set (top .loop .inv .1),
       children-next (s .pre) (top .before .places .result) (top .before .places .ensures) (top .loop .j) (turn t .more) (c .earlier .ensures)
           (top .loop .child) (top .loop .inv .1) (top .loop .inv .2),
+      λ k h. getD-set-other (top .loop .child) (top .loop .j) k (c .earlier .result) 0 (λ z. omega arith) ∙ top .loop .inv .3 k (omega arith),
     )
 
 returns : tie.Need-returns Inv-loop μ-loop
 returns c =
     let s = c .before .before .before .before .before in
     let all : c .before .loop .j ≡ length (s .args .one .now) = omega arith in
-    children-all (s .pre) (c .before .loop .child) (rw all at (c .before .loop .inv .2))
+    children-all (s .pre) (c .before .loop .child) (rw all at (c .before .loop .inv .2)) (λ k h. c .before .loop .inv .3 k (omega arith))
 
 pub children-spec : {M : Type 1} → statement M
 children-spec =
