@@ -78,8 +78,8 @@ uint64_t waderarmoire_order(const uint8_t *sheet, size_t sheet_len, size_t *list
  *   2  wrong heading, letter or line ending
  *   3  size above 1,000,000
  *   4  more sites than 256
- *   5  name already given to a site
- *   6  link to a name not given on a line above
+ *   5  name already given to a site (a-z read as A-Z)
+ *   6  link to a name not given on a line above (a-z read as A-Z)
  *   7  link whose sites are already joined by links above, or are one site
  *   8  fewer than two sites, or not all sites are joined
  *   9  report longer than the buffer; of the order, more sites than places in the list
