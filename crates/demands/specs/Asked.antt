@@ -20,7 +20,7 @@ use Rattle.theory_walk.specs.Sound.{arises, Ascending}
 use Rattle.sheet_kinds.specs.LineKinds.{field}
 use Rattle.sheet.specs.Sheet.{Network, refused, accepted, readSheet}
 use Rattle.sheet.specs.Causes.{fieldsAt, Refusal}
-use Rattle.sheet.specs.OwnLines.{OwnLine}
+use Rattle.sheet.specs.OwnLines.{OwnLine, OwnLinkLine}
 use Rattle.sheet.specs.Answers.{SheetNumber}
 use Rattle.sheet.specs.SheetTheorem.{IsNetwork}
 use Rattle.report.specs.Report.{report, refusalLine}
@@ -45,7 +45,7 @@ pub record FullReport (r b : List ℕ) (p : Planned) : Type 0 where
   pub length-told : lengthOf (p .outcome) ≡ length r
   pub buffer-filled : p .buffer ≡ r ++ drop (length r) b
 
--- no cause of a refusal (1 to 8, 10 to 12) holds of the sheet s
+-- no cause of a refusal (1 to 8, 10 to 13) holds of the sheet s
 abbrev pub WithoutCause : Edition → List ℕ → Type 0
 WithoutCause ed s = (k l : ℕ) → ¬ (Refusal ed s k l)
 
@@ -60,7 +60,7 @@ pub data Demand1 (text : Reporter) (ed : Edition) (s b : List ℕ) : Type 0 wher
 
 -- ---- demands 2 and 3, of a network and of what is printed for it
 
--- the report is headed by `word` and shows the sheet: the `L` lines are its links, with their sizes, and the `N` lines its sites, in its order
+-- the report is headed by `word` and shows the sheet: the `L` lines are its links, with their usable sizes, and the `N` lines its sites, in its order
 pub record ShowsSheet (word : List ℕ) (net : Network) (p : Printed) : Type 0 where
   pub heading : p .heading ≡ word
   pub links : p .links ≡ net .links
@@ -69,7 +69,7 @@ pub record ShowsSheet (word : List ℕ) (net : Network) (p : Printed) : Type 0 w
 
 -- the largest total
 pub record Demand2 (net : Network) (p : Printed) : Type 0 where
-  -- no plan that fits the link sizes, k parts to a circuit, has a larger total: in circuits, total fs / k is at most the printed total / 2
+  -- no plan that fits the usable sizes, k parts to a circuit, has a larger total: in circuits, total fs / k is at most the printed total / 2
   pub largest : (fs : List Pair) → IsPlan (siteCount net) (isEnd net) fs → (k : ℕ) → 1 ≤ k → Fits (net .links) k (look (net .capacities)) fs
       → 2 * total fs ≤ k * p .total
   -- the printed pairs are a plan in halves, each pair once; it fits, and it reaches that total
@@ -80,7 +80,7 @@ pub record Demand2 (net : Network) (p : Printed) : Type 0 where
   -- on no more pairs than there are links; the pair count is the number of `P` lines
   pub few : length (p .plan) ≤ length (net .links)
   pub counted : p .pairCount ≡ length (p .plan)
-  -- the printed set of an end a is what a reaches over links whose printed trimmed size is below the given one
+  -- the printed set of an end a is what a reaches over links whose printed trimmed size is below the usable one (01: below the given size)
   pub set-members : (a x : ℕ) → Site (siteCount net) a → isEnd net a ≡ 1 → Site (siteCount net) x
       → (printedOwner p x ≡ a) ↔ (inCut (net .links) (look (net .capacities)) (printedTrimmed p) a x ≡ 1)
   -- `-` exactly where no end set holds the site
@@ -107,7 +107,7 @@ pub record InOrder (net : Network) (p : Printed) : Type 0 where
 
 -- the trimmed sizes
 pub record Demand3 (net : Network) (p : Printed) : Type 0 where
-  -- whatever plan fits the link sizes, k parts to a circuit: its load on each link is at most that link's printed trimmed size
+  -- whatever plan fits the usable sizes, k parts to a circuit: its load on each link is at most that link's printed trimmed size
   pub bounded : (fs : List Pair) → IsPlan (siteCount net) (isEnd net) fs → (k : ℕ) → 1 ≤ k → Fits (net .links) k (look (net .capacities)) fs
       → (j : ℕ) → j < length (net .links) → load (net .links) fs j ≤ k * printedTrimmed p j
   -- the printed plan fits too, and its load, in halves, is twice the printed trimmed size on every link at once
@@ -118,6 +118,11 @@ pub record Demand3 (net : Network) (p : Printed) : Type 0 where
   pub trimmed : p .shown ≡ balanced (net .links) (siteCount net) (isEnd net) (net .capacities)
 
 -- ---- all of it, of the bytes told or printed
+
+-- the printed size of each link is the usable size on the link's own line: the size there less the reserve there, or the size where there is no
+-- reserve (02, Card 5: the `L` line of a report prints the usable size as its fourth field)
+abbrev pub SizesAsGiven : Edition → List ℕ → Network → Printed → Type 0
+SizesAsGiven ed s net p = (j : ℕ) → j < length (net .links) → OwnLinkLine ed s j (getD (net .links) j (0, 0)) (look (p .sizes) j)
 
 -- a name f in a report is spelt as on the `N` line of its site (02, Card 4): some site has the name f, in either case, and f is the name on that
 -- site's own line, byte for byte
@@ -136,19 +141,21 @@ pub record NamesAsGiven (ed : Edition) (s : List ℕ) (net : Network) (r : List 
   pub sets : Each (λ l. SpeltAsGiven ed s net (field l 1)) (headed (bytes "X") (records r))
   pub pairs : Each (λ l. SpeltAsGiven ed s net (field l 1) × SpeltAsGiven ed s net (field l 2)) (headed (bytes "P") (records r))
 
--- the bytes r are the full report on the sheet s: that of its network, a tree; they show the sheet, spell its names as given and meet demands 2 and 3
+-- the bytes r are the full report on the sheet s: that of its network, a tree; they show the sheet, with the usable sizes of its links, spell its names as
+-- given and meet demands 2 and 3
 pub record IsReport (ed : Edition) (s r : List ℕ) : Type 0 where
   pub net : Network
   pub read : readSheet ed s ≡ accepted net
   pub network : IsNetwork ed s net
   pub whole : r ≡ report s net
   pub shows-the-sheet : ShowsSheet (bytes "plan") net (readReport s net r)
+  pub sizes : SizesAsGiven ed s net (readReport s net r)
   pub names : NamesAsGiven ed s net r
   pub meets-demand-2 : Demand2 net (readReport s net r)
   pub is-in-order : InOrder net (readReport s net r)
   pub meets-demand-3 : Demand3 net (readReport s net r)
 
--- the bytes r are the line of a refusal of the sheet s: one line, `refused`, a number of the table (1 to 8, 10 to 12) and a line; the number
+-- the bytes r are the line of a refusal of the sheet s: one line, `refused`, a number of the table (1 to 8, 10 to 13) and a line; the number
 -- and the line read off it have their cause
 pub record IsRefusal (ed : Edition) (s r : List ℕ) : Type 0 where
   pub one-line : length (records r) ≡ 1

@@ -18,9 +18,9 @@ use Rattle.sheet.specs.Sheet.{Network, accepted, readSheet}
 use Rattle.sheet.specs.SheetTheorem.{IsNetwork}
 use Rattle.report.specs.Report.{wholeReport}
 use Rattle.demands.specs.Printed.{IsPlan, siteCount, isEnd, endsAmong, Printed, readReport, printedLoad, printedOwner, setSize, sizeSum}
-use Rattle.demands.specs.Asked.{ShowsSheet, NamesAsGiven, InOrder}
+use Rattle.demands.specs.Asked.{ShowsSheet, SizesAsGiven, NamesAsGiven, InOrder}
 
--- a plan in whole circuits that fits the link sizes (02: a fitting plan whose amounts are all even in halves)
+-- a plan in whole circuits that fits the usable sizes (02: a fitting plan whose amounts are all even in halves)
 pub record FittingWhole (net : Network) (fs : List Pair) : Type 0 where
   pub plan : IsPlan (siteCount net) (isEnd net) fs
   pub even : Each (λ e. Even (e .amount)) fs
@@ -62,13 +62,15 @@ pub record PrintedSets (net : Network) (p : Printed) : Type 0 where
       → p .total + oddPieces (net .links) (siteCount net) (look (net .capacities)) owner
       ≤ setSizes (net .links) (siteCount net) (isEnd net) (look (net .capacities)) owner
 
--- the bytes r are the full report in whole circuits on the sheet s: that of its network, a tree; they show the sheet and all that the card asks
+-- the bytes r are the full report in whole circuits on the sheet s: that of its network, a tree; they show the sheet, with the usable sizes of its
+-- links, and all that the card asks
 pub record IsWholeReport (ed : Edition) (s r : List ℕ) : Type 0 where
   pub net : Network
   pub read : readSheet ed s ≡ accepted net
   pub network : IsNetwork ed s net
   pub text : r ≡ wholeReport s net
   pub shows-the-sheet : ShowsSheet (bytes "whole") net (readReport s net r)
+  pub sizes : SizesAsGiven ed s net (readReport s net r)
   pub names : NamesAsGiven ed s net r
   pub has-a-largest-plan : LargestPlan net (readReport s net r)
   pub is-in-order : InOrder net (readReport s net r)

@@ -1,7 +1,7 @@
 -- The three demands hold: `demand-1`, `demand-2`, `demand-3` and the theorems beside them, over the bytes that planning leaves in the buffer.
 -- `a-success-is-a-full-report` has all that holds of a report; `the-program-prints-a-full-report-or-the-cause` is of the bytes that the program prints.
 -- What they ask is stated in `Asked`, a page of definitions without proofs; planning (`planned`) and the program's answer (`answered`) are in `Outcome`.
-use mathlib.Core.Path.{_≡_, refl, ap}
+use mathlib.Core.Path.{_≡_, refl, sym, ap, _∙_}
 use mathlib.Core.Logic.{_↔_}
 use mathlib.Core.List.{List}
 use Prim.Native.Nat.{ℕ, _≤_, _<_}
@@ -25,7 +25,7 @@ use Rattle.sheet.specs.SheetTheorem.{an-accepted-sheet-is-a-tree}
 use Rattle.report.specs.Report.{report}
 use Rattle.planner.specs.Small.{a-report-is-small}
 use Rattle.planner.specs.Outcome.{number, Reporter, plannedBy, planned, answered}
-use Rattle.demands.specs.Printed.{IsPlan, bytesTold, printedBy, bytesPrinted}
+use Rattle.demands.specs.Printed.{IsPlan, siteCount, isEnd, bytesTold, printedBy, printedTrimmed, bytesPrinted}
 pub use Rattle.demands.specs.Asked.{Demand1, faulty-sheet, long-report, full-report, ShowsSheet, Demand2, InOrder, Demand3, IsReport}
 pub use Rattle.demands.specs.Asked.{Refused, FullReport, WithoutCause, IsRefusal, Prints, a-full-report, a-refusal}
 use Rattle.demands.specs.Met.{a-refused-sheet-meets-demand-1, a-long-report-meets-demand-1}
@@ -117,6 +117,26 @@ module _ (ed : Edition) (s b : List ℕ) (net : Network) (read : readSheet ed s 
 
   pub demand-3 : Demand3 net (printedBy s net (planned ed s b))
   demand-3 = rw (the-plan-is-printed ed s b net read success) (plan-meets-demand-3 (an-accepted-sheet-is-a-tree ed s net read))
+
+-- two accepted sheets of one tree, their reports printed: the plans that fit the usable sizes of the first are those that fit the usable sizes of the
+-- second exactly if the printed trimmed sizes agree on every link (02, Card 5: a fact about usable sizes)
+module _ (ed : Edition) (s b t d : List ℕ) (net other : Network) (read : readSheet ed s ≡ accepted net) (read-other : readSheet ed t ≡ accepted other)
+    (success : number (planned ed s b .outcome) ≡ 0) (success-other : number (planned ed t d .outcome) ≡ 0)
+    (links : other .links ≡ net .links) (sites : siteCount other ≡ siteCount net) where
+  pub two-sheets-of-a-tree-admit-the-same-plans-exactly-if-the-printed-trimmed-sizes-agree :
+      ((fs : List Pair) → IsPlan (siteCount net) (isEnd net) fs → (k : ℕ) → 1 ≤ k
+      → Fits (net .links) k (look (net .capacities)) fs ↔ Fits (net .links) k (look (other .capacities)) fs)
+      ↔ ((j : ℕ) → j < length (net .links)
+      → printedTrimmed (printedBy s net (planned ed s b)) j ≡ printedTrimmed (printedBy t other (planned ed t d)) j)
+  two-sheets-of-a-tree-admit-the-same-plans-exactly-if-the-printed-trimmed-sizes-agree =
+      let T = an-accepted-sheet-is-a-tree ed s net read .tree in
+      let own = demand-3 ed s b net read success .trimmed in
+      let same : printedBy t other (planned ed t d) .shown ≡ balanced (net .links) (siteCount net) (isEnd net) (other .capacities)
+      = demand-3 ed t d other read-other success-other .trimmed ∙ rw (links, sites) in
+      let law = the-same-plans-fit-a-tree-exactly-if-its-trimmed-sizes-agree T (net .capacities) (other .capacities) in (
+        λ plans j l. ap (λ t. look t j) own ∙ law .0 plans j l ∙ sym (ap (λ t. look t j) same),
+        λ agree. law .1 (λ j l. sym (ap (λ t. look t j) own) ∙ agree j l ∙ ap (λ t. look t j) same),
+      )
 
 the-report-is-full-and-fits : (s : List ℕ) (net : Network) → readSheet edition1 s ≡ accepted net
     → IsReport edition1 s (report s net) × (length (report s net) ≤ REPORT)

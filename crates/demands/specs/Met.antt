@@ -20,12 +20,13 @@ use Rattle.theory_trees.specs.Bounds.{what-fits-fits-the-balanced, a-full-multi
 use Rattle.theory_walk.specs.PairingTheorem.{pair-list-ascends, pair-list-lower-first}
 use Rattle.sheet_kinds.specs.LineKinds.{field}
 use Rattle.sheet.specs.Sheet.{Network, Read, refused, accepted, readSheet}
+use Rattle.sheet.specs.OwnLines.{a-link-stands-on-its-own-line}
 use Rattle.sheet.specs.SheetTheorem.{IsNetwork, an-accepted-sheet-is-a-tree, a-sheet-is-refused-for-its-cause}
 use Rattle.report.specs.Report.{report, refusalLine}
 use Rattle.planner.specs.Outcome.{number, Reporter, planned, Answer, answeredBy}
 use Rattle.planner.specs.Figures.{Figures, halves, Showable, figures-have-sound-pairs, trimmed-are-greatest, halves-can-be-shown}
 use Rattle.demands.specs.Printed.{siteCount, isEnd, endsAmong, readReport, printedBy, bytesPrinted}
-use Rattle.demands.specs.Asked.{WithoutCause, Demand1, ShowsSheet, Demand2, InOrder, Demand3, IsReport, IsRefusal}
+use Rattle.demands.specs.Asked.{WithoutCause, Demand1, ShowsSheet, SizesAsGiven, Demand2, InOrder, Demand3, IsReport, IsRefusal}
 use Rattle.demands.specs.Asked.{faulty-sheet, long-report, full-report, Prints, a-full-report, a-refusal}
 use Rattle.demands.specs.Lists.{map-own}
 use Rattle.demands.specs.Plans.{multiflow-is-plan, plan-is-multiflow, fullPlan, trimmed-is-greatest, full-plan-is-sound, full-plan-fits}
@@ -65,6 +66,11 @@ module _ (text : Reporter) (ed : Edition) (s b : List ℕ) where
 pub figures-show-sheet : (net : Network) (f : Figures) → ShowsSheet (f .word) net (figuresSay net f)
 unfolding figuresSay
 figures-show-sheet net f = record { heading = refl; links = refl; sizes = refl; sites-shown = refl }
+
+pub figures-show-usable-sizes : (ed : Edition) (s : List ℕ) (net : Network) → readSheet ed s ≡ accepted net → (f : Figures)
+    → SizesAsGiven ed s net (figuresSay net f)
+unfolding figuresSay
+figures-show-usable-sizes ed s net read f = a-link-stands-on-its-own-line ed s net read
 
 -- the `X` lines are those of the ends
 pub a-set-is-told-for-each-end : (net : Network) (f : Figures) → let ends = endsAmong (isEnd net) (sites (siteCount net)) in
@@ -149,6 +155,7 @@ the-report-is-full ed s net read =
       network = N;
       whole = refl;
       shows-the-sheet = rw said (plan-shows-sheet N);
+      sizes = rw said (figures-show-usable-sizes ed s net read (halves net));
       names = the-report-spells-names-as-given ed s net read;
       meets-demand-2 = rw said (plan-meets-demand-2 N);
       is-in-order = rw said (plan-is-in-order N);

@@ -63,7 +63,7 @@ module _ (text : Reporter) (ed : Edition) (s b : List ℕ) where
       rw (sheet-refused k l e, stored)
 
 -- the line of a refusal is shorter than a report may be
-pub a-refusal-is-small : (k l : ℕ) → k ≤ 12 → l ≤ BYTES → length (refusalLine k l) ≤ REPORT
+pub a-refusal-is-small : (k l : ℕ) → k ≤ 13 → l ≤ BYTES → length (refusalLine k l) ≤ REPORT
 unfolding refusalLine line
 a-refusal-is-small k l few low = omega (
   arith,

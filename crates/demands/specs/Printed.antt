@@ -96,7 +96,7 @@ pub record EndSet : Type 0 where
   pub size : ℕ
   pub count : ℕ
 
--- what a report says: line 1 (heading, total in halves, number of pairs); of the `L` lines the two sites, the given size and the size shown;
+-- what a report says: line 1 (heading, total in halves, number of pairs); of the `L` lines the two sites, the usable size and the size shown;
 -- of the `N` lines the site, the end whose set holds it, 0 for `-`, and 1 where `-` stands; the `X` lines; of the `Q` lines the number;
 -- the `P` lines (two sites, amount in halves)
 pub record Printed : Type 0 where
@@ -179,7 +179,7 @@ printedOwner p v = look (p .owners) (v - 1)
 abbrev pub printedDash : Printed → ℕ → ℕ
 printedDash p v = look (p .dashes) (v - 1)
 
--- the size of the printed set of end a: the printed given sizes of the links with just one of their sites in it (01: size of a set)
+-- the size of the printed set of end a: the printed usable sizes of the links with just one of their sites in it (01: size of a set)
 abbrev pub setSize : Printed → ℕ → ℕ
 setSize p a = sizeBy (p .links) (look (p .sizes)) (printedOwner p) a
 

@@ -22,7 +22,7 @@ use Rattle.demands.specs.Plans.{multiflow-is-plan, plan-is-multiflow}
 use Rattle.demands.specs.ReadBack.{figuresSay, figures-read-back}
 use Rattle.demands.specs.Spelling.{the-whole-report-spells-names-as-given}
 use Rattle.demands.specs.Sets.{setBy, sizes-summed, told-sets-are-owned, the-owner-told-is-the-owner}
-use Rattle.demands.specs.Met.{figures-show-sheet, figures-are-in-order, a-set-is-told-for-each-end}
+use Rattle.demands.specs.Met.{figures-show-sheet, figures-show-usable-sizes, figures-are-in-order, a-set-is-told-for-each-end}
 
 -- what the report in whole circuits says
 abbrev pub wholeSays : Network → Printed
@@ -121,6 +121,7 @@ the-whole-report-is-full ed s net read =
       network = N;
       text = refl;
       shows-the-sheet = rw said (figures-show-sheet net (wholes net));
+      sizes = rw said (figures-show-usable-sizes ed s net read (wholes net));
       names = the-whole-report-spells-names-as-given ed s net read;
       has-a-largest-plan = rw said (whole-has-a-largest-plan net (N .tree));
       is-in-order = rw said (figures-are-in-order N (wholes net) (wholes-can-be-shown net (N .tree)));

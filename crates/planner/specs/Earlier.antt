@@ -1,6 +1,7 @@
--- What Cards 1 and 4 changed in planning (document 02), for either report, every sheet and every buffer. By the numbering from before, which gave 2 for each
--- fault of form, outcome and buffer are today's, but that 2 stands for 10, 11 and 12; by the look-up from before, which went by the bytes of names, they are
--- today's wherever no two names differ in case alone. Since sheets are read so, and a report that is too long is told as 9.
+-- What Cards 1, 4 and 5 changed in planning (document 02), for either report, every sheet and every buffer. By the numbering from before, which gave 2 for
+-- each fault of form, outcome and buffer are today's, but that 2 stands for 10, 11 and 12; by the look-up from before, which went by the bytes of names, they
+-- are today's wherever no two names differ in case alone; by the link lines from before, of four fields, they are today's wherever no link line has a
+-- reserve. Since sheets are read so, and a report that is too long is told as 9.
 use mathlib.Core.Bool.{Bool, true, false, cond}
 use mathlib.Core.List.{List}
 use mathlib.Core.Path.{_≡_, refl}
@@ -9,16 +10,17 @@ use lib.Dec.{leb}
 use lib.ListN.{length}
 use Rattle.model.specs.declared.Edition.{Edition}
 use Rattle.sheet.specs.Sheet.{Read, refused, accepted, readSheet, lookup}
-use Rattle.sheet.specs.Earlier.{Check, faultOf, faultBefore, Lookup, lookupBytes, readSheetBy}
-use Rattle.sheet.specs.Renumbered.{numberBefore, readBefore, a-sheet-is-read-by-the-numbering, a-sheet-is-read-as-before}
+use Rattle.sheet.specs.Earlier.{Kinds, kind, kindBefore, kindUnreserved, Lookup, lookupBytes, readSheetBy}
+use Rattle.sheet.specs.Renumbered.{numberBefore, readBefore, a-sheet-is-read-by-its-kinds, a-sheet-is-read-as-before}
+use Rattle.sheet.specs.Reserves.{WithoutReserves, a-sheet-without-reserves-is-read-as-before}
 use Rattle.sheet.specs.Spelling.{SpeltAlike, a-sheet-spelt-alike-is-read-as-before}
 use Rattle.planner.specs.Outcome.{Planned, Reporter, deliver, planRead, plannedBy}
 use Rattle.planner.specs.declared.Outcome.{Outcome}
 use Rattle.planner.specs.declared.Outcome.the-variants.{Report, Refused}
 
--- planning by a numbering of the form faults and a look-up of names: `plannedBy` is that by `faultOf` and `lookup`
-unfoldable pub plannedReading : (Check → ℕ) → Lookup → Reporter → Edition → List ℕ → List ℕ → Planned
-plannedReading numbering find text ed s b = planRead text s b (readSheetBy numbering find ed s)
+-- planning by kinds of lines and a look-up of names: `plannedBy` is that by `kind` and `lookup`
+unfoldable pub plannedReading : Kinds → Lookup → Reporter → Edition → List ℕ → List ℕ → Planned
+plannedReading kinds find text ed s b = planRead text s b (readSheetBy kinds find ed s)
 
 -- the outcome before: 2 for 10, 11 and 12, at the same line; everything else stays, and so does the buffer
 abbrev pub outcomeBefore : Outcome → Outcome
@@ -42,17 +44,22 @@ module _ (text : Reporter) (ed : Edition) (s b : List ℕ) where
   read-before (refused n k) = refl
   read-before (accepted net) = delivered-stays (text s net)
 
-  -- today's planning is the one by today's numbering and look-up
-  pub a-sheet-is-planned-by-the-numbering : plannedReading faultOf lookup text ed s b ≡ plannedBy text ed s b
+  -- today's planning is the one by today's kinds of lines and look-up
+  pub a-sheet-is-planned-by-its-kinds : plannedReading kind lookup text ed s b ≡ plannedBy text ed s b
   unfolding plannedReading plannedBy
-  a-sheet-is-planned-by-the-numbering = rw (a-sheet-is-read-by-the-numbering ed s)
+  a-sheet-is-planned-by-its-kinds = rw (a-sheet-is-read-by-its-kinds ed s)
 
   -- what was told as 2 before is told as one of 2, 10, 11, 12 now, at the same line; every other outcome, and the buffer, is as it was
-  pub a-sheet-is-planned-as-before : plannedReading faultBefore lookup text ed s b ≡ plannedBefore (plannedBy text ed s b)
+  pub a-sheet-is-planned-as-before : plannedReading kindBefore lookup text ed s b ≡ plannedBefore (plannedBy text ed s b)
   unfolding plannedReading plannedBy
   a-sheet-is-planned-as-before = rw (a-sheet-is-read-as-before ed s) (read-before (readSheet ed s))
 
   -- a sheet on which no two names differ in case alone, and whose link lines spell as its site lines do, gets the outcome and the buffer that it had
-  pub a-sheet-spelt-alike-is-planned-as-before : SpeltAlike s → plannedReading faultOf lookupBytes text ed s b ≡ plannedBy text ed s b
+  pub a-sheet-spelt-alike-is-planned-as-before : SpeltAlike s → plannedReading kind lookupBytes text ed s b ≡ plannedBy text ed s b
   unfolding plannedReading plannedBy
   a-sheet-spelt-alike-is-planned-as-before alike = rw (a-sheet-spelt-alike-is-read-as-before ed s alike)
+
+  -- a sheet without reserves gets the outcome and the buffer that it had
+  pub a-sheet-without-reserves-is-planned-as-before : WithoutReserves s → plannedReading kindUnreserved lookup text ed s b ≡ plannedBy text ed s b
+  unfolding plannedReading plannedBy
+  a-sheet-without-reserves-is-planned-as-before none = rw (a-sheet-without-reserves-is-read-as-before ed s none)

@@ -72,7 +72,7 @@ cause-length n =
     let P : List ℕ → Type 0 = λ t. length t ≤ 78 in
     pick-cases P n 1 _ _ (λ e. limit-length (bytes "no bytes, or more than ") BYTES (omega arith) (omega arith))
     (λ d. pick-cases P n 2 _ _ (λ e. omega arith)
-    (λ d. pick-cases P n 3 _ _ (λ e. limit-length (bytes "size above ") SIZE (omega arith) (omega arith))
+    (λ d. pick-cases P n 3 _ _ (λ e. limit-length (bytes "size or reserve above ") SIZE (omega arith) (omega arith))
     (λ d. pick-cases P n 4 _ _ (λ e. limit-length (bytes "more sites than ") SITES (omega arith) (omega arith))
     (λ d. pick-cases P n 5 _ _ (λ e. omega arith)
     (λ d. pick-cases P n 6 _ _ (λ e. omega arith)
@@ -82,7 +82,8 @@ cause-length n =
     (λ d. pick-cases P n 10 _ _ (λ e. omega arith)
     (λ d. pick-cases P n 11 _ _ (λ e. omega arith)
     (λ d. pick-cases P n 12 _ _ (λ e. omega arith)
-    (λ d. omega arith))))))))))))
+    (λ d. pick-cases P n 13 _ _ (λ e. omega arith)
+    (λ d. omega arith)))))))))))))
 
 -- the line of any refusal
 pub words-are-short : (number l : ℕ) → l < 2 ^ 64 → length (words number l) ≤ 130

@@ -33,7 +33,7 @@ unfoldable pub cause : ℕ → List ℕ
 cause n =
     pick n 1 (bytes "no bytes, or more than " ++ grouped BYTES)
     (pick n 2 (bytes "wrong heading, letter or line ending")
-    (pick n 3 (bytes "size above " ++ grouped SIZE)
+    (pick n 3 (bytes "size or reserve above " ++ grouped SIZE)
     (pick n 4 (bytes "more sites than " ++ grouped SITES)
     (pick n 5 (bytes "name already given to a site")
     (pick n 6 (bytes "link to a name not given on a line above")
@@ -43,7 +43,8 @@ cause n =
     (pick n 10 (bytes "wrong number of fields")
     (pick n 11 (bytes "a name is not 1 to 12 letters or digits")
     (pick n 12 (bytes "a number is not written in decimal without a leading zero")
-    (bytes "a cause without words"))))))))))))
+    (pick n 13 (bytes "reserve above the size")
+    (bytes "a cause without words")))))))))))))
 
 -- the whole line
 unfoldable pub words : ℕ → ℕ → List ℕ

@@ -69,7 +69,7 @@ fn put_cause(buf: &mut [u8], at: usize, number: u64) -> usize
     match number {
         1 => put_limit(buf, at, b"no bytes, or more than", BYTES as u64),
         2 => put_bytes(buf, at, b"wrong heading, letter or line ending", b'\n'),
-        3 => put_limit(buf, at, b"size above", SIZE),
+        3 => put_limit(buf, at, b"size or reserve above", SIZE),
         4 => put_limit(buf, at, b"more sites than", SITES as u64),
         5 => put_bytes(buf, at, b"name already given to a site", b'\n'),
         6 => put_bytes(buf, at, b"link to a name not given on a line above", b'\n'),
@@ -94,6 +94,7 @@ fn put_cause(buf: &mut [u8], at: usize, number: u64) -> usize
             b"a number is not written in decimal without a leading zero",
             b'\n',
         ),
+        13 => put_bytes(buf, at, b"reserve above the size", b'\n'),
         _ => put_bytes(buf, at, b"a cause without words", b'\n'),
     }
 }

@@ -1,5 +1,5 @@
--- What reading a sheet answers, in both directions: a number at a line just for its cause, 0 just without one. Numbers are 1 to 8 or 10 to 12, and a
--- line at fault is one of the sheet. Document 01, "The network sheet" (the table's columns "No." and "Returned"); 02, Card 1. By the causes, one by one.
+-- What reading a sheet answers, in both directions: a number at a line just for its cause, 0 just without one. Numbers are 1 to 8 or 10 to 13, and a
+-- line at fault is one of the sheet. Document 01, "The network sheet" (the table's columns "No." and "Returned"); 02, Cards 1 and 5. By the causes, one by one.
 use mathlib.Core.List.{List}
 use mathlib.Core.Logic.{_↔_, _≢_}
 use mathlib.Core.Path.{_≡_, refl}
@@ -13,7 +13,7 @@ use Rattle.text_lines.specs.LineLaws.{after-line-is-later}
 use Rattle.sheet.specs.Sheet.{Network, empty, Read, refused, accepted, readSheet}
 use Rattle.sheet.specs.Reading.{lists, reading}
 use Rattle.sheet.specs.Causes.{Cause, unended, no-heading, second-heading, no-letter, wrong-count, bad-name, bad-number}
-use Rattle.sheet.specs.Causes.{too-large, too-many, given, not-given, already-joined}
+use Rattle.sheet.specs.Causes.{too-large, too-much-held, too-many, given, not-given, already-joined}
 use Rattle.sheet.specs.Causes.{Reached, start, next, Refusal, by-length, by-line, by-whole}
 use Rattle.sheet.specs.SheetTheorem.{a-sheet-is-refused-for-its-cause}
 use Rattle.sheet.specs.declared.Answer.{Answer}
@@ -34,10 +34,10 @@ line (Refused n k) = k
 abbrev pub Tells : Read → ℕ → ℕ → Type 0
 Tells r n k = (number (reading r .answer) ≡ n) × (line (reading r .answer) ≡ k)
 
--- a number with which a sheet is refused: 1 to 8, or 10 to 12; never 0, which is success, nor 9, which is the buffer's
+-- a number with which a sheet is refused: 1 to 8, or 10 to 13; never 0, which is success, nor 9, which is the buffer's
 pub record SheetNumber (n : ℕ) : Type 0 where
   pub some : 1 ≤ n
-  pub known : n ≤ 12
+  pub known : n ≤ 13
   pub not-nine : n ≢ 9
 
 -- ---- how large they are
@@ -58,6 +58,7 @@ module _ (ed : Edition) (s : List ℕ) where
   cause-has-a-sheet-number (bad-name h d is) = record { some = omega arith; known = omega arith; not-nine = λ e. omega arith }
   cause-has-a-sheet-number (bad-number h d is) = record { some = omega arith; known = omega arith; not-nine = λ e. omega arith }
   cause-has-a-sheet-number (too-large h d is) = record { some = omega arith; known = omega arith; not-nine = λ e. omega arith }
+  cause-has-a-sheet-number (too-much-held h d is) = record { some = omega arith; known = omega arith; not-nine = λ e. omega arith }
   cause-has-a-sheet-number (too-many h d is l) = record { some = omega arith; known = omega arith; not-nine = λ e. omega arith }
   cause-has-a-sheet-number (given h d is l v f) = record { some = omega arith; known = omega arith; not-nine = λ e. omega arith }
   cause-has-a-sheet-number (not-given h d is o) = record { some = omega arith; known = omega arith; not-nine = λ e. omega arith }

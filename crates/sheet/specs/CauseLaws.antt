@@ -29,18 +29,18 @@ use Rattle.sheet.specs.declared.stepping.Step.the-variants.{Nothing, Sit
 use Rattle.sheet_names.specs.LookupLaws.{Says, lookup-says}
 use Rattle.sheet.specs.Sound.{Sound, part-of-line}
 use Rattle.sheet.specs.Causes.{Named, NotGiven, Ended, Cause, unended, no-heading, second-heading, no-letter, wrong-count, bad-name, bad-number}
-use Rattle.sheet.specs.Causes.{too-large, too-many, given, not-given, already-joined, fieldsAt}
+use Rattle.sheet.specs.Causes.{too-large, too-much-held, too-many, given, not-given, already-joined, fieldsAt}
 use Rattle.sheet_names.specs.declared.Found.{Found}
 use Rattle.sheet_names.specs.declared.Found.the-variants.{At, Absent}
 
 -- ---- look-ups
 
 -- what a look-up finds is the site of that name
-abbrev Finds : List ℕ → List (ℕ × ℕ) → List ℕ → Found → Type 0
+abbrev pub Finds : List ℕ → List (ℕ × ℕ) → List ℕ → Found → Type 0
 Finds s names f (At v) = Named s names f v
 Finds s names f Absent = NotGiven s names f
 
-finds : (s f : List ℕ) (names : List (ℕ × ℕ)) → Finds s names f (lookup s names f)
+pub finds : (s f : List ℕ) (names : List (ℕ × ℕ)) → Finds s names f (lookup s names f)
 finds s f names = by (lookup s names f) (lookup-says s f names 1)
   where
     by : (w : Found) → Says s names 1 f w → Finds s names f w
@@ -140,6 +140,7 @@ module _ (ed : Edition) (s : List ℕ) (net : Network) (k at : ℕ) where
     fault-right n (faulty.bad-name f) = bad-name h d f
     fault-right n (faulty.bad-number f) = bad-number h d f
     fault-right n (faulty.too-large f) = too-large h d f
+    fault-right n (faulty.too-much-held f) = too-much-held h d f
 
     record-right : (w : Line) → kind (ed .size) (lineAt s at) ≡ w → Tells (ed .size) (lineAt s at) w → Right (recordStep ed s net k at w)
     unfolding recordStep
@@ -221,6 +222,7 @@ module _ (ed : Edition) (s : List ℕ) (net : Network) (k at : ℕ) where
   step-of-a-cause sound n (bad-name h d f) = at-fault h d 11 (faulty.bad-name f)
   step-of-a-cause sound n (bad-number h d f) = at-fault h d 12 (faulty.bad-number f)
   step-of-a-cause sound n (too-large h d f) = at-fault h d 3 (faulty.too-large f)
+  step-of-a-cause sound n (too-much-held h d f) = at-fault h d 13 (faulty.too-much-held f)
   step-of-a-cause sound n (too-many h d is l) = later h d _ (a-site-by-its-form (ed .size) (lineAt s at) is) ∙ rw (le-leb _ _ l)
   step-of-a-cause sound n (given h d is l v f) =
       later h d _ (a-site-by-its-form (ed .size) (lineAt s at) is)

@@ -1,5 +1,5 @@
--- Reading by another numbering of the form faults and another look-up of names: what the sentences of document 02 about what was before are said with
--- (Cards 1 and 4). Today's reading is the one by `faultOf` and `lookup`.
+-- Reading by other kinds of lines and another look-up of names: what the sentences of document 02 about what was before are said with (Cards 1, 4 and 5).
+-- Today's reading is the one by `kind` and `lookup`.
 use mathlib.Core.Bool.{cond, _&&_}
 use mathlib.Core.List.{List, [], _∷_}
 use mathlib.Core.Path.{_≡_, refl}
@@ -9,9 +9,9 @@ use lib.ListN.{length, drop}
 use Rattle.model.specs.declared.Edition.{Edition}
 use Rattle.text_fields.specs.Fields.{same}
 use Rattle.text_lines.specs.Lines.{lineLength, lineAt, afterLine, hasLine}
-pub use Rattle.sheet_kinds.specs.LineKinds.{faultOf}
-pub use Rattle.sheet_kinds.specs.Numbering.{Check, faultBefore}
-use Rattle.sheet_kinds.specs.Numbering.{kindBy}
+pub use Rattle.sheet_kinds.specs.LineKinds.{kind}
+unfoldable pub use Rattle.sheet_kinds.specs.Numbering.{kindBy, faultBefore}
+pub use Rattle.sheet_kinds.specs.Unreserved.{kindUnreserved}
 use Rattle.sheet_kinds.specs.declared.Line.{Line}
 use Rattle.sheet_kinds.specs.declared.Line.the-variants as line
 use Rattle.sheet_names.specs.declared.Found.{Found}
@@ -19,6 +19,14 @@ use Rattle.sheet_names.specs.declared.Found.the-variants.{At, Absent}
 use Rattle.sheet.specs.Sheet.{Network, empty, Read, refused, accepted, siteStep, linkStep, headingStep, recordStep, added, andThen, finish, part, lookup}
 use Rattle.sheet.specs.declared.stepping.Step.{Step}
 use Rattle.sheet.specs.declared.stepping.Step.the-variants.{Refused}
+
+-- what a line is, sizes being within a limit
+abbrev pub Kinds : Type 0
+Kinds = ℕ → List ℕ → Line
+
+-- the kinds from before Card 1, by which every fault of form is 2
+abbrev pub kindBefore : Kinds
+kindBefore = kindBy faultBefore
 
 -- a look-up of a name among the names of a sheet
 abbrev pub Lookup : Type 0
@@ -49,11 +57,11 @@ record-by-the-look-up ed s net k at (line.Site a e) = refl
 record-by-the-look-up ed s net k at (line.Link a e b f size) = refl
 record-by-the-look-up ed s net k at (line.Fault n) = refl
 
--- reading by a numbering and a look-up
-module _ (numbering : Check → ℕ) (find : Lookup) (ed : Edition) (s : List ℕ) where
+-- reading by kinds of lines and a look-up
+module _ (kinds : Kinds) (find : Lookup) (ed : Edition) (s : List ℕ) where
   unfoldable pub stepBy : Network → ℕ → ℕ → Step
   stepBy net k at =
-      let line = kindBy numbering (ed .size) (lineAt s at) in
+      let line = kinds (ed .size) (lineAt s at) in
       cond (ltb (at + lineLength (drop at s)) (length s))
       (cond (eqb k 1) (headingStep line) (recordBy find ed s net k at line))
       (Refused 2 k)

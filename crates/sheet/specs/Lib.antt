@@ -14,5 +14,7 @@ pub mod SheetTheorem
 pub mod Answers
 pub mod NameLaws
 pub mod Earlier
+pub mod Alike
 pub mod Renumbered
+pub mod Reserves
 pub mod Spelling

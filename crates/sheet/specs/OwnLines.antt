@@ -1,5 +1,6 @@
--- The name of a site stands on its own `N` line (document 01: "comes back as the bytes of its own `N` line"). By induction over the lines
--- that are read: a line adds a name just where it is a site, and then the range of its field 1.
+-- The name of a site stands on its own `N` line (document 01: "comes back as the bytes of its own `N` line"), and a link with its usable size on its own
+-- `L` line (02, Card 5). By induction over the lines that are read: a line adds a name just where it is a site, and then the range of its field 1, and a
+-- link just where it is one.
 use mathlib.Core.Bool.{Bool, true, false, cond}
 use mathlib.Core.List.{List, [], _∷_, _++_}
 use mathlib.Core.Logic.{_⊎_, inl, inr, ⊎-elim}
@@ -7,21 +8,23 @@ use mathlib.Core.Path.{_≡_, refl, sym, ap, subst}
 use Prim.Native.Nat.{ℕ, _+_, _<_}
 use native.Mathlib.Omega.{arith}
 use lib.Dec.{eqb, leb, ltb}
-use lib.ListN.{length, getD, drop}
-use Rattle.lists.specs.Sums.{contradiction}
-use Rattle.model.specs.Flows.{joined}
+use lib.ListN.{length, getD, drop, length-append, List·getD-append}
+use lib.Seq.{getD-append-seam}
+use Rattle.lists.specs.Numbers.{look}
+use Rattle.lists.specs.Sums.{same?, contradiction}
+use Rattle.model.specs.Flows.{Links, joined}
 use Rattle.model.specs.declared.Edition.{Edition}
 use Rattle.text_lines.specs.Lines.{lineLength, lineAt}
-use Rattle.sheet_kinds.specs.LineKinds.{field, IsSite, kind}
-use Rattle.sheet_kinds.specs.KindForms.{Tells, a-kind-tells-its-form}
+use Rattle.sheet_kinds.specs.LineKinds.{field, usableSize, IsSite, kind}
+use Rattle.sheet_kinds.specs.KindForms.{LinkWithin, Tells, a-kind-tells-its-form}
 use Rattle.sheet_kinds.specs.declared.Line.{Line}
 use Rattle.sheet_kinds.specs.declared.Line.the-variants as line
 use Rattle.sheet_names.specs.Lists.{one-more}
 use Rattle.sheet_names.specs.declared.Found.{Found}
 use Rattle.sheet_names.specs.declared.Found.the-variants.{At, Absent}
-use Rattle.sheet.specs.Sheet.{Network, accepted, part, siteBy, siteStep, linkStep, headingStep, recordStep, stepOf, added, readLine, readSheet}
-use Rattle.sheet.specs.Causes.{fieldsAt, Reached, start, next}
-use Rattle.sheet.specs.CauseLaws.{firstName, a-site-is-looked-up-by-field-1}
+use Rattle.sheet.specs.Sheet.{Network, accepted, part, lookup, siteBy, siteStep, linkStep, headingStep, recordStep, stepOf, added, readLine, readSheet}
+use Rattle.sheet.specs.Causes.{Named, fieldsAt, Reached, start, next}
+use Rattle.sheet.specs.CauseLaws.{Finds, finds, firstName, a-site-is-looked-up-by-field-1, a-link-is-looked-up-by-field-1, a-link-is-looked-up-by-field-2}
 use Rattle.sheet.specs.RefusalLaws.{an-accepted-sheet-is-read-to-its-end}
 use Rattle.sheet.specs.declared.stepping.Step.{Step}
 use Rattle.sheet.specs.declared.stepping.Step.the-variants.{Nothing, Site, Link, Refused}
@@ -37,66 +40,97 @@ pub record OwnLine (ed : Edition) (s : List ℕ) (n : ℕ) (r : ℕ × ℕ) : Ty
   pub range : r ≡ firstName s offset
   pub name : part s r ≡ field (fieldsAt s offset) 1
 
+-- the line at an offset is a link line, its names are those of the sites a and b among names given above, and c is its usable size
+pub record IsLinkLine (ed : Edition) (s : List ℕ) (names : List (ℕ × ℕ)) (at a b c : ℕ) : Type 0 where
+  pub is-link : LinkWithin (ed .size) (lineAt s at)
+  pub first : Named s names (field (fieldsAt s at) 1) a
+  pub second : Named s names (field (fieldsAt s at) 2) b
+  pub usable : c ≡ usableSize (fieldsAt s at)
+
+-- a line of a sheet, read after j links, is the line of the link l, and c is its usable size (02, Card 5: size minus reserve)
+pub record OwnLinkLine (ed : Edition) (s : List ℕ) (j : ℕ) (l : ℕ × ℕ) (c : ℕ) : Type 0 where
+  pub number : ℕ
+  pub offset : ℕ
+  pub above : Network
+  pub reached : Reached ed s number offset above
+  pub links : length (above .links) ≡ j
+  pub line : IsLinkLine ed s (above .names) offset (l .0) (l .1) c
+
 -- ---- a line
 
 module _ (ed : Edition) (s : List ℕ) (net : Network) (k at : ℕ) where
-  -- a step that adds a site is that of a site line
-  abbrev Names : Step → Type 0
-  Names Nothing = Unit {0}
-  Names (Site a e) = IsSite (fieldsAt s at) × ((a, e) ≡ firstName s at)
-  Names (Link a b size) = Unit {0}
-  Names (Refused n m) = Unit {0}
+  -- a step that adds a site is that of a site line, and one that adds a link is that of a link line
+  abbrev Adds : Step → Type 0
+  Adds Nothing = Unit {0}
+  Adds (Site a e) = IsSite (fieldsAt s at) × ((a, e) ≡ firstName s at)
+  Adds (Link a b c) = IsLinkLine ed s (net .names) at a b c
+  Adds (Refused n m) = Unit {0}
 
-  site-names : IsSite (fieldsAt s at) → (w : Found) → Names (siteStep ed k (length (net .names)) (firstName s at) w)
+  site-adds : IsSite (fieldsAt s at) → (w : Found) → Adds (siteStep ed k (length (net .names)) (firstName s at) w)
   unfolding siteStep
-  site-names is = by (leb (ed .sites) (length (net .names)))
+  site-adds is = by (leb (ed .sites) (length (net .names)))
     where
-      by : (t : Bool) (w : Found) → Names (cond t (Refused 4 k) (siteBy k (firstName s at) w))
+      by : (t : Bool) (w : Found) → Adds (cond t (Refused 4 k) (siteBy k (firstName s at) w))
       by true w = tt
       by false (At v) = tt
       by false Absent = (is, refl)
 
-  link-names : (size : ℕ) (u w : Found) → Names (linkStep k (net .links) size u w)
+  link-adds : LinkWithin (ed .size) (lineAt s at) → let one = field (fieldsAt s at) 1 in let two = field (fieldsAt s at) 2 in
+      Adds (linkStep k (net .links) (usableSize (fieldsAt s at)) (lookup s (net .names) one) (lookup s (net .names) two))
   unfolding linkStep
-  link-names size Absent w = tt
-  link-names size (At a) Absent = tt
-  link-names size (At a) (At b) = by (eqb (joined (net .links) a b) 1)
+  link-adds is = by (lookup s (net .names) one) (finds s one (net .names)) (lookup s (net .names) two) (finds s two (net .names))
     where
-      by : (t : Bool) → Names (cond t (Refused 7 k) (Link a b size))
-      by true = tt
-      by false = tt
+      one : List ℕ
+      one = field (fieldsAt s at) 1
 
-  heading-names : (w : Line) → Names (headingStep w)
+      two : List ℕ
+      two = field (fieldsAt s at) 2
+
+      either : (t : Bool) (a b : ℕ) → Named s (net .names) one a → Named s (net .names) two b
+          → Adds (cond t (Refused 7 k) (Link a b (usableSize (fieldsAt s at))))
+      either true a b p q = tt
+      either false a b p q = record { is-link = is; first = p; second = q; usable = refl }
+
+      by : (u : Found) → Finds s (net .names) one u → (w : Found) → Finds s (net .names) two w
+          → Adds (linkStep k (net .links) (usableSize (fieldsAt s at)) u w)
+      by Absent p w q = tt
+      by (At a) p Absent q = tt
+      by (At a) p (At b) q = either (eqb (joined (net .links) a b) 1) a b p q
+
+  heading-adds : (w : Line) → Adds (headingStep w)
   unfolding headingStep
-  heading-names line.Heading = tt
-  heading-names (line.Site a e) = tt
-  heading-names (line.Link a e b f size) = tt
-  heading-names (line.Fault n) = tt
+  heading-adds line.Heading = tt
+  heading-adds (line.Site a e) = tt
+  heading-adds (line.Link a e b f size) = tt
+  heading-adds (line.Fault n) = tt
 
-  record-names : (w : Line) → Tells (ed .size) (lineAt s at) w → Names (recordStep ed s net k at w)
+  record-adds : (w : Line) → Tells (ed .size) (lineAt s at) w → Adds (recordStep ed s net k at w)
   unfolding recordStep
-  record-names line.Heading form = tt
-  record-names (line.Site a e) form = subst (λ w. Names (recordStep ed s net k at w)) (sym (form .2)) (site-names (form .1) _)
-  record-names (line.Link a e b f size) form = link-names size _ _
-  record-names (line.Fault n) form = tt
+  record-adds line.Heading form = tt
+  record-adds (line.Site a e) form = subst (λ w. Adds (recordStep ed s net k at w)) (sym (form .2)) (site-adds (form .1) _)
+  record-adds (line.Link a e b f size) form =
+      let is = form .1 .link in
+      subst (λ w. Adds (recordStep ed s net k at w)) (sym (form .2))
+      (rw (a-link-is-looked-up-by-field-1 s at is, a-link-is-looked-up-by-field-2 s at is) (link-adds (form .1)))
+  record-adds (line.Fault n) form = tt
 
-  step-names : Names (stepOf ed s net k at)
+  step-adds : Adds (stepOf ed s net k at)
   unfolding stepOf
-  step-names =
+  step-adds =
       by (ltb (at + lineLength (drop at s)) (length s)) (eqb k 1) (kind (ed .size) (lineAt s at)) (a-kind-tells-its-form (ed .size) (lineAt s at))
     where
-      by : (t u : Bool) (w : Line) → Tells (ed .size) (lineAt s at) w → Names (cond t (cond u (headingStep w) (recordStep ed s net k at w)) (Refused 2 k))
+      by : (t u : Bool) (w : Line) → Tells (ed .size) (lineAt s at) w → Adds (cond t (cond u (headingStep w) (recordStep ed s net k at w)) (Refused 2 k))
       by false u w form = tt
-      by true true w form = heading-names w
-      by true false w form = record-names w form
+      by true true w form = heading-adds w
+      by true false w form = record-adds w form
 
   -- a line that is read adds no name, or that of its site
   line-names : (after : Network) → readLine ed s net k at ≡ accepted after
       → (after .names ≡ net .names) ⊎ (IsSite (fieldsAt s at) × (after .names ≡ net .names ++ (firstName s at ∷ [])))
   unfolding readLine
-  line-names after = by (stepOf ed s net k at) step-names
+  line-names after = by (stepOf ed s net k at) step-adds
     where
-      by : (w : Step) → Names w → added net w ≡ accepted after
+      by : (w : Step) → Adds w → added net w ≡ accepted after
           → (after .names ≡ net .names) ⊎ (IsSite (fieldsAt s at) × (after .names ≡ net .names ++ (firstName s at ∷ [])))
       by Nothing h e = let same : after ≡ net = cc in inl (ap (λ (n : Network). n .names) same)
       by (Site a b) h e =
@@ -105,6 +139,27 @@ module _ (ed : Edition) (s : List ℕ) (net : Network) (k at : ℕ) where
       by (Link a b size) h e =
           let same : after ≡ record { names = net .names; links = net .links ++ ((a, b) ∷ []); capacities = net .capacities ++ (size ∷ []) } = cc in
           inl (ap (λ (n : Network). n .names) same)
+      by (Refused n m) h e = contradiction cc
+
+  -- and no link, or its own, with its usable size
+  pub data LinksAfter (after : Network) : Type 0 where
+    as-they-were : after .links ≡ net .links → after .capacities ≡ net .capacities → LinksAfter after
+    one-link-more : (a b c : ℕ) → IsLinkLine ed s (net .names) at a b c → after .links ≡ net .links ++ ((a, b) ∷ [])
+        → after .capacities ≡ net .capacities ++ (c ∷ []) → LinksAfter after
+
+  line-links : (after : Network) → readLine ed s net k at ≡ accepted after → LinksAfter after
+  unfolding readLine
+  line-links after = by (stepOf ed s net k at) step-adds
+    where
+      by : (w : Step) → Adds w → added net w ≡ accepted after → LinksAfter after
+      by Nothing h e = let same : after ≡ net = cc in
+          as-they-were (ap (λ (n : Network). n .links) same) (ap (λ (n : Network). n .capacities) same)
+      by (Site a b) h e =
+          let same : after ≡ record { names = net .names ++ ((a, b) ∷ []); links = net .links; capacities = net .capacities } = cc in
+          as-they-were (ap (λ (n : Network). n .links) same) (ap (λ (n : Network). n .capacities) same)
+      by (Link a b c) h e =
+          let same : after ≡ record { names = net .names; links = net .links ++ ((a, b) ∷ []); capacities = net .capacities ++ (c ∷ []) } = cc in
+          one-link-more a b c h (ap (λ (n : Network). n .links) same) (ap (λ (n : Network). n .capacities) same)
       by (Refused n m) h e = contradiction cc
 
 -- ---- the lines
@@ -136,3 +191,33 @@ module _ (ed : Edition) (s : List ℕ) where
   pub a-name-stands-on-its-own-line : (net : Network) → readSheet ed s ≡ accepted net → (i : ℕ) → i < length (net .names)
       → OwnLine ed s i (getD (net .names) i (0, 0))
   a-name-stands-on-its-own-line net e = own-lines (an-accepted-sheet-is-read-to-its-end ed s net e .2)
+
+  -- ---- links
+
+  abbrev OwnLinks : Links → List ℕ → Type 0
+  OwnLinks ls cs = (length cs ≡ length ls) × ((j : ℕ) → j < length ls → OwnLinkLine ed s j (getD ls j (0, 0)) (look cs j))
+
+  -- one link more, with its capacity
+  with-one-more : (ls : Links) (cs : List ℕ) → OwnLinks ls cs → (l : ℕ × ℕ) (c : ℕ) → OwnLinkLine ed s (length ls) l c → OwnLinks (ls ++ (l ∷ [])) (cs ++ (c ∷ []))
+  with-one-more ls cs own l c new = (
+    omega (arith, own .0, length-append ls (l ∷ []), length-append cs (c ∷ [])),
+    λ j b. same? j (length ls)
+        (λ e. rw (e, getD-append-seam ls l [] (0, 0), ← (own .0), getD-append-seam cs c [] 0) (rw (own .0) new))
+        (λ d. let low : j < length ls = omega (arith, length-append ls (l ∷ [])) in
+            rw (List·getD-append ls (l ∷ []) (0, 0) j low, List·getD-append cs (c ∷ []) 0 j (omega (arith, own .0))) (own .1 j low)),
+  )
+
+  own-links : {k at : ℕ} {net : Network} → Reached ed s k at net → OwnLinks (net .links) (net .capacities)
+  own-links start = (refl, λ j l. absurd (omega arith))
+  own-links (next {k = k} {at = at} {net = net} {after = after} r h e) = by (own-links r) (line-links ed s net k at after e)
+    where
+      by : OwnLinks (net .links) (net .capacities) → LinksAfter ed s net k at after → OwnLinks (after .links) (after .capacities)
+      by own (as-they-were p q) = rw (p, q) own
+      by own (one-link-more a b c line p q) =
+          rw (p, q) (with-one-more (net .links) (net .capacities) own (a, b) c
+          (record { number = k; offset = at; above = net; reached = r; links = refl; line = line }))
+
+  -- each link of an accepted sheet stands on its own `L` line, and its capacity is the usable size there
+  pub a-link-stands-on-its-own-line : (net : Network) → readSheet ed s ≡ accepted net → (j : ℕ) → j < length (net .links)
+      → OwnLinkLine ed s j (getD (net .links) j (0, 0)) (look (net .capacities) j)
+  a-link-stands-on-its-own-line net e = own-links (an-accepted-sheet-is-read-to-its-end ed s net e .2) .1

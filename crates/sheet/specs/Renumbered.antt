@@ -11,14 +11,15 @@ use Rattle.model.specs.declared.Edition.{Edition}
 use Rattle.text_lines.specs.Lines.{lineLength, lineAt, afterLine, hasLine}
 use Rattle.sheet_kinds.specs.LineKinds.{kind}
 unfoldable pub use Rattle.sheet_kinds.specs.Numbering.{numberBefore}
-use Rattle.sheet_kinds.specs.Numbering.{lineBefore, kind-is-by-the-numbering, a-line-is-as-before}
+use Rattle.sheet_kinds.specs.Numbering.{lineBefore, a-line-is-as-before}
 use Rattle.sheet_kinds.specs.declared.Line.{Line}
 use Rattle.sheet_kinds.specs.declared.Line.the-variants as line
 use Rattle.sheet_names.specs.declared.Found.{Found}
 use Rattle.sheet_names.specs.declared.Found.the-variants.{At, Absent}
 use Rattle.sheet.specs.Sheet.{Network, empty, Read, refused, accepted, siteStep, siteBy, linkStep, headingStep, recordStep, stepOf, added, readLine}
 use Rattle.sheet.specs.Sheet.{andThen, readLines, allJoined, finish, readSheet, part, lookup}
-use Rattle.sheet.specs.Earlier.{faultOf, faultBefore, recordBy, record-by-the-look-up, stepBy, readLinesBy, readSheetBy}
+use Rattle.sheet.specs.Alike.{a-sheet-is-read-alike}
+use Rattle.sheet.specs.Earlier.{kindBefore, recordBy, record-by-the-look-up, stepBy, readLinesBy, readSheetBy}
 use Rattle.sheet.specs.declared.stepping.Step.{Step}
 use Rattle.sheet.specs.declared.stepping.Step.the-variants.{Nothing, Site, Link, Refused}
 
@@ -71,7 +72,7 @@ module _ (ed : Edition) (s : List ℕ) where
     record-before (line.Link a e b f size) = sym (link-stays k net size _ _)
     record-before (line.Fault n) = refl
 
-    step-before : stepBy faultBefore lookup ed s net k at ≡ stepBefore (stepOf ed s net k at)
+    step-before : stepBy kindBefore lookup ed s net k at ≡ stepBefore (stepOf ed s net k at)
     unfolding stepBy stepOf numberBefore
     step-before =
         rw (a-line-is-as-before (ed .size) (lineAt s at))
@@ -82,11 +83,6 @@ module _ (ed : Edition) (s : List ℕ) where
         by true true w = heading-before w
         by true false w = record-by-the-look-up ed s net k at (lineBefore w) ∙ record-before w
         by false u w = refl
-
-    -- by today's numbering it is today's step
-    step-by-the-numbering : stepBy faultOf lookup ed s net k at ≡ stepOf ed s net k at
-    unfolding stepBy stepOf
-    step-by-the-numbering = rw (kind-is-by-the-numbering (ed .size) (lineAt s at), record-by-the-look-up ed s net k at (kind (ed .size) (lineAt s at)))
 
   -- ---- the lines and the sheet
 
@@ -101,33 +97,19 @@ module _ (ed : Edition) (s : List ℕ) where
   then-before (refused n k) f g e = refl
   then-before (accepted net) f g e = e net
 
-  then-alike : (r : Read) (f g : Network → Read) → ((net : Network) → f net ≡ g net) → andThen r f ≡ andThen r g
-  unfolding andThen
-  then-alike (refused n k) f g e = refl
-  then-alike (accepted net) f g e = e net
-
   either : (t : Bool) (q r x : Read) → q ≡ readBefore r → x ≡ readBefore x → cond t q x ≡ readBefore (cond t r x)
   either true q r x e f = e
   either false q r x e f = f
 
-  lines-before : (fuel k at : ℕ) (net : Network) → readLinesBy faultBefore lookup ed s fuel k at net ≡ readBefore (readLines ed s fuel k at net)
+  lines-before : (fuel k at : ℕ) (net : Network) → readLinesBy kindBefore lookup ed s fuel k at net ≡ readBefore (readLines ed s fuel k at net)
   unfolding readLinesBy readLines readLine
   lines-before zero k at net = refl
   lines-before (suc fuel) k at net =
       either (hasLine s at) _ (andThen (added net (stepOf ed s net k at)) (readLines ed s fuel (suc k) (afterLine s at))) (accepted net)
       (rw (step-before net k at, added-before net (stepOf ed s net k at))
-      (then-before (added net (stepOf ed s net k at)) (readLinesBy faultBefore lookup ed s fuel (suc k) (afterLine s at))
+      (then-before (added net (stepOf ed s net k at)) (readLinesBy kindBefore lookup ed s fuel (suc k) (afterLine s at))
       (readLines ed s fuel (suc k) (afterLine s at)) (λ next. lines-before fuel (suc k) (afterLine s at) next)))
       refl
-
-  lines-by-the-numbering : (fuel k at : ℕ) (net : Network) → readLinesBy faultOf lookup ed s fuel k at net ≡ readLines ed s fuel k at net
-  unfolding readLinesBy readLines readLine
-  lines-by-the-numbering zero k at net = refl
-  lines-by-the-numbering (suc fuel) k at net =
-      ap (λ r. cond (hasLine s at) r (accepted net))
-      (rw (step-by-the-numbering net k at)
-      (then-alike (added net (stepOf ed s net k at)) (readLinesBy faultOf lookup ed s fuel (suc k) (afterLine s at))
-      (readLines ed s fuel (suc k) (afterLine s at)) (λ next. lines-by-the-numbering fuel (suc k) (afterLine s at) next)))
 
   finish-stays : (net : Network) → finish net ≡ readBefore (finish net)
   unfolding finish numberBefore
@@ -137,13 +119,14 @@ module _ (ed : Edition) (s : List ℕ) where
       by true = refl
       by false = refl
 
-  -- today's reading is the one by today's numbering
-  pub a-sheet-is-read-by-the-numbering : readSheetBy faultOf lookup ed s ≡ readSheet ed s
-  unfolding readSheetBy readSheet
-  a-sheet-is-read-by-the-numbering = rw (lines-by-the-numbering (length s) 1 0 empty)
+  -- today's reading is the one by today's kinds of lines and look-up
+  pub a-sheet-is-read-by-its-kinds : readSheetBy kind lookup ed s ≡ readSheet ed s
+  unfolding stepBy stepOf
+  a-sheet-is-read-by-its-kinds =
+      a-sheet-is-read-alike kind lookup ed s (λ k at net r. rw (record-by-the-look-up ed s net k at (kind (ed .size) (lineAt s at))))
 
   -- what was 2 before is one of 2, 10, 11, 12 now, at the same line, and everything else is as it was
-  pub a-sheet-is-read-as-before : readSheetBy faultBefore lookup ed s ≡ readBefore (readSheet ed s)
+  pub a-sheet-is-read-as-before : readSheetBy kindBefore lookup ed s ≡ readBefore (readSheet ed s)
   unfolding readSheetBy readSheet numberBefore
   a-sheet-is-read-as-before =
       either (leb 1 (length s) && leb (length s) (ed .bytes)) _ (andThen (readLines ed s (length s) 1 0 empty) finish) (refused 1 0)

@@ -5,35 +5,28 @@ use mathlib.Core.Bool.{Bool, true, false, cond, true≢false, _&&_}
 use mathlib.Core.List.{List, [], _∷_}
 use mathlib.Core.Logic.{_⊎_, inl, inr}
 use mathlib.Core.Path.{_≡_, refl, sym, ap, subst, _∙_}
-use Prim.Native.Nat.{ℕ, zero, suc, _+_, _<_}
+use Prim.Native.Nat.{ℕ, suc, _+_, _<_}
 use native.Mathlib.Omega.{arith}
 use lib.Dec.{eqb, leb, ltb}
 use lib.ListN.{length, getD, drop}
 use Rattle.model.specs.declared.Edition.{Edition}
-use Rattle.text_lines.specs.Lines.{lineLength, lineAt, afterLine, hasLine}
-use Rattle.text_lines.specs.LineLaws.{a-line-is-on-the-sheet}
+use Rattle.text_lines.specs.Lines.{lineLength, lineAt}
 use Rattle.text_fields.specs.Fields.{same, capitals, SameName, sameName}
 use Rattle.text_fields.specs.FieldLaws.{same-are-equal, equal-are-same, not-same}
 use Rattle.sheet_kinds.specs.LineKinds.{field, IsSite, IsLink, kind}
-use Rattle.sheet_kinds.specs.Numbering.{kind-is-by-the-numbering}
 use Rattle.sheet_kinds.specs.KindForms.{Tells, a-kind-tells-its-form}
 use Rattle.sheet_kinds.specs.declared.Line.{Line}
 use Rattle.sheet_kinds.specs.declared.Line.the-variants as line
 use Rattle.sheet_names.specs.Names.{nameAt}
-use Rattle.sheet.specs.Sheet.{Network, empty, Read, refused, accepted, siteStep, linkStep, headingStep, recordStep, stepOf, added, readLine}
-use Rattle.sheet.specs.Sheet.{andThen, readLines, finish, readSheet, part, lookup, lookupFrom}
-use Rattle.sheet.specs.Earlier.{faultOf, lookupBytes, lookupBytesFrom, recordBy, stepBy, readLinesBy, readSheetBy}
-use Rattle.sheet.specs.Causes.{fieldsAt, Reached, start, next}
+use Rattle.sheet.specs.Sheet.{Network, siteStep, linkStep, headingStep, recordStep, stepOf, readSheet, part, lookup, lookupFrom}
+use Rattle.sheet.specs.Earlier.{lookupBytes, lookupBytesFrom, recordBy, stepBy, readSheetBy}
+use Rattle.sheet.specs.Alike.{offset, placed, a-sheet-is-read-alike}
+use Rattle.sheet.specs.Causes.{fieldsAt, Reached}
 use Rattle.sheet.specs.CauseLaws.{firstName, secondName, a-site-is-looked-up-by-field-1, a-link-is-looked-up-by-field-1, a-link-is-looked-up-by-field-2}
 use Rattle.sheet.specs.OwnLines.{OwnLine, own-lines}
 use Rattle.sheet.specs.declared.stepping.Step.the-variants.{Refused}
 
 -- ---- names on the lines of a sheet
-
--- the offset of the line after so many lines
-unfoldable pub offset : List ℕ → ℕ → ℕ
-offset s zero = 0
-offset s (suc k) = afterLine s (offset s k)
 
 -- f is the name of a site line
 pub record SiteName (s f : List ℕ) : Type 0 where
@@ -67,12 +60,6 @@ lookups-alike s f (r ∷ rs) k h = rw (alike (sameName (part s r) f) refl, looku
 -- ---- a line
 
 module _ (ed : Edition) (s : List ℕ) (alike : SpeltAlike s) where
-  -- where a line that is reached starts
-  placed : {k at : ℕ} {net : Network} → Reached ed s k at net → (above : ℕ) × (k ≡ suc above) × (at ≡ offset s above)
-  unfolding offset
-  placed start = (0, refl, refl)
-  placed (next r h e) = let p = placed r in (suc (p .0), ap suc (p .1), ap (afterLine s) (p .2))
-
   module _ {k at : ℕ} {net : Network} (r : Reached ed s k at net) where
     -- a name of this line that is the same as one given above has its bytes
     given-alike : (f : List ℕ) → SiteName s f ⊎ LinkName s f → (i : ℕ) → i < length (net .names) → SameName (nameAt s (net .names) i) f
@@ -125,38 +112,10 @@ module _ (ed : Edition) (s : List ℕ) (alike : SpeltAlike s) where
         subst (λ w. recordBy lookupBytes ed s net k at w ≡ recordStep ed s net k at w) (sym (form .2)) (link-alike (form .1 .link) _)
     record-alike (line.Fault n) form = refl
 
-    step-alike : stepBy faultOf lookupBytes ed s net k at ≡ stepOf ed s net k at
+    step-alike : stepBy kind lookupBytes ed s net k at ≡ stepOf ed s net k at
     unfolding stepBy stepOf
-    step-alike =
-        rw (kind-is-by-the-numbering (ed .size) (lineAt s at), record-alike (kind (ed .size) (lineAt s at)) (a-kind-tells-its-form (ed .size) (lineAt s at)))
-
-  -- ---- the lines and the sheet
-
-  module _ (fuel : ℕ) {k at : ℕ} {net : Network} (r : Reached ed s k at net) where
-    -- the lines that follow are read alike
-    abbrev Follow : Type 0
-    Follow = (after : Network) → Reached ed s (suc k) (afterLine s at) after
-        → readLinesBy faultOf lookupBytes ed s fuel (suc k) (afterLine s at) after ≡ readLines ed s fuel (suc k) (afterLine s at) after
-
-    go-on : Follow → at < length s → (w : Read) → added net (stepOf ed s net k at) ≡ w
-        → andThen w (readLinesBy faultOf lookupBytes ed s fuel (suc k) (afterLine s at)) ≡ andThen w (readLines ed s fuel (suc k) (afterLine s at))
-    unfolding andThen readLine
-    go-on follow l (refused n m) q = refl
-    go-on follow l (accepted after) q = follow after (next r l q)
-
-    line-and-rest : Follow → (t : Bool) → hasLine s at ≡ t
-        → cond t (andThen (added net (stepOf ed s net k at)) (readLinesBy faultOf lookupBytes ed s fuel (suc k) (afterLine s at))) (accepted net)
-        ≡ cond t (andThen (added net (stepOf ed s net k at)) (readLines ed s fuel (suc k) (afterLine s at))) (accepted net)
-    line-and-rest follow false e = refl
-    line-and-rest follow true e = go-on follow (a-line-is-on-the-sheet s at e) (added net (stepOf ed s net k at)) refl
-
-  lines-alike : (fuel : ℕ) {k at : ℕ} {net : Network} → Reached ed s k at net
-      → readLinesBy faultOf lookupBytes ed s fuel k at net ≡ readLines ed s fuel k at net
-  unfolding readLinesBy readLines readLine
-  lines-alike zero r = refl
-  lines-alike (suc fuel) {at = at} r = rw (step-alike r) (line-and-rest fuel r (λ after q. lines-alike fuel q) (hasLine s at) refl)
+    step-alike = rw (record-alike (kind (ed .size) (lineAt s at)) (a-kind-tells-its-form (ed .size) (lineAt s at)))
 
   -- a sheet on which no two names differ in case alone is read as it was
-  pub a-sheet-spelt-alike-is-read-as-before : readSheetBy faultOf lookupBytes ed s ≡ readSheet ed s
-  unfolding readSheetBy readSheet
-  a-sheet-spelt-alike-is-read-as-before = rw (lines-alike (length s) start)
+  pub a-sheet-spelt-alike-is-read-as-before : readSheetBy kind lookupBytes ed s ≡ readSheet ed s
+  a-sheet-spelt-alike-is-read-as-before = a-sheet-is-read-alike kind lookupBytes ed s (λ k at net r. step-alike r)

@@ -1,12 +1,12 @@
 -- When a line is a fault, each number just for its cause: 2 no known letter, 10 wrong number of fields, 11 bad name, 12 badly written number, in this order;
--- then 3, a link whose size is above the limit. Document 02, Card 1. By the first field: the letter chooses the form, and no heading has such a letter.
+-- then 3, a link whose size or reserve is above the limit; then 13, a link whose reserve is above its size. Document 02, Cards 1 and 5.
+-- By the first field: the letter chooses the form, and no heading has such a letter.
 use mathlib.Core.Bool.{Bool, true, false, cond, false≢true, and-false}
 use mathlib.Core.List.{List}
 use mathlib.Core.Logic.{_⊎_, inl, inr, ⊎-elim, _↔_, _≢_}
 use mathlib.Core.Path.{_≡_, refl, sym, subst, _∙_}
-use Prim.Native.Nat.{ℕ, _<_}
-use lib.Dec.{leb}
-use borrow.Author.Tests.{leb-false, lt-leb}
+use Prim.Native.Nat.{ℕ, _≤_, _<_}
+use lib.ListN.{length}
 use Rattle.model.specs.Text.{bytes}
 use Rattle.text_fields.specs.FieldLaws.{not-same}
 use Rattle.text_grammar.specs.declared.Form.{Form}
@@ -15,9 +15,9 @@ use Rattle.text_grammar.specs.declared.Check.the-variants as check
 pub use Rattle.text_grammar.specs.Grammar.{WrongCount, BadName, BadNumber}
 use Rattle.text_grammar.specs.FormLaws.{another-letter}
 use Rattle.text_grammar.specs.RuleLaws as rule
-use Rattle.sheet_kinds.specs.LineKinds.{same, fields, field, value, isHeading, checked, faultOf, siteForm, linkForm, IsLink, judged, siteLine}
-use Rattle.sheet_kinds.specs.LineKinds.{sizedLink, linkLine, kindOf, kind}
-use Rattle.sheet_kinds.specs.LineKindLaws.{same-are-equal, equal-are-same, judged-cases, link-parts}
+use Rattle.sheet_kinds.specs.LineKinds.{same, fields, field, isHeading, checked, faultOf, siteForm, linkForm, IsLink, judged, siteLine}
+use Rattle.sheet_kinds.specs.LineKinds.{size, reserve, linkOf, sizedLink, linkLine, kindOf, kind}
+use Rattle.sheet_kinds.specs.LineKindLaws.{same-are-equal, equal-are-same, judged-cases, link-parts, capacity-cases, above-is-3, above-the-size-is-13}
 use Rattle.sheet_kinds.specs.declared.Line.{Line}
 use Rattle.sheet_kinds.specs.declared.Line.the-variants.{Heading, Site, Link, Fault}
 
@@ -33,10 +33,17 @@ pub record NoLetter (l : List ℕ) : Type 0 where
 abbrev pub Broken : (Form → List (List ℕ) → Type 0) → List ℕ → Type 0
 Broken Rule l = Rule siteForm (fields l) ⊎ Rule linkForm (fields l)
 
--- the line is a link whose size is above the limit (01: size above 1,000,000)
+-- the line is a link whose size or reserve is above the limit (01: size above 1,000,000; 02, Card 5: a reserve above 1,000,000)
 pub record TooLarge (most : ℕ) (l : List ℕ) : Type 0 where
   pub link : IsLink (fields l)
-  pub above : most < value (field (fields l) 3)
+  pub above : (most < size (fields l)) ⊎ (most < reserve (fields l))
+
+-- the line is a link, neither number is above the limit, and the reserve is above the size (02, Card 5)
+pub record TooMuchHeld (most : ℕ) (l : List ℕ) : Type 0 where
+  pub link : IsLink (fields l)
+  pub within : size (fields l) ≤ most
+  pub reserve-within : reserve (fields l) ≤ most
+  pub above : size (fields l) < reserve (fields l)
 
 -- why a line by itself is at fault, with its number; what the rules are, `Grammar` tells
 pub data LineFault (most : ℕ) (l : List ℕ) : ℕ → Type 0 where
@@ -45,6 +52,7 @@ pub data LineFault (most : ℕ) (l : List ℕ) : ℕ → Type 0 where
   bad-name : Broken BadName l → LineFault most l 11
   bad-number : Broken BadNumber l → LineFault most l 12
   too-large : TooLarge most l → LineFault most l 3
+  too-much-held : TooMuchHeld most l → LineFault most l 13
 
 module _ (most : ℕ) (l : List ℕ) where
   -- ---- the letter chooses the form
@@ -76,11 +84,9 @@ module _ (most : ℕ) (l : List ℕ) where
 
   sized-right : IsLink (fields l) → Right (sizedLink most (fields l))
   unfolding sizedLink
-  sized-right g = by (leb (value (field (fields l) 3)) most) refl (Link _ _ _ _ _) tt
-    where
-      by : (w : Bool) → leb (value (field (fields l) 3)) most ≡ w → (x : Line) → Right x → Right (cond w x (Fault 3))
-      by true h x f = f
-      by false h x f = too-large (record { link = g; above = leb-false _ _ h })
+  sized-right g = capacity-cases (λ c. Right (linkOf (length (field (fields l) 1)) (length (field (fields l) 2)) c)) most (field (fields l) 3)
+      (field (fields l) 4) (λ o. too-large (record { link = g; above = o }))
+      (λ a b h. too-much-held (record { link = g; within = a; reserve-within = b; above = h })) (λ a b. tt)
 
   -- by the rule that is broken
   link-right : same (field (fields l) 0) (bytes "L") ≡ true → (c : Check) → rule.Tells linkForm (fields l) c → c ≢ check.Formed
@@ -128,7 +134,14 @@ module _ (most : ℕ) (l : List ℕ) where
 
   large : TooLarge most l → kind most l ≡ Fault 3
   unfolding linkLine judged faultOf sizedLink
-  large h = kind-of-L (link-parts (fields l) (h .link) .letter) ∙ rw (h .link, lt-leb _ _ (h .above))
+  large h =
+      kind-of-L (link-parts (fields l) (h .link) .letter) ∙ rw (h .link, above-is-3 most (field (fields l) 3) (field (fields l) 4) (h .above))
+
+  held : TooMuchHeld most l → kind most l ≡ Fault 13
+  unfolding linkLine judged faultOf sizedLink
+  held h =
+      kind-of-L (link-parts (fields l) (h .link) .letter)
+      ∙ rw (h .link, above-the-size-is-13 most (field (fields l) 3) (field (fields l) 4) (h .within) (h .reserve-within) (h .above))
 
   fault-of : (n : ℕ) → LineFault most l n → kind most l ≡ Fault n
   unfolding judged faultOf kind kindOf siteLine
@@ -145,6 +158,7 @@ module _ (most : ℕ) (l : List ℕ) where
   fault-of n (bad-number (inl h)) = site-fault check.Number 12 (h .counted .letter) (rule.a-bad-number-is-found siteForm (fields l) h) (λ w. refl)
   fault-of n (bad-number (inr h)) = link-fault check.Number 12 (h .counted .letter) (rule.a-bad-number-is-found linkForm (fields l) h) (λ w. refl)
   fault-of n (too-large h) = large h
+  fault-of n (too-much-held h) = held h
 
   -- each number just for its cause
   pub a-line-is-a-fault-just-for-its-cause : (n : ℕ) → (kind most l ≡ Fault n) ↔ LineFault most l n

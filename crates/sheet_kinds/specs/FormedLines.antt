@@ -13,9 +13,9 @@ use Rattle.model.specs.Text.{bytes}
 use Rattle.text_grammar.specs.Grammar.{ends, split}
 use Rattle.text_grammar.specs.SplitLaws.{field-lies, length-of-field, end-of-split}
 use Rattle.text_grammar.specs.declared.Fields.{Fields}
-use Rattle.sheet_kinds.specs.LineKinds.{same, fields, field, isName, value, isHeading, checked, siteForm, linkForm, IsSite, IsLink, siteLine, sizedLink}
-use Rattle.sheet_kinds.specs.LineKinds.{linkLine, kindOf, kind}
-use Rattle.sheet_kinds.specs.LineKindLaws.{judged-cases, site-parts, link-parts}
+use Rattle.sheet_kinds.specs.LineKinds.{same, fields, field, isName, value, isHeading, checked, siteForm, linkForm, IsSite, IsLink, siteLine, usableSize, linkOf}
+use Rattle.sheet_kinds.specs.LineKinds.{sizedLink, linkLine, kindOf, kind}
+use Rattle.sheet_kinds.specs.LineKindLaws.{judged-cases, site-parts, link-parts, capacity-cases}
 use Rattle.sheet_kinds.specs.declared.Line.{Line}
 use Rattle.sheet_kinds.specs.declared.Line.the-variants.{Heading, Site, Link, Fault}
 
@@ -63,18 +63,14 @@ module _ (l : List ℕ) where
     pub link-is-formed : IsLink (fields l) → (size : ℕ) → size ≤ most → Formed most l (Link 2 (2 + one) (3 + one) (3 + one + two) size)
     link-is-formed e size h =
         let k = link-parts (fields l) e in
-        let n : 2 < length (fields l) = omega (arith, k .count) in
+        let n : 2 < length (fields l) = omega (arith, k .enough) in
         let room : 3 + one + two ≤ length l = omega (arith, third-end n (ap length (k .letter)), field-lies 2 l 0 n .within) in
         (omega arith, omega arith, omega arith, room, h)
 
     sized-is-formed : IsLink (fields l) → Formed most l (sizedLink most (fields l))
     unfolding sizedLink
-    sized-is-formed e = by (leb (value (field (fields l) 3)) most) refl
-      where
-        by : (w : Bool) → leb (value (field (fields l) 3)) most ≡ w
-            → Formed most l (cond w (Link 2 (2 + one) (3 + one) (3 + one + two) (value (field (fields l) 3))) (Fault 3))
-        by true h = link-is-formed e (value (field (fields l) 3)) (leb-true _ _ h)
-        by false h = tt
+    sized-is-formed e = capacity-cases (λ c. Formed most l (linkOf one two c)) most (field (fields l) 3) (field (fields l) 4)
+        (λ o. tt) (λ a b h. tt) (λ a b. link-is-formed e (usableSize (fields l)) (omega arith))
 
     as-site : Formed most l (siteLine (fields l))
     unfolding siteLine
@@ -97,7 +93,7 @@ pub link-ends : (l : List ℕ) (found : Fields) → found ≡ split l → IsLink
 link-ends l found e h =
     let k = link-parts (fields l) h in
     let short = ap length (k .letter) in
-    let n : 2 < length (fields l) = omega (arith, k .count) in
+    let n : 2 < length (fields l) = omega (arith, k .enough) in
     let m : 1 < length (fields l) = omega arith in
     rw e (
       end-of-split l 1 (omega arith) m ∙ second-end l m short,

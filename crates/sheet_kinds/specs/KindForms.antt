@@ -6,22 +6,21 @@ use mathlib.Core.Logic.{_≢_}
 use mathlib.Core.Path.{_≡_, refl, sym, ap, subst, _∙_}
 use Prim.Native.Nat.{ℕ, _+_, _-_, _≤_}
 use native.Mathlib.Omega.{arith}
-use lib.Dec.{leb}
 use lib.ListN.{length, take, drop}
-use borrow.Author.Tests.{leb-true, le-leb}
 use Rattle.model.specs.Text.{bytes}
-use Rattle.sheet_kinds.specs.LineKinds.{same, fields, field, value, isHeading, checked, faultOf, siteForm, linkForm, IsSite, IsLink, judged, siteLine}
-use Rattle.sheet_kinds.specs.LineKinds.{sizedLink, linkLine, kindOf, kind}
-use Rattle.sheet_kinds.specs.LineKindLaws.{judged-cases, site-parts, link-parts}
+use Rattle.sheet_kinds.specs.LineKinds.{same, fields, field, isHeading, checked, faultOf, siteForm, linkForm, IsSite, IsLink, judged, siteLine}
+use Rattle.sheet_kinds.specs.LineKinds.{size, reserve, usableSize, linkOf, sizedLink, linkLine, kindOf, kind}
+use Rattle.sheet_kinds.specs.LineKindLaws.{judged-cases, site-parts, link-parts, capacity-cases, else-is-usable}
 use Rattle.sheet_kinds.specs.FormedLines.{part-of-field-1, part-of-field-2}
 use Rattle.sheet_kinds.specs.FaultyLines.{kind-of-N, kind-of-L}
 use Rattle.sheet_kinds.specs.declared.Line.{Line}
 use Rattle.sheet_kinds.specs.declared.Line.the-variants.{Heading, Site, Link, Fault}
 
--- the line is a link whose size is within the limit
+-- the line is a link whose size is within the limit, and whose reserve is not above its size
 pub record LinkWithin (most : ℕ) (l : List ℕ) : Type 0 where
   pub link : IsLink (fields l)
-  pub within : value (field (fields l) 3) ≤ most
+  pub within : size (fields l) ≤ most
+  pub held : reserve (fields l) ≤ size (fields l)
 
 module _ (l : List ℕ) where
   -- the name of a site, and the names of a link
@@ -33,35 +32,31 @@ module _ (l : List ℕ) where
   pub link-name-is-field-1 : IsLink (fields l) → take (2 + length (field (fields l) 1) - 2) (drop 2 l) ≡ field (fields l) 1
   link-name-is-field-1 h =
       let k = link-parts (fields l) h in
-      part-of-field-1 l (omega (arith, k .count)) (ap length (k .letter))
+      part-of-field-1 l (omega (arith, k .enough)) (ap length (k .letter))
 
   pub link-name-is-field-2 : IsLink (fields l) → let a = length (field (fields l) 1) in let b = length (field (fields l) 2) in
       take (3 + a + b - (3 + a)) (drop (3 + a) l) ≡ field (fields l) 2
   link-name-is-field-2 h =
       let k = link-parts (fields l) h in
-      part-of-field-2 l (omega (arith, k .count)) (ap length (k .letter))
+      part-of-field-2 l (omega (arith, k .enough)) (ap length (k .letter))
 
 module _ (most : ℕ) (l : List ℕ) where
-  -- what a kind tells of the line: its form, and the places of its names
+  -- what a kind tells of the line: its form, the places of its names, and the usable size of a link
   abbrev pub Tells : Line → Type 0
   Tells Heading = isHeading (fields l) ≡ true
   Tells (Site a e) = (isHeading (fields l) ≡ false) × IsSite (fields l) × (Site a e ≡ Site 2 (2 + length (field (fields l) 1)))
-  Tells (Link a e b f size) =
+  Tells (Link a e b f c) =
       let one = length (field (fields l) 1) in
       let two = length (field (fields l) 2) in
       (isHeading (fields l) ≡ false) × LinkWithin most l
-      × (Link a e b f size ≡ Link 2 (2 + one) (3 + one) (3 + one + two) (value (field (fields l) 3)))
+      × (Link a e b f c ≡ Link 2 (2 + one) (3 + one) (3 + one + two) (usableSize (fields l)))
   Tells (Fault n) = isHeading (fields l) ≡ false
 
   module _ (no : isHeading (fields l) ≡ false) where
     sized-tells : IsLink (fields l) → Tells (sizedLink most (fields l))
     unfolding sizedLink
-    sized-tells g = by (leb (value (field (fields l) 3)) most) refl
-      where
-        by : (w : Bool) → leb (value (field (fields l) 3)) most ≡ w → let a = length (field (fields l) 1) in let b = length (field (fields l) 2) in
-            Tells (cond w (Link 2 (2 + a) (3 + a) (3 + a + b) (value (field (fields l) 3))) (Fault 3))
-        by true h = (no, record { link = g; within = leb-true _ _ h }, refl)
-        by false h = no
+    sized-tells g = capacity-cases (λ c. Tells (linkOf (length (field (fields l) 1)) (length (field (fields l) 2)) c)) most (field (fields l) 3)
+        (field (fields l) 4) (λ o. no) (λ a b h. no) (λ a b. (no, record { link = g; within = a; held = b }, refl))
 
     link-tells : Tells (linkLine most (fields l))
     unfolding linkLine
@@ -94,6 +89,8 @@ module _ (most : ℕ) (l : List ℕ) where
   a-site-by-its-form e = kind-of-N most l (site-parts (fields l) e .letter) ∙ rw e
 
   pub a-link-by-its-form : LinkWithin most l → let a = length (field (fields l) 1) in let b = length (field (fields l) 2) in
-      kind most l ≡ Link 2 (2 + a) (3 + a) (3 + a + b) (value (field (fields l) 3))
+      kind most l ≡ Link 2 (2 + a) (3 + a) (3 + a + b) (usableSize (fields l))
   unfolding linkLine judged faultOf sizedLink
-  a-link-by-its-form h = kind-of-L most l (link-parts (fields l) (h .link) .letter) ∙ rw (h .link, le-leb _ _ (h .within))
+  a-link-by-its-form h =
+      kind-of-L most l (link-parts (fields l) (h .link) .letter)
+      ∙ rw (h .link, else-is-usable most (field (fields l) 3) (field (fields l) 4) (h .within) (h .held))

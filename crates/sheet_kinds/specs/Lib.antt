@@ -4,3 +4,4 @@ pub mod FormedLines
 pub mod FaultyLines
 pub mod KindForms
 pub mod Numbering
+pub mod Unreserved

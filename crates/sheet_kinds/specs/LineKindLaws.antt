@@ -1,25 +1,25 @@
--- What a site and a link are made of: a line has the form just if it has these parts. And lines by the number of their fault and by their size.
+-- What a site and a link are made of: a line has the form just if it has these parts. And lines by the number of their fault and by their capacity.
 use mathlib.Core.Bool.{Bool, true, false, cond, false≢true}
 use mathlib.Core.List.{List, [], _∷_}
-use mathlib.Core.Logic.{_↔_, _≢_, ⊎-elim}
+use mathlib.Core.Logic.{_⊎_, inl, inr, _↔_, _≢_, ⊎-elim}
 use mathlib.Core.Path.{_≡_, refl, sym, _∙_}
-use Prim.Native.Nat.{ℕ, _+_}
+use Prim.Native.Nat.{ℕ, _-_, _≤_, _<_}
 use native.Mathlib.Omega.{arith}
 use lib.Dec.{leb}
-use lib.ListN.{length}
-use borrow.Author.Tests.{eq-eqb, ne-eqb}
+use lib.ListN.{length, List·getD-eq-default}
+use borrow.Author.Tests.{eq-eqb, ne-eqb, leb-true, leb-false, le-leb}
 use Rattle.model.specs.Text.{bytes}
 use Rattle.text_grammar.specs.declared.Check.{Check}
 use Rattle.text_grammar.specs.declared.Check.the-variants as check
-use Rattle.text_grammar.specs.declared.Size.{Size}
 use Rattle.text_grammar.specs.declared.Size.the-variants.{Within, Above}
-use Rattle.text_grammar.specs.Grammar.{sizeOf}
 use Rattle.text_grammar.specs.FormLaws.{formed-or-faulty, formed-parts, name-first, number-first}
 pub use Rattle.text_fields.specs.FieldLaws.{both, same-are-equal, equal-are-same, name-length}
 use Rattle.sheet_kinds.specs.LineKinds.{same, field, isName, isNumber, value, checkedFields, checked, faultOf, siteForm, linkForm, IsSite, IsLink}
-use Rattle.sheet_kinds.specs.LineKinds.{judged, sizedLink}
+use Rattle.sheet_kinds.specs.LineKinds.{judged, reserve, valueFrom, sizeOf, capacityOf}
 use Rattle.sheet_kinds.specs.declared.Line.{Line}
-use Rattle.sheet_kinds.specs.declared.Line.the-variants.{Link, Fault}
+use Rattle.sheet_kinds.specs.declared.Line.the-variants.{Fault}
+use Rattle.sheet_kinds.specs.declared.Capacity.{Capacity}
+use Rattle.sheet_kinds.specs.declared.Capacity.the-variants.{Usable, Faulty}
 
 -- what holds of a line, formed or not
 pub judged-cases : (P : Line → Type 0) (c : Check) (w : Line) → (c ≡ check.Formed → P w) → (c ≢ check.Formed → P (Fault (faultOf c))) → P (judged c w)
@@ -32,13 +32,15 @@ pub record SiteParts (fs : List (List ℕ)) : Type 0 where
   pub letter : field fs 0 ≡ bytes "N"
   pub name : isName (field fs 1) ≡ true
 
--- four fields, `L`, two names and a number
+-- four or five fields, `L`, two names and a number, and a number where there is a fifth
 pub record LinkParts (fs : List (List ℕ)) : Type 0 where
-  pub count : length fs ≡ 4
+  pub enough : 4 ≤ length fs
+  pub no-more : length fs ≤ 5
   pub letter : field fs 0 ≡ bytes "L"
   pub name : isName (field fs 1) ≡ true
   pub name2 : isName (field fs 2) ≡ true
   pub size : isNumber (field fs 3) ≡ true
+  pub reserve : length fs ≡ 5 → isNumber (field fs 4) ≡ true
 
 pub site-parts : (fs : List (List ℕ)) → IsSite fs → SiteParts fs
 site-parts [] e = absurd (omega (arith, formed-parts siteForm [] e .1))
@@ -56,7 +58,12 @@ link-parts (a ∷ b ∷ c ∷ d ∷ fs) e =
     let h = formed-parts linkForm (a ∷ b ∷ c ∷ d ∷ fs) e in
     let one = name-first b (c ∷ d ∷ fs) 1 (h .3) in
     let two = name-first c (d ∷ fs) 0 (one .1) in
-    record { count = omega (arith, h .1, h .2); letter = h .0; name = one .0; name2 = two .0; size = number-first d fs (two .1) .0 }
+    let size = number-first d fs (two .1) in
+    record { enough = omega arith; no-more = omega (arith, h .2); letter = h .0; name = one .0; name2 = two .0; size = size .0; reserve = fifth fs (size .1) }
+  where
+    fifth : (gs : List (List ℕ)) → checkedFields 0 gs ≡ check.Formed → length (a ∷ b ∷ c ∷ d ∷ gs) ≡ 5 → isNumber (field (a ∷ b ∷ c ∷ d ∷ gs) 4) ≡ true
+    fifth [] h n = absurd (omega arith)
+    fifth (g ∷ gs) h n = number-first g gs h .0
 
 -- and these parts make the form
 site-made : (fs : List (List ℕ)) → SiteParts fs → IsSite fs
@@ -71,12 +78,13 @@ site-is-its-parts fs = (site-parts fs, site-made fs)
 
 link-made : (fs : List (List ℕ)) → LinkParts fs → IsLink fs
 unfolding checked checkedFields same
-link-made [] k = absurd (omega (arith, k .count))
-link-made (a ∷ []) k = absurd (omega (arith, k .count))
-link-made (a ∷ b ∷ []) k = absurd (omega (arith, k .count))
-link-made (a ∷ b ∷ c ∷ []) k = absurd (omega (arith, k .count))
+link-made [] k = absurd (omega (arith, k .enough))
+link-made (a ∷ []) k = absurd (omega (arith, k .enough))
+link-made (a ∷ b ∷ []) k = absurd (omega (arith, k .enough))
+link-made (a ∷ b ∷ c ∷ []) k = absurd (omega (arith, k .enough))
 link-made (a ∷ b ∷ c ∷ d ∷ []) k = rw (k .letter, k .name, k .name2, k .size)
-link-made (a ∷ b ∷ c ∷ d ∷ e ∷ fs) k = absurd (omega (arith, k .count))
+link-made (a ∷ b ∷ c ∷ d ∷ e ∷ []) k = rw (k .letter, k .name, k .name2, k .size, k .reserve refl)
+link-made (a ∷ b ∷ c ∷ d ∷ e ∷ f ∷ fs) k = absurd (omega (arith, k .no-more))
 
 pub link-is-its-parts : (fs : List (List ℕ)) → IsLink fs ↔ LinkParts fs
 link-is-its-parts fs = (link-parts fs, link-made fs)
@@ -95,16 +103,41 @@ judged-right c w n e z = (
   rw (← e, z),
 )
 
--- the line of a link whose names have a and b bytes, by its size
-abbrev pub linkOf : ℕ → ℕ → Size → Line
-linkOf a b (Within size) = Link 2 (2 + a) (3 + a) (3 + a + b) size
-linkOf a b Above = Fault 3
+-- a line without a fifth field has no reserve
+pub no-fifth : (fs : List (List ℕ)) → length fs < 5 → reserve fs ≡ 0
+unfolding valueFrom
+no-fifth fs h = rw (List·getD-eq-default fs [] {n = 4} (omega arith)) refl
 
-pub link-by-size : (most : ℕ) (fs : List (List ℕ)) → sizedLink most fs ≡ linkOf (length (field fs 1)) (length (field fs 2)) (sizeOf most (field fs 3))
-unfolding sizedLink sizeOf
-link-by-size most fs = by (leb (value (field fs 3)) most)
-  where
-    by : (t : Bool) → let a = length (field fs 1) in let b = length (field fs 2) in let v = value (field fs 3) in
-        cond t (Link 2 (2 + a) (3 + a) (3 + a + b) v) (Fault 3) ≡ linkOf a b (cond t (Within v) Above)
-    by true = refl
-    by false = refl
+pub no-reserve : (most : ℕ) (fs : List (List ℕ)) → length fs < 5 → sizeOf most (field fs 4) ≡ Within 0
+unfolding sizeOf
+no-reserve most fs h = rw (no-fifth fs h, le-leb 0 most (omega arith))
+
+-- ---- by the size and the reserve
+
+module _ (P : Capacity → Type 0) (most : ℕ) (f g : List ℕ) where
+  -- what holds of a capacity: either is above the limit; or neither, and the reserve is above the size; or it is not
+  pub capacity-cases : ((most < value f) ⊎ (most < value g) → P (Faulty 3)) → (value f ≤ most → value g ≤ most → value f < value g → P (Faulty 13))
+      → (value f ≤ most → value g ≤ value f → P (Usable (value f - value g))) → P (capacityOf (sizeOf most f) (sizeOf most g))
+  unfolding capacityOf sizeOf
+  capacity-cases large held usable = by (leb (value f) most) refl (leb (value g) most) refl (leb (value g) (value f)) refl
+    where
+      by : (t : Bool) → leb (value f) most ≡ t → (u : Bool) → leb (value g) most ≡ u → (v : Bool) → leb (value g) (value f) ≡ v
+          → P (capacityOf (cond t (Within (value f)) Above) (cond u (Within (value g)) Above))
+      by false a u b v c = large (inl (leb-false _ _ a))
+      by true a false b v c = large (inr (leb-false _ _ b))
+      by true a true b false c = rw c (held (leb-true _ _ a) (leb-true _ _ b) (leb-false _ _ c))
+      by true a true b true c = rw c (usable (leb-true _ _ a) (leb-true _ _ c))
+
+module _ (most : ℕ) (f g : List ℕ) where
+  -- and each of these makes it
+  pub above-is-3 : (most < value f) ⊎ (most < value g) → capacityOf (sizeOf most f) (sizeOf most g) ≡ Faulty 3
+  above-is-3 o = capacity-cases (λ c. c ≡ Faulty 3) most f g (λ p. refl) (λ a b l. absurd (⊎-elim (λ p. omega arith) (λ p. omega arith) o))
+      (λ a b. absurd (⊎-elim (λ p. omega arith) (λ p. omega arith) o))
+
+  pub above-the-size-is-13 : value f ≤ most → value g ≤ most → value f < value g → capacityOf (sizeOf most f) (sizeOf most g) ≡ Faulty 13
+  above-the-size-is-13 a b l = capacity-cases (λ c. c ≡ Faulty 13) most f g (λ o. absurd (⊎-elim (λ p. omega arith) (λ p. omega arith) o))
+      (λ p q r. refl) (λ p q. absurd (omega arith))
+
+  pub else-is-usable : value f ≤ most → value g ≤ value f → capacityOf (sizeOf most f) (sizeOf most g) ≡ Usable (value f - value g)
+  else-is-usable a b = capacity-cases (λ c. c ≡ Usable (value f - value g)) most f g (λ o. absurd (⊎-elim (λ p. omega arith) (λ p. omega arith) o))
+      (λ p q r. absurd (omega arith)) (λ p q. refl)

@@ -1,20 +1,24 @@
 -- What a line of a network sheet is: a heading, a site, a link or a fault, by its fields held against the forms.
--- Document 01, "The network sheet".
+-- Document 01, "The network sheet"; 02, Card 5 (the reserve of a link).
 use mathlib.Core.Bool.{Bool, cond, _&&_}
 use mathlib.Core.List.{List}
 use mathlib.Core.Path.{_≡_}
-use Prim.Native.Nat.{ℕ, _+_}
+use Prim.Native.Nat.{ℕ, _+_, _-_}
 use lib.Dec.{eqb, leb}
 use lib.ListN.{length}
 use Rattle.sheet_kinds.specs.declared.Line.{Line}
 use Rattle.sheet_kinds.specs.declared.Line.the-variants.{Heading, Site, Link, Fault}
+use Rattle.sheet_kinds.specs.declared.Capacity.{Capacity}
+use Rattle.sheet_kinds.specs.declared.Capacity.the-variants.{Usable, Faulty}
 use Rattle.model.specs.Text.{bytes}
 use Rattle.text_grammar.specs.declared.Form.{Form}
 use Rattle.text_grammar.specs.declared.Check.{Check}
 use Rattle.text_grammar.specs.declared.Check.the-variants as check
+use Rattle.text_grammar.specs.declared.Size.{Size}
+use Rattle.text_grammar.specs.declared.Size.the-variants.{Within, Above}
 unfoldable pub use Rattle.text_fields.specs.Fields.{same, push, fields, all, isName, isNumber, valueFrom}
 pub use Rattle.text_fields.specs.Fields.{field, isDigit, isLetterOrDigit, value}
-unfoldable pub use Rattle.text_grammar.specs.Grammar.{checkedFields, checked, faultOf}
+unfoldable pub use Rattle.text_grammar.specs.Grammar.{checkedFields, checked, faultOf, sizeOf}
 
 -- `network`, tab, `1`
 unfoldable pub isHeading : List (List ℕ) → Bool
@@ -24,9 +28,9 @@ isHeading fs = eqb (length fs) 2 && same (field fs 0) (bytes "network") && same 
 abbrev pub siteForm : Form
 siteForm = record { letter = 78; names = 1; least = 0; most = 0 }
 
--- `L`, tab, name, tab, name, tab, size
+-- `L`, tab, name, tab, name, tab, size; and, where channels are held back, tab, reserve (02, Card 5)
 abbrev pub linkForm : Form
-linkForm = record { letter = 76; names = 2; least = 1; most = 1 }
+linkForm = record { letter = 76; names = 2; least = 1; most = 2 }
 
 -- the fields have the form of a site, and of a link
 abbrev pub IsSite : List (List ℕ) → Type 0
@@ -43,12 +47,31 @@ judged c line = cond (eqb (faultOf c) 0) line (Fault (faultOf c))
 unfoldable pub siteLine : List (List ℕ) → Line
 siteLine fs = judged (checked siteForm fs) (Site 2 (2 + length (field fs 1)))
 
--- a line of the form of a link, or fault 3 where its size is above the limit
+-- the size and the reserve of a link line; a line without a fifth field has an empty one here, of value 0 (02, Card 5: without it the reserve is 0)
+abbrev pub size : List (List ℕ) → ℕ
+size fs = value (field fs 3)
+
+abbrev pub reserve : List (List ℕ) → ℕ
+reserve fs = value (field fs 4)
+
+-- the usable size of a link line (02, Card 5: size minus reserve)
+abbrev pub usableSize : List (List ℕ) → ℕ
+usableSize fs = size fs - reserve fs
+
+-- the capacity that a size and a reserve give, each within the limit or above it: 3 where either is above, then 13 where the reserve is above the size
+unfoldable pub capacityOf : Size → Size → Capacity
+capacityOf Above r = Faulty 3
+capacityOf (Within s) Above = Faulty 3
+capacityOf (Within s) (Within r) = cond (leb r s) (Usable (s - r)) (Faulty 13)
+
+-- the line of a link whose names have a and b bytes, by its capacity
+abbrev pub linkOf : ℕ → ℕ → Capacity → Line
+linkOf a b (Usable c) = Link 2 (2 + a) (3 + a) (3 + a + b) c
+linkOf a b (Faulty n) = Fault n
+
+-- a line of the form of a link, with its usable size, or its fault
 unfoldable pub sizedLink : ℕ → List (List ℕ) → Line
-sizedLink most fs =
-    let a = length (field fs 1) in
-    let b = length (field fs 2) in
-    cond (leb (value (field fs 3)) most) (Link 2 (2 + a) (3 + a) (3 + a + b) (value (field fs 3))) (Fault 3)
+sizedLink most fs = linkOf (length (field fs 1)) (length (field fs 2)) (capacityOf (sizeOf most (field fs 3)) (sizeOf most (field fs 4)))
 
 -- a line as a link
 unfoldable pub linkLine : ℕ → List (List ℕ) → Line

@@ -4,13 +4,14 @@ use mathlib.Core.Bool.{Bool, true, false, cond}
 use mathlib.Core.List.{List}
 use mathlib.Core.Path.{_≡_, refl}
 use Prim.Native.Nat.{ℕ, _+_}
-use lib.Dec.{eqb, leb}
+use lib.Dec.{eqb}
 use lib.ListN.{length}
 use Rattle.model.specs.Text.{bytes}
 pub use Rattle.text_grammar.specs.declared.Check.{Check}
 use Rattle.text_grammar.specs.declared.Check.the-variants.{Formed, Letter, Count, Name, Number}
-use Rattle.sheet_kinds.specs.LineKinds.{same, fields, field, value, isHeading, checked, faultOf, siteForm, linkForm, judged, siteLine}
-use Rattle.sheet_kinds.specs.LineKinds.{sizedLink, linkLine, kindOf, kind}
+use Rattle.sheet_kinds.specs.LineKinds.{same, fields, field, isHeading, checked, faultOf, siteForm, linkForm, judged, siteLine}
+use Rattle.sheet_kinds.specs.LineKinds.{linkOf, sizedLink, linkLine, kindOf, kind}
+use Rattle.sheet_kinds.specs.LineKindLaws.{capacity-cases}
 use Rattle.sheet_kinds.specs.declared.Line.{Line}
 use Rattle.sheet_kinds.specs.declared.Line.the-variants.{Heading, Site, Link, Fault}
 
@@ -63,11 +64,14 @@ judged-before Number w e = refl
 
 sized-stays : (most : ℕ) (fs : List (List ℕ)) → lineBefore (sizedLink most fs) ≡ sizedLink most fs
 unfolding sizedLink numberBefore
-sized-stays most fs = by (leb (value (field fs 3)) most) (Link _ _ _ _ _) refl
+sized-stays most fs = capacity-cases (λ c. lineBefore (linkOf one two c) ≡ linkOf one two c) most (field fs 3) (field fs 4) (λ o. refl) (λ a b h. refl)
+    (λ a b. refl)
   where
-    by : (t : Bool) (w : Line) → lineBefore w ≡ w → lineBefore (cond t w (Fault 3)) ≡ cond t w (Fault 3)
-    by true w e = e
-    by false w e = refl
+    one : ℕ
+    one = length (field fs 1)
+
+    two : ℕ
+    two = length (field fs 2)
 
 pub a-line-is-as-before : (most : ℕ) (l : List ℕ) → kindBy faultBefore most l ≡ lineBefore (kind most l)
 unfolding kindBy kind kindOf linkLine siteLine

@@ -1,8 +1,8 @@
-// What a line of a network sheet is (document 01, "The network sheet"), by the grammar of lines.
+// What a line of a network sheet is (document 01, "The network sheet"; 02, Card 5, the reserve of a link), by the grammar of lines.
 ghost use mathlib.Core.Path.{_≡_};
-ghost use Rattle.text_fields.specs.Fields.{fields};
-ghost use Rattle.text_grammar.specs.Grammar.{split};
-ghost use Rattle.sheet_kinds.specs.LineKinds.{siteForm, linkForm, isHeading, siteLine, linkLine, kind};
+ghost use Rattle.text_fields.specs.Fields.{fields, field};
+ghost use Rattle.text_grammar.specs.Grammar.{split, sizeOf};
+ghost use Rattle.sheet_kinds.specs.LineKinds.{siteForm, linkForm, isHeading, IsLink, siteLine, capacityOf, linkLine, kind};
 use text_grammar::Fields;
 use text_grammar::Form;
 use text_grammar::Size;
@@ -25,6 +25,12 @@ pub enum Line {
     Fault(u64),
 }
 
+// The capacity that a link line gives: its usable size, or the refusal's number.
+pub enum Capacity {
+    Usable(u64),
+    Faulty(u64),
+}
+
 // The form of a site line.
 fn site_form() -> Form
     ensures { λ r. ⌜ r ≡ siteForm ⌝ }
@@ -45,7 +51,7 @@ fn link_form() -> Form
         letter: b'L',
         names: 2,
         least: 1,
-        most: 1,
+        most: 2,
     }
 }
 
@@ -78,6 +84,42 @@ fn site(line: &[u8], found: Fields) -> Line
     }
 }
 
+// The reserve of a link line, where it is within the limit; a line without a fifth field has none.
+fn reserve(line: &[u8], found: Fields, most: u64) -> Size
+    requires { ⌜ found ≡ split (now line) ⌝ }
+    ensures { λ r. ⌜ r ≡ sizeOf most (field (fields (now (line .entry))) 4) ⌝ }
+{
+    if found.count < 5 {
+        return Size::Within(0);
+    }
+    text_grammar::size_of(text_grammar::field(line, found, 4), most)
+}
+
+// The capacity that a size and a reserve give.
+fn capacity_of(size: Size, reserve: Size) -> Capacity
+    ensures { λ r. ⌜ r ≡ capacityOf size reserve ⌝ }
+{
+    let Size::Within(given) = size else {
+        return Capacity::Faulty(3);
+    };
+    let Size::Within(held) = reserve else {
+        return Capacity::Faulty(3);
+    };
+    if held > given {
+        return Capacity::Faulty(13);
+    }
+    Capacity::Usable(given - held)
+}
+
+// The capacity of a link line.
+fn usable(line: &[u8], found: Fields, most: u64) -> Capacity
+    requires { ⌜ (found ≡ split (now line)) × IsLink (fields (now line)) ⌝ }
+    ensures { λ r. ⌜ r ≡ capacityOf (sizeOf most (field (fields (now (line .entry))) 3)) (sizeOf most (field (fields (now (line .entry))) 4)) ⌝ }
+{
+    let size = text_grammar::size_of(text_grammar::field(line, found, 3), most);
+    capacity_of(size, reserve(line, found, most))
+}
+
 // What a line is as a link.
 fn link(line: &[u8], found: Fields, most: u64) -> Line
     requires { ⌜ found ≡ split (now line) ⌝ }
@@ -87,17 +129,19 @@ fn link(line: &[u8], found: Fields, most: u64) -> Line
     if fault != 0 {
         return Line::Fault(fault);
     }
-    let size = text_grammar::size_of(text_grammar::field(line, found, 3), most);
-    let Size::Within(value) = size else {
-        return Line::Fault(3);
-    };
-    let end = found.end[1];
-    Line::Link {
-        start: 2,
-        end,
-        start2: end + 1,
-        end2: found.end[2],
-        size: value,
+    let capacity = usable(line, found, most);
+    match capacity {
+        Capacity::Faulty(number) => Line::Fault(number),
+        Capacity::Usable(size) => {
+            let end = found.end[1];
+            Line::Link {
+                start: 2,
+                end,
+                start2: end + 1,
+                end2: found.end[2],
+                size,
+            }
+        }
     }
 }
 

@@ -95,12 +95,19 @@ slice-aggregate-put-bytes-10 : tie.Need-slice-aggregate-put-bytes-10
 slice-aggregate-put-bytes-10 c = search needs
 
 put-bytes-requires-10 : tie.Need-put-bytes-requires-10
-put-bytes-requires-10 c κs =
+unfolding cause pick ℕ-discrete
+put-bytes-requires-10 c κs = rw (c .before .before .match .keys13) at (c .before .before .before .before .pre)
+
+slice-aggregate-put-bytes-11 : tie.Need-slice-aggregate-put-bytes-11
+slice-aggregate-put-bytes-11 c = search needs
+
+put-bytes-requires-11 : tie.Need-put-bytes-requires-11
+put-bytes-requires-11 c κs =
     let s = c .before .before .before .before in
     let late = c .before .before .match .rest in
-    let early = late .0 .0 .0 .0 .0 .0 in
+    let early = late .0 .0 .0 .0 .0 .0 .0 in
     let none = no-cause (s .args .number) (early .0 .0 .0 .0 .0 .1) (early .0 .0 .0 .0 .1) (early .0 .0 .0 .1) (early .0 .0 .1) (early .0 .1) (early .1)
-    (late .0 .0 .0 .0 .0 .1) (late .0 .0 .0 .0 .1) (late .0 .0 .0 .1) (late .0 .0 .1) (late .0 .1) (late .1) in
+    (late .0 .0 .0 .0 .0 .0 .1) (late .0 .0 .0 .0 .0 .1) (late .0 .0 .0 .0 .1) (late .0 .0 .0 .1) (late .0 .0 .1) (late .0 .1) (late .1) in
     rw none at (s .pre)
 
 same-length : tie.Need-same-length
@@ -191,14 +198,21 @@ same-length-13 : tie.Need-same-length-13
 same-length-13 c = search needs
 
 returns-13 : tie.Need-returns-13
-returns-13 c =
+unfolding cause pick ℕ-discrete
+returns-13 c = rw (c .before .before .before .before .before .match .keys13) (c .before .before .put-bytes10 .ensures)
+
+same-length-14 : tie.Need-same-length-14
+same-length-14 c = search needs
+
+returns-14 : tie.Need-returns-14
+returns-14 c =
     let at-match = c .before .before .before .before .before in
     let n = at-match .before .before .args .number in
     let late = at-match .match .rest in
-    let early = late .0 .0 .0 .0 .0 .0 in
+    let early = late .0 .0 .0 .0 .0 .0 .0 in
     let none = no-cause n (early .0 .0 .0 .0 .0 .1) (early .0 .0 .0 .0 .1) (early .0 .0 .0 .1) (early .0 .0 .1) (early .0 .1) (early .1)
-    (late .0 .0 .0 .0 .0 .1) (late .0 .0 .0 .0 .1) (late .0 .0 .0 .1) (late .0 .0 .1) (late .0 .1) (late .1) in
-    rw none (c .before .before .put-bytes10 .ensures)
+    (late .0 .0 .0 .0 .0 .0 .1) (late .0 .0 .0 .0 .0 .1) (late .0 .0 .0 .0 .1) (late .0 .0 .0 .1) (late .0 .0 .1) (late .0 .1) (late .1) in
+    rw none (c .before .before .put-bytes11 .ensures)
 
 pub put-cause-spec : {M : Type 1} → statement M
 put-cause-spec =
@@ -230,6 +244,8 @@ put-cause-spec =
     put-bytes-requires-9
     slice-aggregate-put-bytes-10
     put-bytes-requires-10
+    slice-aggregate-put-bytes-11
+    put-bytes-requires-11
     same-length
     returns
     same-length-2
@@ -255,4 +271,6 @@ put-cause-spec =
     same-length-12
     returns-12
     same-length-13
-    returns-13)
+    returns-13
+    same-length-14
+    returns-14)

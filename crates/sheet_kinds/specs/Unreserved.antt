@@ -1,0 +1,91 @@
+-- Lines from before Card 5: a link line has four fields, and its capacity is its size. Document 02, Card 5 ("may carry a fifth field").
+-- A line that is no link line of five fields is what it was: by the count of its fields, and since no digits have the value 0.
+use mathlib.Core.Bool.{Bool, true, false, cond, _&&_}
+use mathlib.Core.List.{List}
+use mathlib.Core.Logic.{_≢_, ⊎-elim}
+use mathlib.Core.Path.{_≡_, refl, sym, _∙_}
+use Prim.Native.Nat.{ℕ, _+_, _<_}
+use native.Mathlib.Decide.{decLe}
+use native.Mathlib.Nat.{sub-zero}
+use native.Mathlib.Omega.{arith}
+use lib.Dec.{leb}
+use lib.ListN.{length}
+use borrow.Author.Tests.{le-leb, lt-leb}
+use Rattle.lists.specs.Sums.{cases}
+use Rattle.model.specs.Text.{bytes}
+use Rattle.text_grammar.specs.declared.Form.{Form}
+use Rattle.text_grammar.specs.declared.Check.{Check}
+use Rattle.text_grammar.specs.declared.Check.the-variants as check
+use Rattle.sheet_kinds.specs.LineKinds.{same, fields, field, isHeading, checked, faultOf, linkForm, judged, siteLine}
+use Rattle.sheet_kinds.specs.LineKinds.{size, linkOf, sizedLink, linkLine, kindOf, kind}
+use Rattle.sheet_kinds.specs.LineKindLaws.{same-are-equal, link-parts, no-fifth, capacity-cases}
+use Rattle.sheet_kinds.specs.declared.Line.{Line}
+use Rattle.sheet_kinds.specs.declared.Line.the-variants.{Heading, Link, Fault}
+
+-- ---- the definitions
+
+-- `L`, tab, name, tab, name, tab, size
+abbrev pub linkFormBefore : Form
+linkFormBefore = record { letter = 76; names = 2; least = 1; most = 1 }
+
+-- a line of that form, or fault 3 where its size is above the limit
+unfoldable pub sizedBefore : ℕ → List (List ℕ) → Line
+sizedBefore most fs =
+    let a = length (field fs 1) in
+    let b = length (field fs 2) in
+    cond (leb (size fs) most) (Link 2 (2 + a) (3 + a) (3 + a + b) (size fs)) (Fault 3)
+
+-- what a line was
+unfoldable pub kindUnreserved : ℕ → List ℕ → Line
+kindUnreserved most l =
+    let fs = fields l in
+    cond (isHeading fs) Heading (cond (same (field fs 0) (bytes "L")) (judged (checked linkFormBefore fs) (sizedBefore most fs)) (siteLine fs))
+
+-- ---- the laws
+
+-- a line that is not formed is its fault, whatever it would be
+judged-alike : (c : Check) (v w : Line) → (c ≡ check.Formed → v ≡ w) → judged c v ≡ judged c w
+unfolding judged faultOf
+judged-alike check.Formed v w h = h refl
+judged-alike check.Letter v w h = refl
+judged-alike check.Count v w h = refl
+judged-alike check.Name v w h = refl
+judged-alike check.Number v w h = refl
+
+module _ (most : ℕ) (fs : List (List ℕ)) where
+  -- a link line of at most four fields has its size for its capacity
+  sized-as-before : length fs < 5 → sizedLink most fs ≡ sizedBefore most fs
+  unfolding sizedLink sizedBefore
+  sized-as-before h =
+      let none = no-fifth fs h in
+      capacity-cases (λ c. linkOf (length (field fs 1)) (length (field fs 2)) c ≡ sizedBefore most fs) most (field fs 3) (field fs 4)
+      (λ o. rw (lt-leb (size fs) most (⊎-elim (λ p. p) (λ p. absurd (omega arith)) o)))
+      (λ p q r. absurd (omega arith))
+      (λ p q. rw (le-leb (size fs) most p, none, sub-zero (size fs)))
+
+  -- and it is held against its form as it was; more than five fields are too many for either form
+  checked-as-before : length fs ≢ 5 → checked linkForm fs ≡ checked linkFormBefore fs
+  unfolding checked
+  checked-as-before d = cases (decLe (length fs) 4)
+      (λ h. rw (le-leb (length fs) 5 (omega arith), le-leb (length fs) 4 h))
+      (λ h. rw (lt-leb (length fs) 5 (omega (arith, d)), lt-leb (length fs) 4 (omega arith)))
+
+  link-as-before : length fs ≢ 5 → linkLine most fs ≡ judged (checked linkFormBefore fs) (sizedBefore most fs)
+  unfolding linkLine
+  link-as-before d =
+      judged-alike (checked linkForm fs) (sizedLink most fs) (sizedBefore most fs)
+      (λ e. let n = link-parts fs e .no-more in sized-as-before (omega (arith, d)))
+      ∙ rw (checked-as-before d)
+
+-- a line that is no link line of five fields is what it was
+pub a-line-without-reserve-is-as-before : (most : ℕ) (l : List ℕ) → (field (fields l) 0 ≡ bytes "L" → length (fields l) ≢ 5)
+    → kindUnreserved most l ≡ kind most l
+unfolding kindUnreserved kind kindOf
+a-line-without-reserve-is-as-before most l none = by (isHeading (fields l)) (same (field (fields l) 0) (bytes "L")) refl
+  where
+    by : (t u : Bool) → same (field (fields l) 0) (bytes "L") ≡ u → let fs = fields l in
+        cond t Heading (cond u (judged (checked linkFormBefore fs) (sizedBefore most fs)) (siteLine fs))
+        ≡ cond t Heading (cond u (linkLine most fs) (siteLine fs))
+    by true u e = refl
+    by false true e = sym (link-as-before most (fields l) (none (same-are-equal _ _ e)))
+    by false false e = refl
