@@ -451,7 +451,10 @@ mod tests {
     #[test]
     fn a_reserve_may_follow_the_size() {
         assert_eq!(sizes(b"7\t0\n"), Some((7, Some(0))));
-        assert_eq!(sizes(b"1000000\t1000000\n"), Some((1_000_000, Some(1_000_000))));
+        assert_eq!(
+            sizes(b"1000000\t1000000\n"),
+            Some((1_000_000, Some(1_000_000)))
+        );
         assert_eq!(sizes(b"0\t9999999\n"), Some((0, Some(9_999_999))));
         let large = sizes(b"123456789\t12345678\n");
         assert!(large.is_some_and(|(size, reserve)| size.min(reserve.unwrap_or(0)) > CAPACITY));
