@@ -313,7 +313,7 @@ fn usable_size(size: u32, reserve: Option<u32>) -> Result<u32, Fault> {
 /// Whether a fault of the sizes is told after an unknown name, which is an error that can be planted.
 #[inline(always)]
 fn is_told_late(fault: Fault) -> bool {
-    planted(Error::UnknownFirst)
+    (planted(Error::UnknownFirst) && fault == TOO_LARGE)
         || (planted(Error::UnknownBeforeReserve) && fault == RESERVE_ABOVE_SIZE)
 }
 
