@@ -642,59 +642,27 @@ fn with_faulty_line(random: &mut Random) -> (Lines, u8, usize) {
             (lines, 13, place + 1)
         }
         22 | 23 => {
-            let faults = LinkFaults {
-                is_wrong: false,
-                is_large: false,
-                is_above: true,
-                is_unknown: random.once_in(2),
-            };
-            with_faulty_link(&network, lines, &links, &faults, random)
+            let faults: &[u8] = if random.once_in(2) { &[13] } else { &[13, 6] };
+            with_faulty_link(&network, lines, &links, faults, random)
         }
         _ => {
-            let faults = LinkFaults {
-                is_wrong: random.once_in(2),
-                is_large: random.once_in(3),
-                is_above: random.once_in(3),
-                is_unknown: random.once_in(3),
-            };
+            let mut faults = vec![FORM, 3, 13, 6];
+            faults.retain(|&fault| random.once_in(if fault == FORM { 2 } else { 3 }));
             with_faulty_link(&network, lines, &links, &faults, random)
         }
     }
 }
 
-/// Which faults a link line has, beside that its sites are already joined.
-struct LinkFaults {
-    /// One of form.
-    is_wrong: bool,
-    /// 3, of its size, its reserve or both.
-    is_large: bool,
-    /// 13.
-    is_above: bool,
-    /// 6.
-    is_unknown: bool,
-}
+/// Stands for a fault of form, whichever it is.
+const FORM: u8 = 2;
 
-impl LinkFaults {
-    /// The number of the first one but for those of form.
-    fn number(&self) -> u8 {
-        if self.is_large {
-            3
-        } else if self.is_above {
-            13
-        } else if self.is_unknown {
-            6
-        } else {
-            7
-        }
-    }
-}
-
-/// A sheet with a link line that has one or more of the faults 3, 13, 6, 7 and those of form.
+/// A sheet with a link line whose sites are already joined and which has the faults that are told, in
+/// their order: one of form, 3, 13, 6.
 fn with_faulty_link(
     network: &Network,
     mut lines: Lines,
     links: &[usize],
-    faults: &LinkFaults,
+    faults: &[u8],
     random: &mut Random,
 ) -> (Lines, u8, usize) {
     // A copy of a link after it, turned round or not, joins what is already joined; so does a
@@ -715,20 +683,20 @@ fn with_faulty_link(
             *name = in_either_case(name, random);
         }
     }
-    if faults.is_unknown {
+    if faults.contains(&6) {
         fields[random.between(1, 2)] = unknown_name(&network.names, random);
     }
-    if faults.is_above {
+    if faults.contains(&13) {
         fields.splice(3.., reserve_above_size(random));
     }
-    if faults.is_large {
+    if faults.contains(&3) {
         spoil_sizes(&mut fields, random);
     }
     let line = fields.join(&b'\t');
-    let (line, number) = if faults.is_wrong {
-        wrong_form(&line, random)
-    } else {
-        (line, faults.number())
+    let (line, number) = match faults.first() {
+        Some(&FORM) => wrong_form(&line, random),
+        Some(&first) => (line, first),
+        None => (line, 7),
     };
     lines.insert(place, line);
     (lines, number, place + 1)
