@@ -204,7 +204,7 @@ module _ (ed : Edition) (s : List ℕ) where
     λ j b. same? j (length ls)
         (λ e. rw (e, getD-append-seam ls l [] (0, 0), ← (own .0), getD-append-seam cs c [] 0) (rw (own .0) new))
         (λ d. let low : j < length ls = omega (arith, length-append ls (l ∷ [])) in
-            rw (List·getD-append ls (l ∷ []) (0, 0) j low, List·getD-append cs (c ∷ []) 0 j (omega (arith, own .0))) (own .1 j low)),
+        rw (List·getD-append ls (l ∷ []) (0, 0) j low, List·getD-append cs (c ∷ []) 0 j (omega (arith, own .0))) (own .1 j low)),
   )
 
   own-links : {k at : ℕ} {net : Network} → Reached ed s k at net → OwnLinks (net .links) (net .capacities)

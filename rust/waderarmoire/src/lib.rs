@@ -160,7 +160,7 @@ impl Refusal {
         match self.number {
             1 => "no bytes, or more than 16,384",
             2 => "wrong heading, letter or line ending",
-            3 => "size above 1,000,000",
+            3 => "size or reserve above 1,000,000",
             4 => "more sites than 256",
             5 => "name already given to a site",
             6 => "link to a name not given on a line above",
