@@ -5,7 +5,9 @@ pub mod Flows
 pub mod Trimming
 pub mod Cuts
 pub mod Pairing
+pub mod Parts
 pub mod Whole
 pub mod WholeLoads
 pub mod Examples
 pub mod WholeExamples
+pub mod PartsExamples
