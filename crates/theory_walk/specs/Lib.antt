@@ -14,3 +14,4 @@ pub mod Walk
 pub mod Pairs
 pub mod Order
 pub mod Evens
+pub mod Regions
