@@ -15,3 +15,7 @@ pub mod Pairs
 pub mod Order
 pub mod Evens
 pub mod Regions
+pub mod Near
+pub mod Shares
+pub mod PartCovers
+pub mod PartsTheorem

@@ -89,6 +89,12 @@ module _ (ls : Links) (terminal : ℕ → ℕ) where
       (λ e. rw (pick-same e (two ls k) (one ls k), is-same e) (omega arith))
       (λ d. rw (pick-other d (two ls k) (one ls k), is-other d) (omega arith))
 
+  pub single-le : (k : ℕ) → single ls terminal k ≤ 1
+  single-le k = omega (arith, single-home k, is-le (terminal (home ls terminal k)) 1)
+
+  pub single-terminal : (k v : ℕ) → single ls terminal k ≡ 1 → at ls v k ≡ 1 → terminal v ≡ 1
+  single-terminal k v e a = home-terminal k v (is-one (sym (single-home k) ∙ e)) a
+
   -- a link with an inner site is of the part of that site's region
   pub home-region : (k v : ℕ) → k < length ls → at ls v k ≡ 1 → terminal v ≢ 1 → inPart ls terminal (region ls terminal v) k ≡ 1
   home-region k v l a d =
