@@ -19,3 +19,4 @@ pub mod Near
 pub mod Shares
 pub mod PartCovers
 pub mod PartsTheorem
+pub mod Unmarked
