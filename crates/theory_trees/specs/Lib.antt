@@ -11,9 +11,11 @@ pub mod Orders
 pub mod Greatest
 pub mod TreeTest
 pub mod TerminalCuts
+pub mod Between
 pub mod Owners
 pub mod Bounds
 pub mod Leaves
+pub mod FreePairs
 pub mod Ends
 pub mod Runs
 pub mod Work

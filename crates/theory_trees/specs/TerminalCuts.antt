@@ -1,7 +1,7 @@
 -- Terminal cuts from the promise alone: disjoint, with saturated links around them, and of the size of their terminal's balanced links.
 -- By one idea: one more unit along the path of two sites joined by unsaturated links cannot be balanced, since the capacities are the greatest.
 use mathlib.Core.Path.{_≡_, refl, sym, ap, _∙_}
-use mathlib.Core.Logic.{_≢_, _↔_}
+use mathlib.Core.Logic.{_≢_, _↔_, Iff·rfl, Iff·symm, Iff·trans}
 use mathlib.Core.List.{[], _∷_}
 use Prim.Native.Nat.{ℕ, zero, suc, _+_, _*_, _≤_, _<_}
 use native.Mathlib.Omega.{arith}
@@ -35,23 +35,29 @@ kept-linked u (a ∷ ls) (suc i) l h =
     (λ e. rw (pick-same e) (ap (relabel (label rest (a .0)) (label rest (a .1))) ih))
     (λ d. rw (pick-other d) ih)
 
-kept-along : (u : ℕ → ℕ) (ls : Links) (f : ℕ → ℕ) → ((i : ℕ) → i < length ls → u i ≡ 1 → f (one ls i) ≡ f (two ls i))
-    → (x : ℕ) → f (label (kept u ls) x) ≡ f x
+-- what the sites of each kept link share, a site and its label by them share
+kept-along : (u : ℕ → ℕ) (ls : Links) (P : ℕ → Type 0) → ((i : ℕ) → i < length ls → u i ≡ 1 → P (one ls i) ↔ P (two ls i))
+    → (x : ℕ) → P (label (kept u ls) x) ↔ P x
 unfolding kept label relabel
-kept-along u [] f h x = refl
-kept-along u (a ∷ ls) f h x =
+kept-along u [] P h x = Iff·rfl
+kept-along u (a ∷ ls) P h x =
     let rest = kept (λ i. u (suc i)) ls in
-    let ih = kept-along (λ i. u (suc i)) ls f (λ i p. h (suc i) (omega arith)) in
+    let ih = kept-along (λ i. u (suc i)) ls P (λ i p. h (suc i) (omega arith)) in
     same? (u 0) 1
-    (λ e. rw (pick-same e) (pick-cases (λ r. f r ≡ f x) (label rest x) (label rest (a .1)) (label rest (a .0)) (label rest x)
-    (λ q. ih (a .0) ∙ h 0 (omega arith) e ∙ sym (ih (a .1)) ∙ ap f (sym q) ∙ ih x)
+    (λ e. rw (pick-same e) (pick-cases (λ r. P r ↔ P x) (label rest x) (label rest (a .1)) (label rest (a .0)) (label rest x)
+    (λ q. Iff·trans (ih (a .0)) (Iff·trans (h 0 (omega arith) e) (Iff·trans (Iff·symm (ih (a .1))) (rw (← q) (ih x)))))
     (λ q. ih x)))
     (λ d. rw (pick-other d) (ih x))
 
--- what the sites of each kept link share, sites that they join share
+-- so do sites that they join
+pub kept-induct : (u : ℕ → ℕ) (ls : Links) (P : ℕ → Type 0) → ((i : ℕ) → i < length ls → u i ≡ 1 → P (one ls i) ↔ P (two ls i))
+    → (x y : ℕ) → label (kept u ls) x ≡ label (kept u ls) y → P x → P y
+kept-induct u ls P h x y e p = kept-along u ls P h y .0 (rw e at (kept-along u ls P h x .1 p))
+
+-- the same for a function
 pub kept-agree : (u : ℕ → ℕ) (ls : Links) (f : ℕ → ℕ) → ((i : ℕ) → i < length ls → u i ≡ 1 → f (one ls i) ≡ f (two ls i))
     → (x y : ℕ) → label (kept u ls) x ≡ label (kept u ls) y → f x ≡ f y
-kept-agree u ls f h x y e = sym (kept-along u ls f h x) ∙ ap f e ∙ kept-along u ls f h y
+kept-agree u ls f h x y e = kept-induct u ls (λ z. f x ≡ f z) (λ i l k. rw (h i l k) Iff·rfl) x y e refl
 
 -- ---- groups: sites joined by unsaturated links
 
