@@ -19,4 +19,5 @@ pub mod Near
 pub mod Shares
 pub mod PartCovers
 pub mod PartsTheorem
+pub mod PartsMeaning
 pub mod Unmarked

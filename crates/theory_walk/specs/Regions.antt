@@ -123,7 +123,7 @@ module _ (ls : Links) (terminal : ℕ → ℕ) where
     abbrev low : ℕ
     low = lowest ls terminal n g
 
-    low-is : (Site n low) × (terminal low ≢ 1) × (region ls terminal low ≡ g)
+    pub low-is : (Site n low) × (terminal low ≢ 1) × (region ls terminal low ≡ g)
     unfolding lowest
     low-is =
         let f : ℕ → ℕ = λ x. differ (member ls terminal g x) 1 in
