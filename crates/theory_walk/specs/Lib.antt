@@ -19,5 +19,6 @@ pub mod Near
 pub mod Shares
 pub mod PartCovers
 pub mod PartsTheorem
+pub mod PartsLoops
 pub mod PartsMeaning
 pub mod Unmarked
