@@ -6,18 +6,20 @@ use mathlib.Core.List.{List}
 use Prim.Native.Nat.{ℕ, _+_, _*_, _≤_, _<_}
 use native.Mathlib.Omega.{arith}
 use lib.ListN.{length}
-use Rattle.lists.specs.Numbers.{count, over}
+use Rattle.lists.specs.Numbers.{count, over, Each}
 use Rattle.lists.specs.Sums.{is-same, same?, sum-ge}
 use Rattle.model.specs.Flows.{Links, Site, Tree, at, sumAt, leaf, total, atTerminals}
 use Rattle.model.specs.Trimming.{elimination}
 use Rattle.model.specs.Pairing.{pairList}
-use Rattle.model.specs.Whole.{WholePlan, LargestWhole, setSizes, oddPieces}
+use Rattle.model.specs.Parts.{pairListOfParts}
+use Rattle.model.specs.Whole.{Even, WholePlan, LargestWhole, setSizes, oddPieces}
 use Rattle.model.specs.WholeLoads.{parentOf, above, noIntervals, takeAll, intervals, loading, wholeLoad, wholeOwner}
 use Rattle.model.specs.declared.Pair.{Pair}
 use Rattle.theory_trees.specs.Trees.{local-one}
 use Rattle.theory_trees.specs.Leaves.{Outer}
 use Rattle.theory_walk.specs.Sound.{Sound}
 use Rattle.theory_walk.specs.PairingTheorem.{pair-list-is-sound, pair-list-is-even}
+use Rattle.theory_walk.specs.PartsTheorem.{pair-list-of-parts-is-sound, pair-list-of-parts-is-even}
 use Rattle.theory_whole.specs.Counting.{oddAt}
 use Rattle.theory_whole.specs.Solution.{Solution}
 use Rattle.theory_whole.specs.Inward.{most-is-small}
@@ -95,18 +97,24 @@ pub record PairsWhole (ls : Links) (n : ℕ) (terminal c x owner : ℕ → ℕ) 
   pub largest : (fs : List Pair) → WholePlan ls n terminal c fs → total fs ≤ total es
   pub sizes : setSizes ls n terminal c owner ≡ total es + oddPieces ls n c owner
 
+-- pairs that are sound for such loads, in whole circuits
+pairs-of-loads : {ls : Links} {n : ℕ} {terminal c x owner : ℕ → ℕ} → LargestWhole ls n terminal c x owner → (es : List Pair) → Sound ls n terminal x es
+    → Each (λ e. Even (e .amount)) es → PairsWhole ls n terminal c x owner es
+pairs-of-loads w es s even = record {
+  plan = record { routes = s .routes; even = even; fits = λ j l. omega (arith, s .loads j l, w .loads .below j l) };
+  sound = s;
+  sums = s .sums;
+  largest = λ fs h. omega (arith, s .sums, w .largest fs h);
+  sizes = omega (arith, s .sums, w .sizes);
+}
+
 pub the-pairs-of-whole-loads : {ls : Links} {n : ℕ} → Tree ls n → {terminal : ℕ → ℕ} → Outer ls n terminal → {c x owner : ℕ → ℕ}
     → LargestWhole ls n terminal c x owner → PairsWhole ls n terminal c x owner (pairList ls n x terminal)
-the-pairs-of-whole-loads T {terminal} O {x = x} w =
-    let s = pair-list-is-sound T terminal x O (w .loads .balanced) in
-    record {
-      plan = record {
-        routes = s .routes;
-        even = pair-list-is-even T terminal x (w .loads .even);
-        fits = λ j l. omega (arith, s .loads j l, w .loads .below j l);
-      };
-      sound = s;
-      sums = s .sums;
-      largest = λ fs h. omega (arith, s .sums, w .largest fs h);
-      sizes = omega (arith, s .sums, w .sizes);
-    }
+the-pairs-of-whole-loads {ls} {n} T {terminal} O {x = x} w = pairs-of-loads w (pairList ls n x terminal)
+    (pair-list-is-sound T terminal x O (w .loads .balanced)) (pair-list-is-even T terminal x (w .loads .even))
+
+-- for any terminals, the pair list over all parts (02, Card 7)
+pub the-pairs-of-parts-of-whole-loads : {ls : Links} {n : ℕ} → Tree ls n → {terminal c x owner : ℕ → ℕ}
+    → LargestWhole ls n terminal c x owner → PairsWhole ls n terminal c x owner (pairListOfParts ls n x terminal)
+the-pairs-of-parts-of-whole-loads {ls} {n} T {terminal} {x = x} w = pairs-of-loads w (pairListOfParts ls n x terminal)
+    (pair-list-of-parts-is-sound T terminal x (w .loads .balanced)) (pair-list-of-parts-is-even T terminal x (w .loads .even))
