@@ -1,7 +1,8 @@
 -- Terminal cuts: the sites that a terminal reaches over links whose balanced capacity is below the given one.
--- Document 01, "Plans, trimmed sizes, end sets" (end set; its owner, size and count). c: given capacities, t: balanced ones.
+-- Document 01, "Plans, trimmed sizes, end sets" (end set; its owner, size and count); document 02, Card 7 (end sets stop at other ends).
+-- c: given capacities, t: balanced ones.
 use mathlib.Core.List.{List, [], _∷_}
-use Prim.Native.Nat.{ℕ, suc, _*_}
+use Prim.Native.Nat.{ℕ, suc, _+_, _*_}
 use lib.ListN.{length}
 use Rattle.lists.specs.Numbers.{pick, is, differ, less, sum, over}
 use Rattle.model.specs.Flows.{Links, sites, one, two, label}
@@ -36,3 +37,18 @@ module _ (ls : Links) (c t : ℕ → ℕ) where
   -- the terminal whose cut holds x; 0 where none does (01: the end whose set holds it, or `-`)
   unfoldable pub owner : (ℕ → ℕ) → ℕ → ℕ → ℕ
   owner terminal n x = ownerAmong terminal (sites n) x
+
+-- ---- stopping at other terminals
+
+-- 1 if w is a terminal other than a, 0 if not
+unfoldable pub foreign : (ℕ → ℕ) → ℕ → ℕ → ℕ
+foreign terminal a w = is (terminal w) 1 * differ w a
+
+module _ (ls : Links) (c t terminal : ℕ → ℕ) where
+  -- 1 if neither site of link j is a terminal other than a, and its balanced capacity is below the given one, 0 if not
+  unfoldable pub passable : ℕ → ℕ → ℕ
+  passable a j = is (foreign terminal a (one ls j) + foreign terminal a (two ls j)) 0 * less (t j) (c j)
+
+  -- 1 if x is in the cut of terminal a that stops at other terminals, 0 if not (02: end sets stop at ends other than their own)
+  unfoldable pub inStoppedCut : ℕ → ℕ → ℕ
+  inStoppedCut a x = let near = kept (passable a) ls in is (label near x) (label near a)

@@ -13,14 +13,14 @@ use Rattle.model.specs.declared.Pair.{Pair}
 
 -- ---- free pairs
 
-module _ (ls : Links) (terminal : ℕ → ℕ) where
-  -- 1 if w is a terminal other than a and b, 0 if not (02: another end)
-  unfoldable pub another : ℕ → ℕ → ℕ → ℕ
-  another a b w = is (terminal w) 1 * (differ w a * differ w b)
+-- 1 if w is a terminal other than a and b, 0 if not (02: another end)
+unfoldable pub another : (ℕ → ℕ) → ℕ → ℕ → ℕ → ℕ
+another terminal a b w = is (terminal w) 1 * (differ w a * differ w b)
 
+module _ (ls : Links) (terminal : ℕ → ℕ) where
   -- how often the links between a and b have another terminal at one of their sites
   unfoldable pub crossed : ℕ → ℕ → ℕ
-  crossed a b = sum (length ls) (λ j. separates ls j a b * (another a b (one ls j) + another a b (two ls j)))
+  crossed a b = sum (length ls) (λ j. separates ls j a b * (another terminal a b (one ls j) + another terminal a b (two ls j)))
 
   -- 1 if a and b are two different terminals with no other on their path, 0 if not (02: two ends free to be joined)
   unfoldable pub freePair : ℕ → ℕ → ℕ

@@ -1,7 +1,7 @@
 -- Where every link between two sites of a tree is kept, the kept links join them: by going from one site to the other, link by link.
-use mathlib.Core.Path.{_≡_, refl, sym, ap, _∙_}
+use mathlib.Core.Path.{_≡_, sym, ap, _∙_}
 use mathlib.Core.Logic.{_≢_, inl, inr}
-use Prim.Native.Nat.{ℕ, zero, suc, _+_, _≤_, _<_}
+use Prim.Native.Nat.{ℕ, zero, suc, _≤_, _<_}
 use native.Mathlib.Omega.{arith}
 use lib.ListN.{length}
 use Rattle.lists.specs.Numbers.{sum, differ}
@@ -26,18 +26,24 @@ module _ {ls : Links} {n : ℕ} (T : Tree ls n) (u : ℕ → ℕ) where
   next : (x y j : ℕ) → Site n x → j < length ls → at ls y j ≡ 1 → separates ls j y x ≡ 1 → (w : ℕ) × Next x y j w
   unfolding separates
   next x y j p l a s = elim (at-end ls j a) [
-    | inl e ↦ (two ls j, record {
-      site = T .ends j l .1;
-      reached = omega (arith, far-one T j x l p, rw (← e) at s);
-      others = λ m d. rw (← e) (ap (λ z. differ z (side ls m x)) (sym (side-link ls j m l (λ q. d (sym q)))));
-      linked = λ k. rw (← e) (kept-linked u ls j l k);
-    })
-    | inr e ↦ (one ls j, record {
-      site = T .ends j l .0;
-      reached = omega (arith, far-one T j x l p, rw (← e) at s);
-      others = λ m d. rw (← e) (ap (λ z. differ z (side ls m x)) (side-link ls j m l (λ q. d (sym q))));
-      linked = λ k. rw (← e) (sym (kept-linked u ls j l k));
-    })
+    | inl e ↦ (
+      two ls j,
+      record {
+        site = T .ends j l .1;
+        reached = omega (arith, far-one T j x l p, rw (← e) at s);
+        others = λ m d. rw (← e) (ap (λ z. differ z (side ls m x)) (sym (side-link ls j m l (λ q. d (sym q)))));
+        linked = λ k. rw (← e) (kept-linked u ls j l k);
+      },
+    )
+    | inr e ↦ (
+      one ls j,
+      record {
+        site = T .ends j l .0;
+        reached = omega (arith, far-one T j x l p, rw (← e) at s);
+        others = λ m d. rw (← e) (ap (λ z. differ z (side ls m x)) (side-link ls j m l (λ q. d (sym q))));
+        linked = λ k. rw (← e) (sym (kept-linked u ls j l k));
+      },
+    )
   ]
 
   along : (k x y : ℕ) → Site n x → Site n y → apart y x ≤ k → ((j : ℕ) → j < length ls → separates ls j y x ≡ 1 → u j ≡ 1)

@@ -1,11 +1,11 @@
 -- Pairs free to be joined: the test `freePair` tells just which entries are routes. It sees no order of the two sites, and where every terminal
 -- has one link it holds of any two different terminals.
-use mathlib.Core.Path.{_≡_, refl, sym, ap, _∙_}
+use mathlib.Core.Path.{_≡_, refl, sym, _∙_}
 use mathlib.Core.Logic.{_≢_, _↔_, inl, inr}
-use Prim.Native.Nat.{ℕ, _+_, _*_, _≤_, _<_}
+use Prim.Native.Nat.{ℕ, _+_, _*_, _<_}
 use native.Mathlib.Omega.{arith}
 use lib.ListN.{length}
-use Rattle.lists.specs.Numbers.{is, differ, sum}
+use Rattle.lists.specs.Numbers.{is, differ}
 use Rattle.lists.specs.Sums.{same?, is-same, is-other, is-one, is-le, differ-same, differ-other, differ-le, product-one, sum-none, sum-eq, sum-ge}
 use Rattle.model.specs.Flows.{Links, Site, Ends, Tree, Route, one, two, at, separates}
 use Rattle.model.specs.Parts.{another, crossed, freePair}
@@ -14,11 +14,11 @@ use Rattle.theory_trees.specs.Trees.{separates-le, separates-comm, at-fi
 use Rattle.theory_trees.specs.Leaves.{Outer, outer-route}
 
 module _ (ls : Links) (terminal : ℕ → ℕ) where
-  another-one : (a b w : ℕ) → terminal w ≡ 1 → w ≢ a → w ≢ b → another ls terminal a b w ≡ 1
+  another-one : (a b w : ℕ) → terminal w ≡ 1 → w ≢ a → w ≢ b → another terminal a b w ≡ 1
   unfolding another
   another-one a b w t d e = rw (is-same t, differ-other d, differ-other e) (omega arith)
 
-  another-is : (a b w : ℕ) → another ls terminal a b w ≢ 0 → (terminal w ≡ 1) × (w ≢ a) × (w ≢ b)
+  another-is : (a b w : ℕ) → another terminal a b w ≢ 0 → (terminal w ≡ 1) × (w ≢ a) × (w ≢ b)
   unfolding another
   another-is a b w h = same? (terminal w) 1
       (λ t. (t, (λ e. h (rw (differ-same e) (omega arith))), λ e. h (rw (differ-same e) (omega arith))))
@@ -28,7 +28,7 @@ module _ (ls : Links) (terminal : ℕ → ℕ) where
   crossed-free : (a b w j : ℕ) → crossed ls terminal a b ≡ 0 → terminal w ≡ 1 → w ≢ a → w ≢ b → j < length ls → at ls w j ≡ 1 → separates ls j a b ≡ 0
   unfolding crossed
   crossed-free a b w j z t d e l p =
-      let f : ℕ → ℕ = λ j. separates ls j a b * (another ls terminal a b (one ls j) + another ls terminal a b (two ls j)) in
+      let f : ℕ → ℕ = λ j. separates ls j a b * (another terminal a b (one ls j) + another terminal a b (two ls j)) in
       let o = another-one a b w t d e in
       same? (separates ls j a b) 0 (λ q. q) (λ q.
       let s : separates ls j a b ≡ 1 = omega (arith, separates-le ls j a b) in
@@ -41,9 +41,9 @@ module _ (ls : Links) (terminal : ℕ → ℕ) where
   free-crossed : (a b : ℕ) → ((w j : ℕ) → terminal w ≡ 1 → w ≢ a → w ≢ b → j < length ls → at ls w j ≡ 1 → separates ls j a b ≡ 0)
       → crossed ls terminal a b ≡ 0
   unfolding crossed
-  free-crossed a b h = sum-eq (length ls) (λ j. separates ls j a b * (another ls terminal a b (one ls j) + another ls terminal a b (two ls j))) (λ j. 0)
-      (λ j l. same? (another ls terminal a b (one ls j)) 0
-      (λ p. same? (another ls terminal a b (two ls j)) 0
+  free-crossed a b h = sum-eq (length ls) (λ j. separates ls j a b * (another terminal a b (one ls j) + another terminal a b (two ls j))) (λ j. 0)
+      (λ j l. same? (another terminal a b (one ls j)) 0
+      (λ p. same? (another terminal a b (two ls j)) 0
       (λ q. rw (p, q) (omega arith))
       (λ q. let o = another-is a b (two ls j) q in rw (h (two ls j) j (o .0) (o .1) (o .2) l (at-second ls j refl)) (omega arith)))
       (λ p. let o = another-is a b (one ls j) p in rw (h (one ls j) j (o .0) (o .1) (o .2) l (at-first ls j refl)) (omega arith)))

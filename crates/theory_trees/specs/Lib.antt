@@ -12,6 +12,7 @@ pub mod Greatest
 pub mod TreeTest
 pub mod TerminalCuts
 pub mod Between
+pub mod Stopping
 pub mod Owners
 pub mod Bounds
 pub mod Leaves

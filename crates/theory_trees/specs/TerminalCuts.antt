@@ -67,7 +67,7 @@ module _ (ls : Links) (c t : ℕ → ℕ) where
   unfolding inCut group
   inCut-iff-joined a x = let u = kept (λ i. less (t i) (c i)) ls in (λ e. label-joined u x a (is-one e), λ j. is-same (joined-label u j))
 
-  group-linked : (i : ℕ) → i < length ls → t i < c i → group ls c t (one ls i) ≡ group ls c t (two ls i)
+  pub group-linked : (i : ℕ) → i < length ls → t i < c i → group ls c t (one ls i) ≡ group ls c t (two ls i)
   unfolding group
   group-linked i l h = kept-linked (λ i. less (t i) (c i)) ls i l (less-one h)
 

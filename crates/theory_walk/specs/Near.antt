@@ -6,13 +6,13 @@ use mathlib.Core.List.{List, [], _∷_}
 use Prim.Native.Nat.{ℕ, zero, suc, _+_, _-_, _*_, _≤_, _<_, min}
 use lib.ListN.{length}
 use native.Mathlib.Omega.{arith}
-use Rattle.lists.specs.Numbers.{pick, is, differ, sum, over, Each}
+use Rattle.lists.specs.Numbers.{is, differ, sum, over, Each}
 use Rattle.lists.specs.Sums.{pick-cases, same?, is-same, is-other, is-le, is-iff, differ-same, differ-other, differ-triangle, sum-none, sum-eq, sum-le, sum-ge}
 use Rattle.lists.specs.Places.{over-add, over-eq, over-le, over-is}
 use Rattle.lists.specs.Tallies.{tally, tally-mul, each-map, each-both, each-le, each-append}
 use Rattle.model.specs.Flows.{Links, Site, sites, one, two, sumAt, Tree, side, separates, load}
 use Rattle.model.specs.Trimming.{Balanced}
-use Rattle.model.specs.Pairing.{Part, put, takeHalves, dropHalves, halves, match, children, gather, alone, settle, walk, pairsFrom}
+use Rattle.model.specs.Pairing.{Part, takeHalves, dropHalves, halves, match, children, gather, alone, settle, walk, pairsFrom}
 use Rattle.model.specs.Parts.{region, inPart}
 use Rattle.model.specs.declared.Pair.{Pair}
 use Rattle.theory_trees.specs.Trees.{separates-same, separates-comm, separates-self, far-one, local}
@@ -196,7 +196,8 @@ module _ {ls : Links} {n : ℕ} (T : Tree ls n) (t terminal : ℕ → ℕ) (root
   per-link : (i : ℕ) → Site n root → i < length ls
       → near (one ls i) * separates ls i (one ls i) root + near (two ls i) * separates ls i (two ls i) root ≤ mine i
   per-link i pr l = same? (mine i) 1
-      (λ e. rw e (bits (near (one ls i)) (near (two ls i)) (separates ls i (one ls i) root) (separates ls i (two ls i) root) (is-le (stray (one ls i)) 0) (is-le (stray (two ls i)) 0) (far-one T i root l pr)))
+      (λ e. rw e (bits (near (one ls i)) (near (two ls i)) (separates ls i (one ls i) root) (separates ls i (two ls i) root)
+      (is-le (stray (one ls i)) 0) (is-le (stray (two ls i)) 0) (far-one T i root l pr)))
       (λ d. omega (arith, none d (one ls i), none d (two ls i)))
     where
       bits : (p q a b : ℕ) → p ≤ 1 → q ≤ 1 → a + b ≡ 1 → p * a + q * b ≤ 1
@@ -214,7 +215,8 @@ module _ {ls : Links} {n : ℕ} (T : Tree ls n) (t terminal : ℕ → ℕ) (root
   near-count pr = omega (
     arith,
     by-link T near (λ x i. separates ls i x root),
-    sum-le (length ls) (λ i. near (one ls i) * separates ls i (one ls i) root + near (two ls i) * separates ls i (two ls i) root) mine (λ i l. per-link i pr l),
+    sum-le (length ls) (λ i. near (one ls i) * separates ls i (one ls i) root + near (two ls i) * separates ls i (two ls i) root) mine
+        (λ i l. per-link i pr l),
     over-is (sites n) root near,
     rw (sites-once n root pr) at (over-is (sites n) root near),
     is-le (stray root) 0,

@@ -3,23 +3,23 @@
 use mathlib.Core.Path.{_≡_, refl, sym, ap, _∙_}
 use mathlib.Core.Logic.{_≢_, inl, inr}
 use mathlib.Core.List.{List, []}
-use Prim.Native.Nat.{ℕ, zero, suc, _+_, _*_, _≤_, _<_}
+use Prim.Native.Nat.{ℕ, zero, suc, _*_, _≤_, _<_}
 use lib.ListN.{length}
 use native.Mathlib.Omega.{arith}
-use Rattle.lists.specs.Numbers.{pick, is, Each}
+use Rattle.lists.specs.Numbers.{is, Each}
 use Rattle.lists.specs.Sums.{pick-cases, same?, is-same, is-other, sum-ge}
 use Rattle.lists.specs.Tallies.{tally}
-use Rattle.model.specs.Flows.{Links, Site, one, two, separates, Tree, Multiflow, load}
+use Rattle.model.specs.Flows.{Links, Site, one, two, Tree, Multiflow, load}
 use Rattle.model.specs.Trimming.{Balanced}
 use Rattle.model.specs.Pairing.{put, give, pairsFrom}
 use Rattle.model.specs.Parts.{single, region, home, inPart, root, pairsOfPart, pairOfLink}
 use Rattle.model.specs.declared.Pair.{Pair}
-use Rattle.theory_trees.specs.Trees.{separates-same, at-first, at-second, at-end, loopless}
+use Rattle.theory_trees.specs.Trees.{side-link, separates-same, at-first, at-second, at-end, loopless}
 use Rattle.theory_walk.specs.Sound.{arises}
 use Rattle.theory_walk.specs.Subtrees.{separates-ends}
 use Rattle.theory_walk.specs.Children.{joins-one}
 use Rattle.theory_walk.specs.Walk.{root-loads, root-routes, root-positive, root-once}
-use Rattle.theory_walk.specs.Regions.{link-side, member-le, single-le, single-terminal, root-le, root-inner, part-open}
+use Rattle.theory_walk.specs.Regions.{member-le, single-le, single-terminal, root-le, root-inner, part-open}
 use Rattle.theory_walk.specs.Near.{root-far, root-few}
 use Rattle.theory_walk.specs.Shares.{Covers, covers-same, covers-none, arises-load}
 
@@ -35,7 +35,7 @@ module _ {ls : Links} {n : ℕ} (T : Tree ls n) (terminal t : ℕ → ℕ) where
     along-load zero j l = omega arith
     along-load (suc a) j l = same? k j
         (λ o. rw (is-same o, ← o, separates-ends T k lk) (omega arith))
-        (λ o. rw (is-other o, separates-same ls j (one ls k) (two ls k) (link-side ls j k (one ls k) (two ls k) lk o (at-first ls k refl) (at-second ls k refl))) (omega arith))
+        (λ o. rw (is-other o, separates-same ls j (one ls k) (two ls k) (side-link ls k j lk o)) (omega arith))
 
     along-routes : (a : ℕ) → Multiflow ls n terminal (along a)
     unfolding give put
@@ -48,7 +48,7 @@ module _ {ls : Links} {n : ℕ} (T : Tree ls n) (terminal t : ℕ → ℕ) where
         second-terminal = single-terminal ls terminal k (two ls k) e (at-second ls k refl);
         different = loopless T k lk;
         free = λ w j p tw d g l a. separates-same ls j (one ls k) (two ls k)
-            (link-side ls j k (one ls k) (two ls k) lk (λ o. elim (at-end ls j a) [ inl x ↦ d (sym x ∙ ap (one ls) (sym o)) | inr x ↦ g (sym x ∙ ap (two ls) (sym o)) ]) (at-first ls k refl) (at-second ls k refl));
+            (side-link ls k j lk (λ o. elim (at-end ls j a) [ inl x ↦ d (sym x ∙ ap (one ls) (sym o)) | inr x ↦ g (sym x ∙ ap (two ls) (sym o)) ]));
       },
       tt,
     )
@@ -101,7 +101,11 @@ module _ {ls : Links} {n : ℕ} (T : Tree ls n) (terminal t : ℕ → ℕ) where
       positive = root-positive T t terminal B v pv d;
       once = λ j x y l c. same? (inPart ls terminal (region ls terminal v) j) 1
           (λ e. rw e (root-once T t terminal B v pv d x y))
-          (λ e. omega (arith, root-far T t terminal v j l e, arises-load T terminal t j x y c (pairsFrom ls n t terminal v) (root-positive T t terminal B v pv d)));
+          (λ e. omega (
+            arith,
+            root-far T t terminal v j l e,
+            arises-load T terminal t j x y c (pairsFrom ls n t terminal v) (root-positive T t terminal B v pv d),
+          ));
       few = root-few T t terminal v B pv d;
     }
       where

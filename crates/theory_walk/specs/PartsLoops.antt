@@ -1,6 +1,6 @@
 -- What loops over the sites and over the links rely on: the pairs grow at the end, and never are there more of them than links.
 use mathlib.Core.Path.{_≡_, ap, sym, _∙_}
-use mathlib.Core.List.{List, [], _∷_, _++_, flatMap, append-assoc, append-nil}
+use mathlib.Core.List.{List, _++_, flatMap, append-assoc, append-nil}
 use Prim.Native.Nat.{ℕ, zero, suc, _+_, _≤_}
 use lib.ListN.{length, length-append}
 use native.Mathlib.Omega.{arith}

@@ -2,10 +2,10 @@
 -- site (`root-iff-lowest`); and two terminals are free to be joined just if they stand at one part (`free-iff-at-one-part`).
 use mathlib.Core.Path.{_≡_, refl, sym, ap, _∙_}
 use mathlib.Core.Logic.{_≢_, _↔_, _⊎_, inl, inr}
-use Prim.Native.Nat.{ℕ, zero, suc, _+_, _*_, _≤_, _<_}
+use Prim.Native.Nat.{ℕ, zero, suc, _+_, _≤_, _<_}
 use lib.ListN.{length}
 use native.Mathlib.Omega.{arith}
-use Rattle.lists.specs.Numbers.{pick, is, differ}
+use Rattle.lists.specs.Numbers.{is, differ}
 use Rattle.lists.specs.Sums.{pick-cases, same?, is-same, is-one, differ-other, differ-le, differ-triangle, product-one}
 use Rattle.model.specs.Flows.{Links, Site, Tree, Route, one, two, at, side, separates}
 use Rattle.model.specs.Pairing.{lowestInner}
@@ -176,12 +176,20 @@ module _ {ls : Links} {n : ℕ} (T : Tree ls n) (terminal : ℕ → ℕ) where
       let ty : terminal y ≢ 1 = λ z. omega (arith, sj, r .free y j py z ya (fy .1) k (fy .2)) in
       let keeps : (m : ℕ) → m < length ls → separates ls m x y ≡ 1 → within ls terminal m ≡ 1 = λ m q c.
       let mi : m ≢ i = λ z. omega (arith, rw z at c, inward a b x y i j l k d pa pb px (ra .2) (fx .2) (fx .1) (rb .2) (fy .2) (ra .3)) in
-      let mj : m ≢ j = λ z. omega (arith, rw z at c, separates-comm ls j x y,
-      inward b a y x j i k l (λ e. d (sym e)) pb pa py (rb .2) (fy .2) (fy .1) (ra .2) (fx .2) (rb .3)) in
+      let mj : m ≢ j = λ z. omega (
+        arith,
+        rw z at c,
+        separates-comm ls j x y,
+        inward b a y x j i k l (λ e. d (sym e)) pb pa py (rb .2) (fy .2) (fy .1) (ra .2) (fx .2) (rb .3),
+      ) in
       let ab : separates ls m a b ≡ 1 = moved a b x y m (link-side ls m i a x l (λ z. mi (sym z)) (ra .2) (fx .2))
       (link-side ls m j b y k (λ z. mj (sym z)) (rb .2) (fy .2)) ∙ c in
-      let inner : (s : ℕ) → at ls s m ≡ 1 → terminal s ≢ 1 = λ s o z. omega (arith, ab, r .free s m (at-site ls (T .ends) m q o) z
-      (λ w. mi (ra .4 m q (rw w at o) ab)) (λ w. mj (rb .4 m q (rw w at o) (separates-comm ls m b a ∙ ab))) q o) in
+      let inner : (s : ℕ) → at ls s m ≡ 1 → terminal s ≢ 1 = λ s o z. omega (
+        arith,
+        ab,
+        r .free s m (at-site ls (T .ends) m q o) z
+            (λ w. mi (ra .4 m q (rw w at o) ab)) (λ w. mj (rb .4 m q (rw w at o) (separates-comm ls m b a ∙ ab))) q o,
+      ) in
       rw (differ-other (inner (one ls m) (at-first ls m refl)), differ-other (inner (two ls m) (at-second ls m refl))) (omega arith) in
       let same : region ls terminal y ≡ region ls terminal x = sym (kept-between T (within ls terminal) x y px py keeps) in
       record {

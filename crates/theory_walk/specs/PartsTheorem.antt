@@ -1,6 +1,6 @@
 -- The theorems of the pairing on parts, for any tree, any terminals and balanced capacities t: what PairingTheorem says of terminals with one link each
 -- holds of any. Each link is in just one part, so what the parts cover adds up (Shares).
-use mathlib.Core.Path.{_≡_, refl}
+use mathlib.Core.Path.{refl}
 use mathlib.Core.Logic.{_≢_}
 use mathlib.Core.List.{List, [], _∷_, _++_, flatMap}
 use Prim.Native.Nat.{ℕ, zero, suc, _+_, _*_, _≤_, _<_}

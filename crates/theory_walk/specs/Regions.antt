@@ -6,8 +6,9 @@ use Prim.Native.Nat.{ℕ, _+_, _*_, _≤_, _<_}
 use lib.ListN.{length}
 use native.Mathlib.Omega.{arith}
 use native.Mathlib.Decide.{decLt}
-use Rattle.lists.specs.Numbers.{pick, is, differ, over, count, upfrom}
-use Rattle.lists.specs.Sums.{pick-same, pick-other, pick-cases, cases, same?, is-same, is-other, is-one, is-le, differ-same, differ-other, differ-le, product-one}
+use Rattle.lists.specs.Numbers.{is, differ, over, count, upfrom}
+use Rattle.lists.specs.Sums.{pick-same, pick-other, pick-cases, cases, same?, is-same, is-other, is-one, is-le, differ-same, differ-other, differ-le}
+use Rattle.lists.specs.Sums.{product-one}
 use Rattle.lists.specs.Places.{count-in, count-high, over-eq, over-is}
 use Rattle.model.specs.Flows.{Links, Site, sites, one, two, at, Tree, side, separates}
 use Rattle.model.specs.Pairing.{lowestInner}
@@ -15,7 +16,7 @@ use Rattle.model.specs.Parts.{within, single, region, member, home, inPart, low
 use Rattle.theory_trees.specs.Trees.{separates-same, separates-one, separates-comm, side-link, at-first, at-second, at-end}
 use Rattle.theory_trees.specs.Sites.{sites-once, at-site}
 use Rattle.theory_trees.specs.TerminalCuts.{kept-linked, kept-agree}
-use Rattle.theory_walk.specs.Subtrees.{LinkAt, Branch, separates-ends}
+use Rattle.theory_walk.specs.Subtrees.{Branch, separates-ends}
 use Rattle.theory_walk.specs.Children.{over-none}
 use Rattle.theory_walk.specs.Handed.{Open}
 use Rattle.theory_walk.specs.Pairs.{lowest-none, lowest-some}
@@ -194,7 +195,8 @@ module _ {ls : Links} {n : ℕ} (T : Tree ls n) (terminal : ℕ → ℕ) where
   one-part j l =
       let h = home ls terminal j in
       let last : over (upfrom 0 (length ls)) (λ k. is k j * single ls terminal k) ≡ is (terminal h) 1 =
-      over-is (upfrom 0 (length ls)) j (λ k. single ls terminal k) ∙ rw (count-in 0 (length ls) j (omega arith) (omega arith), single-home ls terminal j) (omega arith) in
+      over-is (upfrom 0 (length ls)) j (λ k. single ls terminal k)
+      ∙ rw (count-in 0 (length ls) j (omega arith) (omega arith), single-home ls terminal j) (omega arith) in
       same? (terminal h) 1
       (λ e. omega (
         arith,

@@ -1,7 +1,7 @@
 -- Lists of pairs that cover a share of the links: put together they cover the shares added up, and what covers every link once is sound.
 -- That no pair arises in two parts costs nothing: a pair that arises loads a link that separates it.
 use mathlib.Core.Path.{_≡_, refl, sym, _∙_}
-use mathlib.Core.Logic.{_⊎_, inl, inr}
+use mathlib.Core.Logic.{inl, inr}
 use mathlib.Core.List.{List, [], _∷_, _++_, flatMap}
 use Prim.Native.Nat.{ℕ, _+_, _*_, _≤_, _<_}
 use lib.ListN.{length, length-append}

@@ -1,14 +1,14 @@
 -- Where every terminal has one link, as on a sheet without marks, the pair list over all parts is the pair list (model/Pairing): reports stay what they were.
 -- All inner sites have one region then, so there is one root, the lowest inner site, and no single link; without an inner site there is one link.
 use mathlib.Core.Path.{_≡_, refl, sym, ap, _∙_}
-use mathlib.Core.Logic.{_≢_, _↔_, inl, inr}
+use mathlib.Core.Logic.{_≢_, _↔_}
 use mathlib.Core.List.{List, [], _∷_, _++_, flatMap, append-nil}
 use Prim.Native.Nat.{ℕ, zero, suc, _+_, _*_, _≤_, _<_}
 use lib.ListN.{length}
 use native.Mathlib.Omega.{arith}
 use Rattle.lists.specs.Numbers.{pick, is, differ, less, count, upfrom}
-use Rattle.lists.specs.Sums.{pick-same, pick-other, pick-cases, same?, is-same, is-other, is-one, is-le, differ-same, differ-other, differ-le, less-one, less-lt}
-use Rattle.lists.specs.Sums.{product-one, sum-single}
+use Rattle.lists.specs.Sums.{pick-same, pick-other, pick-cases, same?, is-same, is-other, is-one, differ-other, differ-le}
+use Rattle.lists.specs.Sums.{less-one, less-lt, product-one, sum-single}
 use Rattle.lists.specs.Places.{count-in}
 use Rattle.model.specs.Flows.{Links, Site, sites, one, two, at, sumAt, Tree}
 use Rattle.model.specs.Pairing.{put, give, pairsFrom, lowestInner, pairs, lowerFirst, insert, ordered, pairList}
@@ -18,7 +18,7 @@ use Rattle.theory_trees.specs.Trees.{all-agree, at-first, at-second, at-le, loo
 use Rattle.theory_trees.specs.Sites.{sites-once, sites-site, at-site}
 use Rattle.theory_trees.specs.Leaves.{Outer, leaf-has-one-link, a-tree-of-leaves-has-two-sites}
 use Rattle.theory_walk.specs.Pairs.{lowest-none, lowest-some}
-use Rattle.theory_walk.specs.Regions.{differ-one, member-in, member-inner, home-at, home-region, single-home, single-terminal, root-inner, position}
+use Rattle.theory_walk.specs.Regions.{differ-one, member-in, member-inner, home-region, single-terminal, root-inner, position}
 
 -- ---- lists of which one at most is not empty
 
