@@ -20,6 +20,12 @@ path = (1, 2) ∷ (2, 3) ∷ (3, 4) ∷ []
 abbrev fork : Links
 fork = (1, 2) ∷ (1, 3) ∷ (1, 4) ∷ (2, 5) ∷ (2, 6) ∷ []
 
+abbrev long : Links
+long = (1, 2) ∷ (2, 3) ∷ (3, 4) ∷ (4, 5) ∷ []
+
+abbrev twig : Links
+twig = (1, 2) ∷ (1, 3) ∷ (3, 4) ∷ (3, 5) ∷ (1, 6) ∷ (2, 7) ∷ []
+
 -- the sites with one link, and one marked site m (0 for none)
 abbrev marked : Links → ℕ → ℕ → ℕ
 marked ls m v = pick v m 1 (leaf ls v)
@@ -27,13 +33,16 @@ marked ls m v = pick v m 1 (leaf ls v)
 list : Links → ℕ → ℕ → List ℕ → List (ℕ × ℕ × ℕ)
 list ls n m t = map (λ e. (e .first, e .second, e .amount)) (pairListOfParts ls n (look t) (marked ls m))
 
--- the path 3, 2, 2 with site 2 marked: a single link, and a part rooted at site 3; the fork without a mark, and with site 1 marked: two single links, one
--- of them of capacity 0, and a part rooted at site 2; the star with its hub marked: three single links
+-- the path 3, 2, 2 with site 2 marked: a single link, and a part rooted at site 3; a longer one with its middle marked: parts rooted at sites 2 and 4;
+-- the fork without a mark, and with site 1 marked: two single links, one of them of capacity 0, and a part rooted at site 2; the star with its hub marked:
+-- three single links; and the twig with site 2 marked, where a part rooted at site 3 would give other pairs
 parts-examples :
-    list path 4 2 (3 ∷ 2 ∷ 2 ∷ []) ∷ list fork 6 0 (2 ∷ 3 ∷ 3 ∷ 1 ∷ 1 ∷ [])
-    ∷ list fork 6 1 (2 ∷ 3 ∷ 0 ∷ 1 ∷ 1 ∷ []) ∷ list star 4 1 (2 ∷ 0 ∷ 5 ∷ []) ∷ []
-    ≡ ((1, 2, 6) ∷ (2, 4, 4) ∷ []) ∷ ((3, 4, 4) ∷ (3, 5, 2) ∷ (4, 6, 2) ∷ [])
-    ∷ ((1, 3, 6) ∷ (1, 5, 2) ∷ (1, 6, 2) ∷ []) ∷ ((1, 2, 4) ∷ (1, 4, 10) ∷ []) ∷ []
+    list path 4 2 (3 ∷ 2 ∷ 2 ∷ []) ∷ list long 5 3 (1 ∷ 1 ∷ 2 ∷ 2 ∷ [])
+    ∷ list fork 6 0 (2 ∷ 3 ∷ 3 ∷ 1 ∷ 1 ∷ []) ∷ list fork 6 1 (2 ∷ 3 ∷ 0 ∷ 1 ∷ 1 ∷ []) ∷ list star 4 1 (2 ∷ 0 ∷ 5 ∷ [])
+    ∷ list twig 7 2 (3 ∷ 2 ∷ 3 ∷ 3 ∷ 3 ∷ 1 ∷ []) ∷ []
+    ≡ ((1, 2, 6) ∷ (2, 4, 4) ∷ []) ∷ ((1, 3, 2) ∷ (3, 5, 4) ∷ [])
+    ∷ ((3, 4, 4) ∷ (3, 5, 2) ∷ (4, 6, 2) ∷ []) ∷ ((1, 3, 6) ∷ (1, 5, 2) ∷ (1, 6, 2) ∷ []) ∷ ((1, 2, 4) ∷ (1, 4, 10) ∷ [])
+    ∷ ((2, 5, 2) ∷ (2, 6, 4) ∷ (2, 7, 2) ∷ (4, 5, 4) ∷ (4, 6, 2) ∷ []) ∷ []
 unfolding list ℕ-discrete decLt pick is differ less sum upfrom at sumAt leaf relabel label kept flatMap put takeHalves dropHalves halves give match joins
     between children gather alone settle walk pairsFrom lowestInner lowerFirst before insert ordered within single region member home lowest root
     pairsOfPart pairOfLink pairsOfParts pairListOfParts

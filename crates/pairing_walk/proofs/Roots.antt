@@ -12,7 +12,7 @@ use Rattle.lists.specs.Sums.{pick-same, pick-other}
 use Rattle.tree.specs.Offer.{links}
 use Rattle.tree.specs.Links.{length-links}
 use Rattle.theory_walk.specs.Walk.{size-le}
-use Rattle.theory_walk.specs.Pairs.{lowest-some}
+use Rattle.theory_walk.specs.Lowest.{lowest-some}
 use Rattle.theory_walk.specs.PairingTheorem.{pairs-are-sound}
 use Rattle.pairing_halves.specs.Arrays.{flatPairs, Added}
 use Rattle.pairing_walk.specs.Frames.{bottom}

@@ -11,7 +11,7 @@ pub mod Handed
 pub mod Gather
 pub mod Settle
 pub mod Walk
-pub mod Pairs
+pub mod Lowest
 pub mod Order
 pub mod Evens
 pub mod Regions

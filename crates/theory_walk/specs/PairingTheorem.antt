@@ -1,4 +1,5 @@
 -- The theorems of the pairing, for any tree, terminals with one link each, and balanced capacities t; nothing of trimming is used but that no link is heavy.
+-- They are cases of those for any terminals (PartsTheorem).
 -- `Sound` (its own file) is what document 01 says of the pairs; the induction behind it is `Good` (Handed), for any terminals.
 use mathlib.Core.Path.{_≡_}
 use mathlib.Core.Logic.{_≢_}
@@ -15,7 +16,7 @@ use Rattle.lists.specs.Tallies.{each-both}
 use Rattle.theory_walk.specs.Sound.{Sound, Ascending}
 use Rattle.theory_walk.specs.Subtrees.{Entered}
 use Rattle.theory_walk.specs.Walk.{size-le, walk-fuel}
-use Rattle.theory_walk.specs.Pairs.{pairs-sound}
+use Rattle.theory_walk.specs.Unmarked.{pairs-sound}
 use Rattle.theory_trees.specs.Leaves.{Outer}
 use Rattle.theory_walk.specs.Order.{sound-same, same-each, ordered-same, ordered-lower, ordered-ascending}
 use Rattle.theory_walk.specs.Evens.{Even, even-everywhere, pairs-even}

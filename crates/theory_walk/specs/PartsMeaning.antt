@@ -16,17 +16,11 @@ use Rattle.theory_trees.specs.Sites.{at-site}
 use Rattle.theory_trees.specs.TerminalCuts.{kept-induct}
 use Rattle.theory_trees.specs.Between.{kept-between}
 use Rattle.theory_trees.specs.FreePairs.{free-iff-route}
+use Rattle.theory_walk.specs.Lowest.{lowest-least}
 use Rattle.theory_walk.specs.Regions.{differ-one, link-side, link-parts, member-in, member-inner, home-at, home-region, not-within, region-side}
 use Rattle.theory_walk.specs.Regions.{root-inner, low-is}
 
 -- ---- the root
-
-lowest-least : (f : ℕ → ℕ) (c m x : ℕ) → c ≤ x → x < c + m → f x ≢ 1 → lowestInner f c m ≤ x
-unfolding lowestInner
-lowest-least f c zero x a b d = absurd (omega arith)
-lowest-least f c (suc m) x a b d = pick-cases (λ r. r ≤ x) (f c) 1 (lowestInner f (suc c) m) c
-    (λ e. same? c x (λ z. absurd (d (rw z at e))) (λ z. lowest-least f (suc c) m x (omega arith) (omega arith) d))
-    (λ e. a)
 
 module _ (ls : Links) (terminal : ℕ → ℕ) where
   lowest-below : (n v y : ℕ) → Site n y → terminal y ≢ 1 → region ls terminal y ≡ region ls terminal v → lowest ls terminal n (region ls terminal v) ≤ y

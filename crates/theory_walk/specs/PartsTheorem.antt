@@ -1,6 +1,6 @@
 -- The theorems of the pairing on parts, for any tree, any terminals and balanced capacities t: what PairingTheorem says of terminals with one link each
 -- holds of any. Each link is in just one part, so what the parts cover adds up (Shares).
-use mathlib.Core.Path.{refl}
+use mathlib.Core.Path.{_≡_, refl, sym, _∙_}
 use mathlib.Core.Logic.{_≢_}
 use mathlib.Core.List.{List, [], _∷_, _++_, flatMap}
 use Prim.Native.Nat.{ℕ, zero, suc, _+_, _*_, _≤_, _<_}
@@ -8,13 +8,16 @@ use lib.ListN.{length}
 use native.Mathlib.Omega.{arith}
 use Rattle.lists.specs.Numbers.{is, over, upfrom, Each}
 use Rattle.lists.specs.Sums.{pick-cases}
-use Rattle.lists.specs.Tallies.{each-append, each-both}
+use Rattle.lists.specs.Tallies.{each-map, each-append, each-both}
 use Rattle.model.specs.Flows.{Links, Site, sites, one, two, sumAt, Tree, Route, Multiflow, Fits, total}
 use Rattle.model.specs.Trimming.{Balanced, Greatest}
 use Rattle.model.specs.Pairing.{put, give, pairsFrom, ordered}
-use Rattle.model.specs.Parts.{single, region, inPart, root, pairsOfPart, pairOfLink, pairsOfParts, pairListOfParts}
+use Rattle.model.specs.Cuts.{cutSize}
+use Rattle.model.specs.Parts.{freePair, single, region, inPart, root, pairsOfPart, pairOfLink, pairsOfParts, pairListOfParts}
 use Rattle.model.specs.declared.Pair.{Pair}
 use Rattle.theory_trees.specs.Sites.{sites-site}
+use Rattle.theory_trees.specs.TerminalCuts.{cut-sizes-sum-to-the-terminals}
+use Rattle.theory_trees.specs.FreePairs.{free-iff-route}
 use Rattle.theory_trees.specs.Bounds.{a-full-multiflow-has-the-greatest-total}
 use Rattle.theory_walk.specs.Sound.{Sound, Ascending}
 use Rattle.theory_walk.specs.Order.{sound-same, same-each, ordered-same, ordered-lower, ordered-ascending}
@@ -55,6 +58,17 @@ module _ {ls : Links} {n : ℕ} (T : Tree ls n) (terminal t : ℕ → ℕ) where
     pair-list-of-parts-lower-first = each-both (Route ls n terminal) (λ e. e .first ≤ e .second) (λ e. e .first < e .second)
         (λ e r l. let d = r .different in omega arith) (pairListOfParts ls n t terminal) (pair-list-of-parts-is-sound .routes)
         (unfold pairListOfParts in ordered-lower (pairsOfParts ls n t terminal))
+
+    -- every pair is free to be joined
+    pub pair-list-of-parts-is-free : Each (λ e. freePair ls terminal (e .first) (e .second) ≡ 1) (pairListOfParts ls n t terminal)
+    pair-list-of-parts-is-free = each-map (Route ls n terminal) (λ e. freePair ls terminal (e .first) (e .second) ≡ 1)
+        (λ e r. free-iff-route ls terminal n (T .ends) e (r .first-site) (r .second-site) .1 r)
+        (pairListOfParts ls n t terminal) (pair-list-of-parts-is-sound .routes)
+
+  -- the sizes of the terminal cuts sum to its total, in halves
+  pub cut-sizes-sum-to-the-total : (c : ℕ → ℕ) → Greatest ls terminal c t
+      → over (sites n) (λ a. is (terminal a) 1 * cutSize ls c t a) ≡ total (pairListOfParts ls n t terminal)
+  cut-sizes-sum-to-the-total c g = cut-sizes-sum-to-the-terminals T terminal g ∙ sym (pair-list-of-parts-is-sound (g .balanced) .sums)
 
   -- where t are the greatest balanced capacities below c, no plan over free pairs that fits c, in parts of any size, has a greater total
   pub pair-list-of-parts-has-the-greatest-total : (c : ℕ → ℕ) → Greatest ls terminal c t → (fs : List Pair) → Multiflow ls n terminal fs

@@ -19,7 +19,7 @@ use Rattle.theory_trees.specs.TerminalCuts.{kept-linked, kept-agree}
 use Rattle.theory_walk.specs.Subtrees.{Branch, separates-ends}
 use Rattle.theory_walk.specs.Children.{over-none}
 use Rattle.theory_walk.specs.Handed.{Open}
-use Rattle.theory_walk.specs.Pairs.{lowest-none, lowest-some}
+use Rattle.theory_walk.specs.Lowest.{lowest-none, lowest-some}
 
 pub differ-one : {u v : ℕ} → differ u v ≡ 1 → u ≢ v
 differ-one e z = omega (arith, differ-same z)

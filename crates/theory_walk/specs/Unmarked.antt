@@ -1,7 +1,7 @@
 -- Where every terminal has one link, as on a sheet without marks, the pair list over all parts is the pair list (model/Pairing): reports stay what they were.
 -- All inner sites have one region then, so there is one root, the lowest inner site, and no single link; without an inner site there is one link.
 use mathlib.Core.Path.{_≡_, refl, sym, ap, _∙_}
-use mathlib.Core.Logic.{_≢_, _↔_}
+use mathlib.Core.Logic.{_≢_}
 use mathlib.Core.List.{List, [], _∷_, _++_, flatMap, append-nil}
 use Prim.Native.Nat.{ℕ, zero, suc, _+_, _*_, _≤_, _<_}
 use lib.ListN.{length}
@@ -11,13 +11,17 @@ use Rattle.lists.specs.Sums.{pick-same, pick-other, pick-cases, same?, is-same,
 use Rattle.lists.specs.Sums.{less-one, less-lt, product-one, sum-single}
 use Rattle.lists.specs.Places.{count-in}
 use Rattle.model.specs.Flows.{Links, Site, sites, one, two, at, sumAt, Tree}
+use Rattle.model.specs.Trimming.{Balanced}
 use Rattle.model.specs.Pairing.{put, give, pairsFrom, lowestInner, pairs, lowerFirst, insert, ordered, pairList}
 use Rattle.model.specs.Parts.{single, region, member, home, lowest, root, pairsOfPart, pairOfLink, pairsOfParts, pairListOfParts}
 use Rattle.model.specs.declared.Pair.{Pair}
 use Rattle.theory_trees.specs.Trees.{all-agree, at-first, at-second, at-le, loopless}
 use Rattle.theory_trees.specs.Sites.{sites-once, sites-site, at-site}
 use Rattle.theory_trees.specs.Leaves.{Outer, leaf-has-one-link, a-tree-of-leaves-has-two-sites}
-use Rattle.theory_walk.specs.Pairs.{lowest-none, lowest-some}
+use Rattle.theory_walk.specs.Lowest.{lowest-none, lowest-some, lowest-same}
+use Rattle.theory_walk.specs.Sound.{Sound}
+use Rattle.theory_walk.specs.Order.{Same, same, turn, sound-same}
+use Rattle.theory_walk.specs.PartsTheorem.{pairs-of-parts-are-sound}
 use Rattle.theory_walk.specs.Regions.{differ-one, member-in, member-inner, home-region, single-terminal, root-inner, position}
 
 -- ---- lists of which one at most is not empty
@@ -44,17 +48,6 @@ lower-keep x y a l = pick-other {u = less y x} {v = 1} (λ e. omega (arith, less
 lower-turn : (x y a : ℕ) → y < x → lowerFirst (record { first = x; second = y; amount = a }) ≡ record { first = y; second = x; amount = a }
 unfolding lowerFirst
 lower-turn x y a l = pick-same (less-one l) (record { first = y; second = x; amount = a }) (record { first = x; second = y; amount = a })
-
--- where the same sites are inner, the lowest inner site is the same
-lowest-same : (f g : ℕ → ℕ) (c m : ℕ) → ((x : ℕ) → c ≤ x → x < c + m → (f x ≡ 1) ↔ (g x ≡ 1)) → lowestInner f c m ≡ lowestInner g c m
-unfolding lowestInner
-lowest-same f g c zero h = refl
-lowest-same f g c (suc m) h =
-    let rest = lowest-same f g (suc c) m (λ x p q. h x (omega arith) (omega arith)) in
-    let here = h c (omega arith) (omega arith) in
-    same? (f c) 1
-    (λ e. pick-same e (lowestInner f (suc c) m) c ∙ rest ∙ sym (pick-same (here .0 e) (lowestInner g (suc c) m) c))
-    (λ d. pick-other d (lowestInner f (suc c) m) c ∙ sym (pick-other {u = g c} {v = 1} (λ e. d (here .1 e)) (lowestInner g (suc c) m) c))
 
 module _ {ls : Links} {n : ℕ} (T : Tree ls n) (terminal t : ℕ → ℕ) (O : Outer ls n terminal) where
   abbrev ofParts : ℕ → List Pair
@@ -92,9 +85,22 @@ module _ {ls : Links} {n : ℕ} (T : Tree ls n) (terminal t : ℕ → ℕ) (O : 
         let p′ : one ls 0 ≡ 2 = omega (arith, one-link, T .links, o) in
         rw (p′, q, lower-turn 2 1 (suc a) (omega arith), lower-keep 1 2 (suc a) (omega arith)))
 
-    two-same : pairListOfParts ls n t terminal ≡ ordered (give 1 (put 2 (2 * t 0) []))
-    unfolding pairListOfParts pairsOfParts pairOfLink single
-    two-same =
+    -- the pair of the one link, perhaps turned round
+    alone-same : (a : ℕ) → Same (give (one ls 0) (put (two ls 0) a [])) (give 1 (put 2 a []))
+    unfolding give put
+    alone-same zero = same
+    alone-same (suc a) =
+        let l : 0 < length ls = omega (arith, one-link) in
+        let d = loopless T 0 l in
+        let o = T .ends 0 l in
+        same? (one ls 0) 1
+        (λ p. let q : two ls 0 ≡ 2 = omega (arith, one-link, T .links, o) in rw (p, q) same)
+        (λ p. let q : two ls 0 ≡ 1 = omega (arith, one-link, T .links, o) in
+        let p′ : one ls 0 ≡ 2 = omega (arith, one-link, T .links, o) in rw (p′, q) turn)
+
+    parts-without : pairsOfParts ls n t terminal ≡ along 0
+    unfolding pairsOfParts pairOfLink single
+    parts-without =
         let l : 0 < length ls = omega (arith, one-link) in
         let o = T .ends 0 l in
         let it : single ls terminal 0 ≡ 1 = rw (is-same (terminals (one ls 0) (o .0)), is-same (terminals (two ls 0) (o .1))) (omega arith) in
@@ -104,7 +110,7 @@ module _ {ls : Links} {n : ℕ} (T : Tree ls n) (terminal t : ℕ → ℕ) (O : 
         flat-one ofLinks (upfrom 0 (length ls)) 0 (count-in 0 (length ls) 0 (omega arith) (omega arith))
         (λ u m d. absurd (omega (arith, one-link, position (length ls) u m)))
         ∙ pick-same it (along 0) [] in
-        ap ordered (ap (λ a. a ++ flatMap ofLinks (upfrom 0 (length ls))) vs ∙ ks) ∙ alone-ordered (2 * t 0)
+        ap (λ a. a ++ flatMap ofLinks (upfrom 0 (length ls))) vs ∙ ks
 
   -- ---- with one
 
@@ -160,9 +166,9 @@ module _ {ls : Links} {n : ℕ} (T : Tree ls n) (terminal t : ℕ → ℕ) (O : 
         λ e. differ-other {u = member ls terminal (region ls terminal v) x} {v = 1} (λ o. member-inner ls terminal (region ls terminal v) x o .0 e),
       ))
 
-  some-same : lowestInner terminal 1 n ≢ 0 → pairListOfParts ls n t terminal ≡ ordered (pairsFrom ls n t terminal (lowestInner terminal 1 n))
-  unfolding pairListOfParts pairsOfParts pairsOfPart pairOfLink root
-  some-same some =
+  parts-with : lowestInner terminal 1 n ≢ 0 → pairsOfParts ls n t terminal ≡ pairsFrom ls n t terminal (lowestInner terminal 1 n)
+  unfolding pairsOfParts pairsOfPart pairOfLink root
+  parts-with some =
       let r = lowestInner terminal 1 n in
       let s = lowest-some terminal 1 n some in
       let pr : Site n r = (s .0, omega (arith, s .1)) in
@@ -172,7 +178,7 @@ module _ {ls : Links} {n : ℕ} (T : Tree ls n) (terminal t : ℕ → ℕ) (O : 
       let vs : flatMap ofParts (sites n) ≡ pairsFrom ls n t terminal r =
       flat-one ofParts (sites n) r (sites-once n r pr) (λ v m d. no-root v (λ e. other v (sites-site n v m) d e))
       ∙ pick-same it (pairsFrom ls n t terminal r) [] in
-      ap ordered (ap (λ a. flatMap ofParts (sites n) ++ a) ks ∙ append-nil (flatMap ofParts (sites n)) ∙ vs)
+      ap (λ a. flatMap ofParts (sites n) ++ a) ks ∙ append-nil (flatMap ofParts (sites n)) ∙ vs
     where
       other : (v : ℕ) → Site n v → v ≢ lowestInner terminal 1 n → root ls terminal n v ≢ 1
       other v p d e =
@@ -180,8 +186,28 @@ module _ {ls : Links} {n : ℕ} (T : Tree ls n) (terminal t : ℕ → ℕ) (O : 
           let q = product-one (differ (terminal v) 1) (is (lowest ls terminal n (region ls terminal v)) v) (differ-le (terminal v) 1) e in
           d (sym (is-one (q .1)) ∙ low-same v p tv)
 
+  -- ---- so the pairs are those of the parts
+
+  abbrev root-pairs : List Pair
+  root-pairs = pairsFrom ls n t terminal (lowestInner terminal 1 n)
+
+  -- but for the sites of a tree's one pair, which the walk names as they stand in the link
+  pub pairs-are-of-parts : Same (pairsOfParts ls n t terminal) (pairs ls n t terminal)
+  unfolding pairs
+  pairs-are-of-parts = pick-cases (Same (pairsOfParts ls n t terminal)) (lowestInner terminal 1 n) 0 (give 1 (put 2 (2 * t 0) [])) root-pairs
+      (λ e. rw (parts-without e) (alone-same e (2 * t 0)))
+      (λ d. rw (parts-with d) same)
+
   -- where every terminal has one link, the pair list over all parts is the pair list
   pub unmarked-pair-lists-stay : pairListOfParts ls n t terminal ≡ pairList ls n t terminal
-  unfolding pairList pairs
-  unmarked-pair-lists-stay = pick-cases (λ es. pairListOfParts ls n t terminal ≡ ordered es) (lowestInner terminal 1 n) 0
-      (give 1 (put 2 (2 * t 0) [])) (pairsFrom ls n t terminal (lowestInner terminal 1 n)) two-same some-same
+  unfolding pairListOfParts pairList pairs
+  unmarked-pair-lists-stay = pick-cases (λ es. ordered (pairsOfParts ls n t terminal) ≡ ordered es) (lowestInner terminal 1 n) 0
+      (give 1 (put 2 (2 * t 0) [])) root-pairs
+      (λ e. ap ordered (parts-without e) ∙ alone-ordered e (2 * t 0))
+      (λ d. ap ordered (parts-with d))
+
+-- so what is sound of the parts is sound of the pairs
+pub pairs-sound : {ls : Links} {n : ℕ} → Tree ls n → (terminal t : ℕ → ℕ) → Outer ls n terminal → Balanced ls terminal t
+    → Sound ls n terminal t (pairs ls n t terminal)
+pairs-sound {ls} {n} T terminal t O B = sound-same T terminal t (pairsOfParts ls n t terminal) (pairs ls n t terminal) (pairs-are-of-parts T terminal t O)
+    (pairs-of-parts-are-sound T terminal t B)
