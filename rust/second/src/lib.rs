@@ -23,6 +23,7 @@
 //! | `pairs` | pairs the ends by splitting lists |
 //! | `report` | writes the report |
 //! | `order` | takes the sites in the order of work |
+//! | `replay` | replays a booking log over the network |
 //! | `program` | what the programs do |
 //!
 //! Sites and links are numbered from 0 inside, in the order of their lines.
@@ -39,6 +40,7 @@ mod pairs;
 mod pieces;
 pub mod planted;
 pub mod program;
+mod replay;
 mod report;
 mod tree;
 mod trim;
@@ -47,6 +49,7 @@ mod whole;
 use forest::Forest;
 use network::Network;
 use planted::{Error, planted};
+pub use replay::{AMOUNT, LOG_BYTES, LOG_LINES, OPEN_PAIRS, Replayed, replay};
 use report::Shown;
 use tree::RootedTree;
 use trim::Balanced;
