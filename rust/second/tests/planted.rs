@@ -25,7 +25,11 @@ fn all_as_written() -> bool {
 #[test]
 fn errors_of_names_are_errors() {
     assert!(all_as_written());
-    for error in &ERRORS[Error::TypedNames as usize - 1..] {
+    let of_names = Error::TypedNames as u8..Error::FirstLinkOnly as u8;
+    for error in ERRORS
+        .iter()
+        .filter(|&&error| of_names.contains(&(error as u8)))
+    {
         plant(*error);
         assert!(!all_as_written(), "{error:?}");
     }
