@@ -8,6 +8,7 @@
 //! `<!-- end -->`.
 
 mod library;
+mod log;
 mod machine;
 mod program;
 
@@ -94,6 +95,7 @@ fn tables(options: &Options) -> Result<String, Box<dyn std::error::Error>> {
     }
     library_tables(&mut text, "in halves", &library::IN_HALVES)?;
     library_tables(&mut text, "in whole circuits", &library::IN_CIRCUITS)?;
+    log::tables(&mut text)?;
     program_table(&mut text, options)?;
     Ok(text)
 }
