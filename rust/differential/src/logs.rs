@@ -437,8 +437,9 @@ impl Programs {
         let outcome = second::replay(&case.sheet, &case.log, &mut answers);
         let due = match outcome {
             Replayed::Answered { count } => {
-                let lines = answers[..count].iter();
-                lines.map(|answer| format!("{answer}\n")).collect()
+                let mut lines: Vec<_> = answers[..count].iter().map(u64::to_string).collect();
+                lines.push(String::new());
+                lines.join("\n")
             }
             Replayed::Refused { text, number, line } => {
                 format!("refused\t{text}\t{number}\t{line}\n")

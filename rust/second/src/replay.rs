@@ -78,7 +78,7 @@ pub fn replay(sheet: &[u8], log: &[u8], answers: &mut [u64]) -> Replayed {
 
 /// The number of lines; what is behind the last byte 10 is one too.
 fn line_count(log: &[u8]) -> usize {
-    let ended = log.iter().filter(|&&byte| byte == b'\n').count();
+    let ended: usize = log.iter().map(|&byte| usize::from(byte == b'\n')).sum();
     let is_unended = log.last().is_some_and(|&byte| byte != b'\n');
     ended + usize::from(is_unended && !planted(Error::UnendedLeftOut))
 }
@@ -246,15 +246,7 @@ impl<'network> Desk<'network> {
         if planted(Error::PlaceBeforeLoad) && !has_place {
             return Err(NO_PLACE);
         }
-        let mut path = Path::new();
-        let mut is_overfilled = false;
-        climb(&self.parent, request.sites, |link| {
-            is_overfilled =
-                self.load[usize::from(link)] + request.halves > self.most[usize::from(link)];
-            path.push(link);
-            !is_overfilled && !(planted(Error::FirstLinkOnly) && path.length == 1)
-        });
-        if is_overfilled {
+        if self.overfills(request) {
             if planted(Error::RefusedOpensPlace) && has_place {
                 self.pairs.open(slot, request.sites, 0);
             }
@@ -263,14 +255,23 @@ impl<'network> Desk<'network> {
         if !has_place {
             return Err(NO_PLACE);
         }
-        if planted(Error::FirstLinkOnly) {
-            path = path_between(&self.parent, request.sites);
-        }
-        for &link in path.links() {
-            self.load[usize::from(link)] += request.halves;
-        }
+        climb(&self.parent, request.sites, |link| {
+            self.load[link] += request.halves;
+            true
+        });
         self.pairs.open(slot, request.sites, request.halves);
         Ok(())
+    }
+
+    /// Whether a link of the path would carry more than it may.
+    #[inline]
+    fn overfills(&self, request: &Request) -> bool {
+        let mut is_overfilled = false;
+        climb(&self.parent, request.sites, |link| {
+            is_overfilled = self.load[link] + request.halves > self.most[link];
+            !is_overfilled && !planted(Error::FirstLinkOnly)
+        });
+        is_overfilled
     }
 
     #[inline]
@@ -279,12 +280,12 @@ impl<'network> Desk<'network> {
         let open = self.pairs.halves[slot];
         let mut halves = request.halves;
         if planted(Error::GiveUpByLoad) {
-            let path = path_between(&self.parent, request.sites);
-            let mut loads = path
-                .links()
-                .iter()
-                .map(|&link| self.load[usize::from(link)]);
-            if loads.any(|load| load < halves) {
+            let mut is_enough = true;
+            climb(&self.parent, request.sites, |link| {
+                is_enough = self.load[link] >= halves;
+                is_enough
+            });
+            if !is_enough {
                 return Err(LESS_OPEN);
             }
         } else if open < halves {
@@ -294,7 +295,7 @@ impl<'network> Desk<'network> {
             halves = open;
         }
         climb(&self.parent, request.sites, |link| {
-            self.load[usize::from(link)] -= halves;
+            self.load[link] -= halves;
             true
         });
         if open > 0 {
@@ -342,54 +343,19 @@ fn is_name(field: &[u8]) -> bool {
 /// Goes along the path between two sites, up from both to where they meet, as long as `see` says so of
 /// each link.
 #[inline(always)]
-fn climb(parent: &[u8; SITES], sites: [u8; 2], mut see: impl FnMut(u8) -> bool) {
+fn climb(parent: &[u8; SITES], sites: [u8; 2], mut see: impl FnMut(usize) -> bool) {
     let [mut one, mut other] = sites;
-    // The one with the higher number lies above neither the other nor where they meet.
+    // The one with the higher number lies neither above the other nor where they meet.
     while one != other {
-        let higher = one.max(other);
-        other = one.min(other);
-        one = parent[usize::from(higher)];
-        if !see(higher) {
-            return;
+        while one > other {
+            let link = usize::from(one);
+            one = parent[link];
+            if !see(link) {
+                return;
+            }
         }
+        (one, other) = (other, one);
     }
-}
-
-/// Links of a path.
-struct Path {
-    links: [u8; SITES],
-    length: usize,
-}
-
-impl Path {
-    #[inline]
-    fn new() -> Self {
-        Path {
-            links: [0; SITES],
-            length: 0,
-        }
-    }
-
-    #[inline]
-    fn push(&mut self, link: u8) {
-        self.links[self.length] = link;
-        self.length += 1;
-    }
-
-    #[inline]
-    fn links(&self) -> &[u8] {
-        &self.links[..self.length]
-    }
-}
-
-/// All links of the path between two sites.
-fn path_between(parent: &[u8; SITES], sites: [u8; 2]) -> Path {
-    let mut path = Path::new();
-    climb(parent, sites, |link| {
-        path.push(link);
-        true
-    });
-    path
 }
 
 const SLOT_BITS: u32 = 10;

@@ -140,14 +140,17 @@ impl<'network> Ledger<'network> {
 
     fn make(&mut self, made: Move) {
         let path: Vec<usize> = self.path(made.sites).collect();
-        let move_amount = |amount: u64| match made.opens {
-            true => amount + made.halves,
-            false => amount - made.halves,
+        let moved = |amount: u64| {
+            if made.opens {
+                amount + made.halves
+            } else {
+                amount - made.halves
+            }
         };
         for link in path {
-            self.loads[link] = move_amount(self.loads[link]);
+            self.loads[link] = moved(self.loads[link]);
         }
-        match move_amount(self.open(made.sites)) {
+        match moved(self.open(made.sites)) {
             0 => self.open.remove(&made.sites),
             left => self.open.insert(made.sites, left),
         };
@@ -161,6 +164,7 @@ impl<'network> Ledger<'network> {
     }
 
     /// The open pairs, the lower site first, in ascending order.
+    #[must_use]
     pub fn open_pairs(&self) -> impl ExactSizeIterator<Item = [usize; 2]> {
         self.open.keys().copied()
     }

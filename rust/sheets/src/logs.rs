@@ -132,7 +132,7 @@ impl<'case> Writer<'case> {
             1,
             AMOUNT,
         ]);
-        self.ask(b"+", sites, self.in_range(halves));
+        self.ask(b"+", sites, halves.clamp(1, AMOUNT));
     }
 
     /// Gives up about as much as is open, or any amount.
@@ -153,21 +153,17 @@ impl<'case> Writer<'case> {
             1,
             AMOUNT,
         ]);
-        self.ask(b"-", sites, self.in_range(halves));
-    }
-
-    fn in_range(&self, halves: u64) -> u64 {
-        halves.clamp(1, AMOUNT)
+        self.ask(b"-", sites, halves.clamp(1, AMOUNT));
     }
 
     /// A line that asks for something, in the course of filling links or of emptying them.
     fn request(&mut self, fills: bool) {
         let open = self.open_pair().filter(|_| !self.random.once_in(3));
         let sites = open.unwrap_or_else(|| self.two_ends());
-        if self.random.once_in(4) != fills {
-            self.open(sites);
-        } else {
+        if self.random.once_in(4) == fills {
             self.give_up(sites);
+        } else {
+            self.open(sites);
         }
     }
 
@@ -345,7 +341,7 @@ fn traffic(random: &mut Random) -> Case {
         if pieces > 0 && writer.random.once_in(pieces) {
             writer.piece();
         } else {
-            writer.request(line / turn % 2 == 0);
+            writer.request((line / turn).is_multiple_of(2));
         }
     }
     let mut log = writer.log;
@@ -455,7 +451,7 @@ pub fn log_of(shape: Shape, sites: usize, sizes: Sizes, count: usize, random: &m
     short_names(&mut network);
     let mut writer = Writer::new(&network, random);
     for line in 0..count {
-        writer.request(line / 1_024 % 2 == 0);
+        writer.request((line / 1_024).is_multiple_of(2));
     }
     let log = writer.log;
     Case::new(network, log, random)
@@ -490,7 +486,8 @@ fn near_the_limits(random: &mut Random) -> Case {
     if random.once_in(2) {
         // Few long lines: a last one, or an amount with very many digits.
         let filler = *random.pick(b"9a\t+0");
-        log.extend_from_slice(*random.pick(&[b"".as_slice(), b"+\t", b"+\ta\tb\t9"]));
+        let start: &[u8] = random.pick::<&[u8]>(&[b"", b"+\t", b"+\ta\tb\t9"]);
+        log.extend_from_slice(start);
         log.resize(LOG_BYTES - 1 + over, filler);
         log.push(*random.pick(b"\n\n9"));
     } else {

@@ -48,7 +48,11 @@ fn numbers(sheet: &[u8]) -> Result<Vec<u8>, Refusal> {
 /// The answers to the lines of a log, one a line, or the refusal.
 fn answers(sheet: &[u8], log: &[u8]) -> String {
     match replay(sheet, log, &mut [0; LOG_LINES]) {
-        Ok(answers) => answers.iter().map(|answer| format!("{answer}\n")).collect(),
+        Ok(answers) => {
+            let mut lines: Vec<_> = answers.iter().map(u64::to_string).collect();
+            lines.push(String::new());
+            lines.join("\n")
+        }
         Err(ReplayRefusal { text, number, line }) => format!("refused\t{text}\t{number}\t{line}\n"),
     }
 }
