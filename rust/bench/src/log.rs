@@ -2,13 +2,18 @@
 
 use crate::library::{Times, time_calls};
 use second::{LOG_LINES, Replayed};
-use sheets::logs::{Case, log_of};
+use sheets::logs::{Case, crowded_log, log_of};
 use sheets::{Random, SHAPES, SITES, Shape, Sizes};
 use std::fmt::Write;
 use std::hint::black_box;
 
 /// The numbers of lines.
 const LINES: [usize; 5] = [256, 512, 1_024, 2_048, LOG_LINES];
+
+/// The log of most lines over a tree of a shape.
+pub fn largest(shape: Shape) -> Case {
+    log(shape, LOG_LINES)
+}
 
 /// A log over a tree of 256 sites with large sizes.
 fn log(shape: Shape, count: usize) -> Case {
@@ -36,6 +41,18 @@ fn time(case: &Case) -> Times {
     )
 }
 
+/// The line of one log.
+fn row(text: &mut String, title: &str, log_bytes: usize, times: &Times) -> std::fmt::Result {
+    writeln!(
+        text,
+        "| {title} | {log_bytes} | {} | {:.1} | {:.1} | {:.2} |",
+        times.report_bytes,
+        times.proved,
+        times.second,
+        times.proved / times.second
+    )
+}
+
 /// The tables.
 pub fn tables(text: &mut String) -> std::fmt::Result {
     let measured = SHAPES.map(|shape| {
@@ -55,15 +72,12 @@ pub fn tables(text: &mut String) -> std::fmt::Result {
     writeln!(text, "|---|---:|---:|---:|---:|---:|")?;
     for (shape, by_lines) in SHAPES.iter().zip(&measured) {
         let (log_bytes, times) = &by_lines[LINES.len() - 1];
-        writeln!(
-            text,
-            "| {} | {log_bytes} | {} | {:.1} | {:.1} | {:.2} |",
-            shape.name(),
-            times.report_bytes,
-            times.proved,
-            times.second,
-            times.proved / times.second
-        )?;
+        row(text, shape.name(), *log_bytes, times)?;
+    }
+    for shape in [Shape::Star, Shape::Prufer] {
+        let case = crowded_log(shape, SITES, LOG_LINES, &mut Random::new(1));
+        let title = format!("{}, about 512 pairs open", shape.name());
+        row(text, &title, case.log.len(), &time(&case))?;
     }
 
     writeln!(

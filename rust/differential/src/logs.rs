@@ -254,6 +254,11 @@ fn compare_random(
         let places = [0, shorter, count - 1, count.saturating_sub(2)];
         compare(lists, case, *random.pick(&places), tally)?;
     }
+    if count < 64 && random.once_in(16) {
+        for places in count.saturating_sub(4)..=count + 4 {
+            compare(lists, case, places, tally)?;
+        }
+    }
     if random.once_in(8) {
         let sheet = damage::damaged(random).sheet;
         compare_damaged(lists, &sheet, &case.log, longer, tally)?;

@@ -457,6 +457,31 @@ pub fn log_of(shape: Shape, sites: usize, sizes: Sizes, count: usize, random: &m
     Case::new(network, log, random)
 }
 
+/// A log of so many lines over a tree with short names and large sizes that opens 512 pairs and then
+/// hardly leaves a place.
+pub fn crowded_log(shape: Shape, sites: usize, count: usize, random: &mut Random) -> Case {
+    let mut network = Network::random(shape, sites, Sizes::Large, Names::Counted, random);
+    short_names(&mut network);
+    let mut writer = Writer::new(&network, random);
+    let mut pairs = all_pairs(&writer.ends);
+    writer.random.shuffle(&mut pairs);
+    let left = pairs.split_off(OPEN_PAIRS.min(pairs.len()));
+    for &sites in &pairs {
+        writer.ask(b"+", sites, 2);
+    }
+    for _ in pairs.len()..count {
+        match writer.random.below(16) {
+            0 => crowded_line(&mut writer, &pairs, &left),
+            line => {
+                let sites = writer.open_pair().unwrap_or(pairs[0]);
+                writer.ask(if line % 2 == 0 { b"-" } else { b"+" }, sites, 1);
+            }
+        }
+    }
+    let log = writer.log;
+    Case::new(network, log, random)
+}
+
 /// A log of 4,096 lines, or one that differs from it a little.
 fn full_log(random: &mut Random) -> Case {
     let shape = *random.pick(&SHAPES);
