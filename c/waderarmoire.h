@@ -76,7 +76,7 @@ uint64_t waderarmoire_order(const uint8_t *sheet, size_t sheet_len, size_t *list
  * The number of the refusal, or 0 for success:
  *   1  no bytes, or more than 16,384
  *   2  wrong heading, letter or line ending
- *   3  size above 1,000,000
+ *   3  size or reserve above 1,000,000
  *   4  more sites than 256
  *   5  name already given to a site (a-z read as A-Z)
  *   6  link to a name not given on a line above (a-z read as A-Z)
@@ -86,8 +86,9 @@ uint64_t waderarmoire_order(const uint8_t *sheet, size_t sheet_len, size_t *list
  *  10  wrong number of fields
  *  11  a name is not 1 to 12 letters or digits
  *  12  a number is not written in decimal without a leading zero
+ *  13  reserve above the size
  * The lowest line with a fault decides; within a line the order is 2, 10, 11, 12, then 4, 5 for a
- * site and 3, 6, 7 for a link.
+ * site and 3, 13, 6, 7 for a link.
  */
 static inline unsigned waderarmoire_number(uint64_t answer)
 {

@@ -55,7 +55,7 @@ pub fn check(sheet: &[u8], report: &[u8]) -> Result<Checked, String> {
     )?;
     let printed = network.links.iter().zip(&loads);
     for ((link, load), halves) in printed.zip(network.loads(&pairs)) {
-        demand(halves <= 2 * link.given, "a load passes its size")?;
+        demand(halves <= 2 * link.usable, "a load passes its usable size")?;
         demand(halves == 2 * load, "a load is not that of the pairs")?;
     }
     // What pairs with even amounts load fully is whole and not heavy, so the walk can be taken.
@@ -92,7 +92,7 @@ fn owners(network: &Network, lines: &mut Lines) -> Result<Vec<Option<usize>>, St
 }
 
 /// Counts the odd pieces. A piece is a largest connected group of sites in no set, where a link of
-/// size 0 connects nothing; it is odd if the links leaving it sum to an odd number.
+/// usable size 0 connects nothing; it is odd if the links leaving it sum to an odd number.
 fn odd_pieces(network: &Network, owner: &[Option<usize>]) -> u64 {
     let mut piece = vec![usize::MAX; owner.len()];
     let mut count = 0;
@@ -105,7 +105,7 @@ fn odd_pieces(network: &Network, owner: &[Option<usize>]) -> u64 {
         let mut next = 0;
         while next < group.len() {
             for &(link, other) in &network.around[group[next]] {
-                let connects = network.links[link].given > 0 && owner[other].is_none();
+                let connects = network.links[link].usable > 0 && owner[other].is_none();
                 if connects && piece[other] == usize::MAX {
                     piece[other] = first;
                     group.push(other);
@@ -117,7 +117,7 @@ fn odd_pieces(network: &Network, owner: &[Option<usize>]) -> u64 {
             .iter()
             .flat_map(|&site| &network.around[site])
             .filter(|&&(_, other)| piece[other] != first)
-            .map(|&(link, _)| network.links[link].given)
+            .map(|&(link, _)| network.links[link].usable)
             .sum();
         count += leaving % 2;
     }
@@ -255,7 +255,7 @@ P e f 2
             ("whole 2 1", "whole 2 2", "a line P of 3 fields is missing"),
             ("whole 2 1", "whole 2 4", "there are more pairs than links"),
             ("L hub a", "L a hub", "a link has other names"),
-            ("L hub a 1", "L hub a 2", "a link has another given size"),
+            ("L hub a 1", "L hub a 2", "a link has another usable size"),
             (
                 "L hub a 1 0",
                 "L hub a 1 1",
@@ -335,6 +335,41 @@ P e f 2
     }
 
     #[test]
+    fn reserves() {
+        // The same usable sizes: a report in the sizes as given is wrong.
+        let star = ("L hub a 1\nL hub b 1\n", "L hub a 4 3\nL hub b 1 0\n");
+        let two_stars = ("L h k 0\n", "L h k 2 2\n");
+        for (case, (from, to), given) in [
+            (&STAR, star, ("L hub a 1", "L hub a 4")),
+            (&TWO_STARS, two_stars, ("L h k 0", "L h k 2")),
+        ] {
+            let sheet = case.sheet.replace(from, to);
+            assert_ne!(sheet, case.sheet);
+            let right = checked(case.sheet, case.report);
+            assert!(right.is_ok());
+            assert_eq!(checked(&sheet, case.report), right);
+            let printed = case.report.replace(given.0, given.1);
+            let due = "a link has another usable size".to_string();
+            assert_eq!(checked(&sheet, &printed), Err(due));
+        }
+        // One link all held back: the usable sizes leave no odd piece.
+        let sheet = STAR.sheet.replace("L hub a 1", "L hub a 1 1");
+        let sets = [("L hub a 1 0", "L hub a 0 0"), ("X a 1 1", "X a 0 1")];
+        let report = sets
+            .iter()
+            .fold(STAR.report.to_string(), |text, (from, to)| {
+                text.replace(from, to)
+            });
+        let due = "the odd pieces are counted wrongly".to_string();
+        assert_eq!(checked(&sheet, &report), Err(due));
+        let right = Checked {
+            total: 2,
+            odd_pieces: 0,
+        };
+        assert_eq!(checked(&sheet, &report.replace("Q 1", "Q 0")), Ok(right));
+    }
+
+    #[test]
     fn wrong_pairs() {
         for (from, to, due) in [
             ("P b c 2", "P c b 2", "a pair names its later site first"),
@@ -379,7 +414,7 @@ P e f 2
                 ("L hub c 1 1\nL hub d 1 1", "L hub c 1 2\nL hub d 1 2"),
                 (pairs, "P a b 2\nP c d 4\n"),
             ],
-            "a load passes its size",
+            "a load passes its usable size",
         );
     }
 }

@@ -3,6 +3,7 @@
 use sheets::cases::in_either_case;
 use sheets::{
     HEADING, Layout, Names, Network, Random, SHEET_BYTES, SITES, SIZE, Shape, Sizes, join_lines,
+    some_reserve,
 };
 use std::collections::HashSet;
 
@@ -83,11 +84,13 @@ fn near_the_limit(random: &mut Random) -> Damaged {
     let line = lines.len() as u32 + 1;
     let room = length - join_lines(&lines).len();
     let name = lines[1][2..].to_vec();
-    let (mut text, mut number) = match random.below(6) {
+    let (mut text, mut number) = match random.below(8) {
         0 => (vec![], 2),
         1 => ([b"N", name.as_slice(), b""].join(&b'\t'), 10),
         2 => (b"N\t".to_vec(), 11),
         3 => ([b"L", name.as_slice(), &name, b"0"].join(&b'\t'), 12),
+        4 => ([b"L", name.as_slice(), &name, b"1", b"0"].join(&b'\t'), 12),
+        5 => ([b"L", name.as_slice(), &name, b"1", b""].join(&b'\t'), 3),
         _ => ([b"L", name.as_slice(), &name, b""].join(&b'\t'), 3),
     };
     text.resize(room - 1, b'7');
@@ -131,7 +134,7 @@ fn too_many_sites(random: &mut Random) -> Damaged {
 
 /// Pieces of lines put together at random.
 fn sheet_of_pieces(random: &mut Random) -> Damaged {
-    const PIECES: [&[u8]; 32] = [
+    const LINES: [&[u8]; 16] = [
         b"N\ta\n",
         b"N\tb\n",
         b"N\tc\n",
@@ -144,7 +147,15 @@ fn sheet_of_pieces(random: &mut Random) -> Damaged {
         b"L\tA\tb\t3\n",
         b"L\ta\tb\t1000000\n",
         b"L\ta\tb\t1000001\n",
+        b"L\ta\tb\t3\t1\n",
+        b"L\tb\tc\t2\t2\n",
+        b"L\tc\tb\t1\t2\n",
+        b"L\tA\tq\t1\t1000001\n",
+    ];
+    const PIECES: [&[u8]; 22] = [
         b"L\ta\tb\t01\n",
+        b"L\ta\tb\t1\t\n",
+        b"L\ta\tb\t5\t1\t1\n",
         b"L\ta\tb\n",
         b"N\tc\tc\n",
         b"N\tc c\n",
@@ -168,12 +179,14 @@ fn sheet_of_pieces(random: &mut Random) -> Damaged {
     let whole_lines = random.once_in(2);
     let mut sheet = b"network\t1\n".to_vec();
     for _ in 0..random.below(14) {
-        let piece = if whole_lines && !random.once_in(12) {
-            PIECES[random.below(12)]
+        let is_line = if whole_lines {
+            !random.once_in(12)
         } else {
-            random.pick(&PIECES)
+            random.once_in(3)
         };
-        sheet.extend_from_slice(piece);
+        let pieces = if is_line { &LINES[..] } else { &PIECES };
+        let place = random.below(pieces.len());
+        sheet.extend_from_slice(pieces[place]);
     }
     Damaged {
         sheet,
@@ -402,11 +415,23 @@ fn wrong_form(line: &[u8], random: &mut Random) -> (Vec<u8>, u8) {
         fields = vec![b"L".to_vec(), name.clone(), name, b"1".to_vec()];
     }
     let is_link = fields[0] == b"L";
+    if is_link && random.once_in(3) {
+        fields.truncate(4);
+        if random.once_in(2) {
+            fields.push(any_number(random));
+        }
+    }
     // Faults that come later in the order are put in or not: they do not matter.
     let mut has = |fault| number == fault || (number < fault && random.once_in(3));
     let [bad_number, bad_name, wrong_count] = [12, 11, 10].map(&mut has);
     if bad_number && is_link {
-        fields[3] = badly_written(&fields[3], random);
+        let one = random.between(3, fields.len() - 1);
+        let both = random.once_in(3);
+        for (place, field) in fields.iter_mut().enumerate().skip(3) {
+            if both || place == one {
+                *field = badly_written(field, random);
+            }
+        }
     }
     if bad_name {
         let names = if is_link { 1..=2 } else { 1..=1 };
@@ -425,6 +450,27 @@ fn wrong_form(line: &[u8], random: &mut Random) -> (Vec<u8>, u8) {
         spoil_letter(&mut fields, random);
     }
     (fields.join(&b'\t'), number)
+}
+
+/// A number that is well written, for a reserve below the size, above it, or too large.
+fn any_number(random: &mut Random) -> Vec<u8> {
+    match random.below(3) {
+        0 => too_large(random),
+        1 => some_reserve(SIZE, random).to_string().into_bytes(),
+        _ => random.below(4).to_string().into_bytes(),
+    }
+}
+
+/// A size and a reserve above it, none of them too large.
+fn reserve_above_size(random: &mut Random) -> Lines {
+    let size = some_reserve(SIZE - 1, random);
+    let above = match random.below(3) {
+        0 => 0,
+        _ => some_reserve(SIZE - 1 - size, random),
+    };
+    [size, size + 1 + above]
+        .map(|number| number.to_string().into_bytes())
+        .to_vec()
 }
 
 /// No number: empty, with a leading zero, or with a byte that is no digit.
@@ -472,11 +518,11 @@ fn bad_name_like(name: &[u8], random: &mut Random) -> Vec<u8> {
 
 /// Another number of fields than a site or a link has; the first stays.
 fn count_wrongly(fields: &mut Lines, random: &mut Random) {
-    let right = fields.len();
+    let right = if fields[0] == b"L" { 4..=5 } else { 2..=2 };
     let count = loop {
-        let most = *random.pick(&[3, 5, 5, 40]);
+        let most = *random.pick(&[3, 6, 6, 40]);
         let count = random.between(1, most);
-        if count != right {
+        if !right.contains(&count) {
             break count;
         }
     };
@@ -545,25 +591,25 @@ fn with_faulty_line(random: &mut Random) -> (Lines, u8, usize) {
     let mut lines = network.lines(Layout::any(random), random);
     let sites = places(&lines, b'N');
     let links = places(&lines, b'L');
-    match random.below(20) {
+    match random.below(28) {
         0 => {
             lines[0] = wrong_heading(&lines, random);
             (lines, 2, 1)
         }
-        1..=6 => {
+        1..=8 => {
             let place = random.between(1, lines.len() - 1);
             let (line, number) = wrong_form(&lines[place], random);
             lines[place] = line;
             (lines, number, place + 1)
         }
-        7..=12 => {
+        9..=16 => {
             let place = random.between(1, lines.len());
             let copied = random.between(1, lines.len() - 1);
             let (line, number) = wrong_form(&lines[copied], random);
             lines.insert(place, line);
             (lines, number, place + 1)
         }
-        13 => {
+        17 => {
             // A name already given, after its line, in either case.
             let given = *random.pick(&sites);
             let place = random.between(given + 1, lines.len());
@@ -571,7 +617,7 @@ fn with_faulty_line(random: &mut Random) -> (Lines, u8, usize) {
             lines.insert(place, line);
             (lines, 5, place + 1)
         }
-        14 => {
+        18 => {
             // A link put before one of its sites.
             let link = *random.pick(&links);
             let line = lines.remove(link);
@@ -587,18 +633,38 @@ fn with_faulty_line(random: &mut Random) -> (Lines, u8, usize) {
             lines.insert(place, line);
             (lines, 6, place + 1)
         }
-        _ => with_faulty_link(&network, lines, &links, random),
+        19..=21 => {
+            // A reserve above the size.
+            let place = *random.pick(&links);
+            let mut fields = fields(&lines[place]);
+            fields.splice(3.., reserve_above_size(random));
+            lines[place] = fields.join(&b'\t');
+            (lines, 13, place + 1)
+        }
+        22 | 23 => {
+            let faults: &[u8] = if random.once_in(2) { &[13] } else { &[13, 6] };
+            with_faulty_link(&network, lines, &links, faults, random)
+        }
+        _ => {
+            let mut faults = vec![FORM, 3, 13, 6];
+            faults.retain(|&fault| random.once_in(if fault == FORM { 2 } else { 3 }));
+            with_faulty_link(&network, lines, &links, &faults, random)
+        }
     }
 }
 
-/// A sheet with a link line that has one or more of the faults 3, 6, 7 and those of form.
+/// Stands for a fault of form, whichever it is.
+const FORM: u8 = 2;
+
+/// A sheet with a link line whose sites are already joined and which has the faults that are told, in
+/// their order: one of form, 3, 13, 6.
 fn with_faulty_link(
     network: &Network,
     mut lines: Lines,
     links: &[usize],
+    faults: &[u8],
     random: &mut Random,
 ) -> (Lines, u8, usize) {
-    let [is_wrong, is_large, is_unknown] = [2, 3, 3].map(|times| random.once_in(times));
     // A copy of a link after it, turned round or not, joins what is already joined; so does a
     // link from a site to itself. Names may be spelt otherwise then.
     let link = *random.pick(links);
@@ -617,24 +683,38 @@ fn with_faulty_link(
             *name = in_either_case(name, random);
         }
     }
-    if is_unknown {
+    if faults.contains(&6) {
         fields[random.between(1, 2)] = unknown_name(&network.names, random);
     }
-    if is_large {
-        fields[3] = too_large(random);
+    if faults.contains(&13) {
+        fields.splice(3.., reserve_above_size(random));
+    }
+    if faults.contains(&3) {
+        spoil_sizes(&mut fields, random);
     }
     let line = fields.join(&b'\t');
-    let (line, number) = if is_wrong {
-        wrong_form(&line, random)
-    } else if is_large {
-        (line, 3)
-    } else if is_unknown {
-        (line, 6)
-    } else {
-        (line, 7)
+    let (line, number) = match faults.first() {
+        Some(&FORM) => wrong_form(&line, random),
+        Some(&first) => (line, first),
+        None => (line, 7),
     };
     lines.insert(place, line);
     (lines, number, place + 1)
+}
+
+/// Makes the size of a link line too large, or its reserve, or both; the reserve may be new.
+fn spoil_sizes(fields: &mut Lines, random: &mut Random) {
+    match random.below(3) {
+        0 => fields[3] = too_large(random),
+        1 => {
+            fields.truncate(4);
+            fields.push(too_large(random));
+        }
+        _ => {
+            fields.truncate(3);
+            fields.extend([too_large(random), too_large(random)]);
+        }
+    }
 }
 
 /// Spoils lines after the line counted from 1.

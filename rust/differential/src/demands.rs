@@ -1,6 +1,6 @@
 //! What a report headed `plan` must fulfil, checked from the printed report alone.
 //!
-//! The plan fits, since no trimmed size passes the given one and the loads are the trimmed sizes;
+//! The plan fits, since no trimmed size passes the usable one and the loads are the trimmed sizes;
 //! it has as much as the disjoint end sets let through, so no plan has more. Trimmed sizes and
 //! end sets are worked out once more by the letter of their definitions.
 
@@ -9,7 +9,7 @@ use crate::printed::{Lines, Network, demand, read};
 /// The greatest sizes that leave no joint with a heavy link: heavy links are cut down, in
 /// any order, until there are none.
 fn trimmed(network: &Network) -> Vec<u64> {
-    let mut trimmed: Vec<u64> = network.links.iter().map(|link| link.given).collect();
+    let mut trimmed: Vec<u64> = network.links.iter().map(|link| link.usable).collect();
     let mut sum: Vec<u64> = network
         .around
         .iter()
@@ -34,14 +34,14 @@ fn trimmed(network: &Network) -> Vec<u64> {
     trimmed
 }
 
-/// The sites reached from an end over links whose trimmed size is below the given size.
+/// The sites reached from an end over links whose trimmed size is below the usable size.
 fn end_set(network: &Network, end: usize, trimmed: &[u64]) -> Vec<usize> {
     let mut reached = vec![end];
     let mut came_from = vec![usize::MAX];
     let mut next = 0;
     while next < reached.len() {
         for &(link, site) in &network.around[reached[next]] {
-            if site != came_from[next] && trimmed[link] < network.links[link].given {
+            if site != came_from[next] && trimmed[link] < network.links[link].usable {
                 reached.push(site);
                 came_from.push(reached[next]);
             }

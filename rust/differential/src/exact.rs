@@ -1,7 +1,7 @@
 //! The greatest total of a small tree by linear programming, in exact fractions.
 //!
 //! Nothing of trimming, end sets or pairing is used here: the amounts of all pairs of ends are
-//! the unknowns, the sizes of the links are the bounds, and the simplex method finds the greatest
+//! the unknowns, the usable sizes of the links are the bounds, and the simplex method finds the greatest
 //! total. It comes with a price per link that shows no plan has more.
 
 use sheets::Network;
@@ -120,7 +120,7 @@ fn path(network: &Network, from: usize, to: usize, except: usize) -> Option<Vec<
 }
 
 /// The greatest total of amounts between ends of a tree, none less than 0, whose loads pass no
-/// size.
+/// usable size.
 ///
 /// # Panics
 ///
@@ -128,9 +128,9 @@ fn path(network: &Network, from: usize, to: usize, except: usize) -> Option<Vec<
 pub fn greatest_total(network: &Network) -> Fraction {
     let paths = paths(network);
     let sizes: Vec<Fraction> = network
-        .sizes
-        .iter()
-        .map(|&size| Fraction::whole(u64::from(size)))
+        .usable_sizes()
+        .into_iter()
+        .map(|size| Fraction::whole(u64::from(size)))
         .collect();
     let (amounts, prices) = simplex(&paths, &sizes);
 
@@ -148,7 +148,7 @@ pub fn greatest_total(network: &Network) -> Fraction {
             .zip(&amounts)
             .filter(|(path, _)| path.contains(&link))
             .map(|(_, &amount)| amount);
-        assert!(sum(&mut over_link) <= size, "a load passes its size");
+        assert!(sum(&mut over_link) <= size, "a load passes its usable size");
     }
     for path in &paths {
         let price = sum(&mut path.iter().map(|&link| prices[link]));

@@ -140,7 +140,7 @@ fn printed_sizes(
 
 /// Cuts inward along an order and back out, and compares the sizes with the trimmed ones.
 fn ends_in(network: &Network, order: &[usize], trimmed: &[u64]) -> Result<(), String> {
-    let mut sizes: Vec<u64> = network.links.iter().map(|link| link.given).collect();
+    let mut sizes: Vec<u64> = network.links.iter().map(|link| link.usable).collect();
     for &site in order.iter().chain(order.iter().rev()) {
         cut(network, &mut sizes, site);
     }

@@ -6,8 +6,8 @@
 //!              [--logs N] [--log INDEX] [--replay FILE]
 //! ```
 //!
-//! The sheets of the scope document come first, then small sheets with names in either case, then
-//! all small trees, then random trees and damaged sheets from a seed, then the programs over
+//! The sheets of the scope document come first, then small sheets with names in either case and with
+//! reserves, then all small trees, then random trees and damaged sheets from a seed, then the programs over
 //! standard input and output. Reports headed `plan` are compared byte for byte. Of those headed
 //! `whole` loads and end sets are free: totals are compared, and pairs with those that the walk gives
 //! for the printed loads. Of every accepted sheet the reports are checked against the demands on
@@ -34,6 +34,7 @@ mod random;
 mod search;
 mod small;
 mod spelling;
+mod usable;
 
 use programs::Programs;
 use std::path::PathBuf;
@@ -152,6 +153,7 @@ fn run(options: &Options) -> ExitCode {
     } else {
         small::tried_sheets()
             .and_then(|()| small::names_in_either_case())
+            .and_then(|()| small::reserves())
             .and_then(|()| small::small_trees())
             .and_then(|()| random::compare_all(options.seed, options.sheets))
             .and_then(|()| options.programs.compare(options.seed, options.runs))

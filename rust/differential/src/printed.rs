@@ -1,6 +1,7 @@
 //! A sheet and its report read back, and what reports of either heading must fulfil.
 //!
-//! Names are looked up in either case. In a report each must be spelt as on its site's own line.
+//! Names are looked up in either case. In a report each must be spelt as on its site's own line. The
+//! usable size of a link is worked out here from its own line; everything goes by it.
 
 use std::collections::HashMap;
 
@@ -20,7 +21,8 @@ const NAME_BYTES: usize = 12;
 
 pub struct Link {
     pub sites: [usize; 2],
-    pub given: u64,
+    /// Its size less its reserve.
+    pub usable: u64,
 }
 
 impl<'sheet> Network<'sheet> {
@@ -44,13 +46,13 @@ impl<'sheet> Network<'sheet> {
                     network.names.push(name);
                     network.around.push(Vec::new());
                 }
-                [b"L", first, second, size] => {
+                [b"L", first, second, ref sizes @ ..] => {
                     let sites = [network.site(first)?, network.site(second)?];
                     let link = network.links.len();
                     network.around[sites[0]].push((link, sites[1]));
                     network.around[sites[1]].push((link, sites[0]));
-                    let given = number(size)?;
-                    network.links.push(Link { sites, given });
+                    let usable = usable_size(sizes)?;
+                    network.links.push(Link { sites, usable });
                 }
                 _ => (),
             }
@@ -149,6 +151,16 @@ fn number(text: &[u8]) -> Option<u64> {
     std::str::from_utf8(text).ok()?.parse().ok()
 }
 
+/// The usable size, given the fields of a link line behind its names: the size, and the reserve if
+/// there is one.
+pub fn usable_size(fields: &[&[u8]]) -> Option<u64> {
+    match fields {
+        [size] => number(size),
+        [size, reserve] => number(size)?.checked_sub(number(reserve)?),
+        _ => None,
+    }
+}
+
 /// The lines of a report, taken one by one.
 pub struct Lines<'report> {
     pub rest: &'report [u8],
@@ -176,15 +188,18 @@ impl<'report> Lines<'report> {
         fields.try_into().map_err(|_| wrong())
     }
 
-    /// The number behind the names and the given size of a link on its line.
+    /// The number behind the names and the usable size of a link on its line.
     pub fn link(&mut self, network: &Network, link: &Link) -> Result<u64, String> {
-        let [first, second, given, printed] = self.next("L")?;
+        let [first, second, usable, printed] = self.next("L")?;
         let [one, other] = link.sites;
         demand(
             network.is_name(first, one) && network.is_name(second, other),
             "a link has other names",
         )?;
-        demand(read(given)? == link.given, "a link has another given size")?;
+        demand(
+            read(usable)? == link.usable,
+            "a link has another usable size",
+        )?;
         read(printed)
     }
 
@@ -198,7 +213,7 @@ impl<'report> Lines<'report> {
             counts[end] += 1;
             for &(link, other) in &network.around[site] {
                 if owner[other] != *own {
-                    sizes[end] += network.links[link].given;
+                    sizes[end] += network.links[link].usable;
                 }
             }
         }

@@ -4,7 +4,7 @@ use crate::compare::{Answer, LIST_PLACES, Planners};
 use crate::damage::{self, Damaged};
 use crate::printed;
 use crate::small::accepted;
-use crate::{Failure, circuits, demands, inward, spelling};
+use crate::{Failure, circuits, demands, inward, spelling, usable};
 use second::REPORT_BYTES;
 use sheets::{Layout, Network, Random};
 use std::cell::Cell;
@@ -18,9 +18,12 @@ const THREADS: usize = 2;
 const BLOCK: u64 = 64;
 /// At least one in this many sheets must have each outcome, so that no kind of sheet is missing.
 const LEAST_SHARE: u64 = 2_000;
-/// The refusals for the form of a line, and the share that each of them must have.
-const FORM: [usize; 4] = [2, 10, 11, 12];
-const LEAST_FORM_SHARE: u64 = 10;
+/// The refusals for the form of a line and for a reserve above the size, and the share that each of
+/// them must have.
+const OFTEN: [usize; 5] = [2, 10, 11, 12, 13];
+const LEAST_OFTEN_SHARE: u64 = 12;
+/// One in this many sheets must at least be accepted and have a reserve.
+const LEAST_RESERVE_SHARE: u64 = 8;
 /// One in this many sheets must at least have odd pieces when planned in whole circuits.
 const LEAST_ODD_SHARE: u64 = 20;
 /// One in this many sheets must at least have another answer when names are read by bytes, and one in
@@ -39,14 +42,16 @@ thread_local! {
 /// How many sheets had each outcome: at 0 the accepted ones, else by the number of the refusal.
 #[derive(Default)]
 pub struct Tally {
-    outcomes: [u64; 13],
+    outcomes: [u64; 14],
     solved: u64,
     /// How many accepted trees have odd pieces in whole circuits.
     odd: u64,
     /// How many orders of work are checked against the rule, and trimmed along.
     ordered: u64,
     /// How many sheets of each outcome would have another one if names were read by bytes.
-    spelt: [u64; 13],
+    spelt: [u64; 14],
+    /// How many accepted sheets with reserves are compared with the same without.
+    reserved: u64,
 }
 
 impl Tally {
@@ -58,6 +63,7 @@ impl Tally {
         self.solved += other.solved;
         self.odd += other.odd;
         self.ordered += other.ordered;
+        self.reserved += other.reserved;
     }
 }
 
@@ -103,6 +109,7 @@ impl Case {
                 let (whole, checked) = circuits::accepted(planners, &self.sheet)?;
                 let whole = whole.to_vec();
                 tally.odd += u64::from(checked.odd_pieces > 0);
+                tally.reserved += u64::from(usable::compare(planners, &self.sheet)?);
                 tally.outcomes[0] += 1;
                 tally.spelt[0] += u64::from(spelling::matters(&self.sheet, None));
                 tally.solved += u64::from(solve);
@@ -215,6 +222,7 @@ impl Case {
     ) -> Result<(), String> {
         let Some(due) = refusal.filter(|&(number, _)| number != 9) else {
             let report = circuits::accepted(planners, &self.sheet)?.0.to_vec();
+            usable::compare(planners, &self.sheet)?;
             return self.check_whole_buffer(&report, length, planners);
         };
         match planners.whole(&self.sheet, length)? {
@@ -331,7 +339,7 @@ pub fn compare_all(seed: u64, count: u64) -> Result<(), Failure> {
         count as f64 / seconds
     );
     println!(
-        "  {} accepted, {} solved, {} with odd pieces, {} trimmed in order; refused 1 to 12: {:?}",
+        "  {} accepted, {} solved, {} with odd pieces, {} trimmed in order; refused 1 to 13: {:?}",
         tally.outcomes[0],
         tally.solved,
         tally.odd,
@@ -343,9 +351,13 @@ pub fn compare_all(seed: u64, count: u64) -> Result<(), Failure> {
         tally.spelt.iter().sum::<u64>(),
         SPELT.map(|outcome| tally.spelt[outcome])
     );
+    println!(
+        "  {} trees with reserves, reports as on their usable sizes",
+        tally.reserved
+    );
     let has_share = |(number, &sheets): (usize, &u64)| {
-        let share = if FORM.contains(&number) {
-            LEAST_FORM_SHARE
+        let share = if OFTEN.contains(&number) {
+            LEAST_OFTEN_SHARE
         } else {
             LEAST_SHARE
         };
@@ -353,6 +365,7 @@ pub fn compare_all(seed: u64, count: u64) -> Result<(), Failure> {
     };
     let has_shares = tally.outcomes.iter().enumerate().all(has_share)
         && tally.odd >= count / LEAST_ODD_SHARE
+        && tally.reserved >= count / LEAST_RESERVE_SHARE
         && tally.spelt.iter().sum::<u64>() >= count / LEAST_SPELT_SHARE
         && SPELT.map(|outcome| tally.spelt[outcome] >= count / LEAST_SPELT_SHARES) == [true; 3];
     if count >= ENOUGH_FOR_SHARES && !has_shares {

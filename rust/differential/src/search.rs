@@ -55,7 +55,7 @@ pub fn largest_total(network: &Network) -> u32 {
             .filter(|links| links.len() == 1)
             .flatten()
             .collect(),
-        left: network.sizes.clone(),
+        left: network.usable_sizes(),
         largest: 0,
     };
     search.go_on(0, 0);

@@ -7,7 +7,7 @@ use crate::{Failure, circuits, demands, inward, search};
 use second::REPORT_BYTES;
 use sheets::cases::{self, Due};
 use sheets::{Layout, Names, Network, Random, SHAPES, Sizes, Spelling};
-use sheets::{order, prufer_links, tried, whole};
+use sheets::{order, prufer_links, reserve, tried, whole};
 use std::collections::HashSet;
 
 /// Both planners on the sheets of the scope document, against answers written by hand.
@@ -87,13 +87,25 @@ fn tried_orders(planners: &mut Planners) -> Result<(), Failure> {
 pub fn names_in_either_case() -> Result<(), Failure> {
     let mut planners = Planners::new();
     let count = cases::every_sheet(|sheet, due| {
-        in_either_case(&mut planners, sheet, due).map_err(|what| failure(sheet, what))
+        two_sites(&mut planners, sheet, due).map_err(|what| failure(sheet, what))
     })?;
     println!("names in either case: {count} sheets of two sites, answers by the words of the card");
     Ok(())
 }
 
-fn in_either_case(planners: &mut Planners, sheet: &[u8], due: &Due) -> Result<(), String> {
+/// Both planners on small sheets with reserves, of two sites and a link line each, against what is due
+/// by the words of the card.
+pub fn reserves() -> Result<(), Failure> {
+    let mut planners = Planners::new();
+    let count = reserve::every_sheet(|sheet, due| {
+        two_sites(&mut planners, sheet, due).map_err(|what| failure(sheet, what))
+    })?;
+    println!("reserves: {count} sheets of two sites, answers by the words of the card");
+    Ok(())
+}
+
+/// Both planners on a sheet of two sites, with what is due of it.
+fn two_sites(planners: &mut Planners, sheet: &[u8], due: &Due) -> Result<(), String> {
     let answer = match planners.plan(sheet, REPORT_BYTES)? {
         Answer::Report(report) => Due::Report(report.to_vec()),
         Answer::Refused(number, line) => Due::Refused(number, line),
@@ -106,7 +118,10 @@ fn in_either_case(planners: &mut Planners, sheet: &[u8], due: &Due) -> Result<()
     let refusal = match due {
         Due::Report(report) => {
             demands::check(sheet, report)?;
-            circuits::accepted(planners, sheet)?;
+            let (whole, _) = circuits::accepted(planners, sheet)?;
+            if Due::Report(whole.to_vec()) != due.in_whole_circuits() {
+                return Err("whole: another report is due of two sites".to_string());
+            }
             return inward::compare(planners, sheet, Answer::Report(2), LIST_PLACES);
         }
         Due::Refused(number, line) => (*number, *line),
@@ -190,6 +205,7 @@ fn every_tree(
                         .iter()
                         .map(|&size| size as u32)
                         .collect(),
+                    reserves: vec![None; links.len()],
                     spelling: Spelling::AsGiven,
                 };
                 let sheet = network.sheet(Layout::SitesFirst, &mut Random::new(0));

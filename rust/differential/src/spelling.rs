@@ -20,7 +20,7 @@ pub fn matters(sheet: &[u8], refusal: Option<(u8, u32)>) -> bool {
         match fields[..] {
             [b"N", name] if place == last_line => return !given.contains(name),
             [b"N", name] => _ = given.insert(name),
-            [b"L", first, second, _] if !given.contains(first) || !given.contains(second) => {
+            [b"L", first, second, ..] if !given.contains(first) || !given.contains(second) => {
                 return true;
             }
             _ => (),
@@ -47,6 +47,10 @@ mod tests {
             ("N a\nL q A 1\n", Some((6, 3)), false),
             ("N a\nL a A 1000001\n", Some((3, 3)), false),
             ("N a\nN b\nL A b 1\nN\n", Some((10, 5)), true),
+            ("N a\nN b\nL a b 1 1\n", None, false),
+            ("N a\nN b\nL A b 1 1\n", None, true),
+            ("N a\nN b\nL A b 1 2\n", Some((13, 4)), false),
+            ("N a\nL a A 1 1\n", Some((7, 3)), true),
             ("N a\nN b\nL a b 1\nN\nL A b 1\n", Some((10, 5)), false),
         ] {
             let sheet = format!("network 1\n{lines}").replace(' ', "\t");

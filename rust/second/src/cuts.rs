@@ -10,7 +10,7 @@ use crate::trim::Balanced;
 pub struct TerminalCuts {
     /// The end whose set holds each site, if one does.
     owner: [Option<u8>; SITES],
-    /// For each end, the sum of given capacities of links with one site in its set.
+    /// For each end, the sum of capacities of links with one site in its set.
     size: [u32; SITES],
     /// For each end, the number of sites in its set.
     site_count: [u16; SITES],
@@ -62,9 +62,18 @@ impl TerminalCuts {
     }
 }
 
-/// Works out the set of each end: the sites reached from it over links trimmed below their given
-/// capacity. No site is reached from two ends.
+/// Works out the set of each end: the sites reached from it over links trimmed below their capacity.
+/// No site is reached from two ends.
 pub fn terminal_cuts(network: &Network, tree: &RootedTree, balanced: &Balanced) -> TerminalCuts {
+    if planted(Error::SetsByGiven) {
+        return reached(network, &tree.with_given_sizes(network), balanced);
+    }
+    reached(network, tree, balanced)
+}
+
+/// The same with the capacities of a tree.
+#[inline(always)]
+fn reached(network: &Network, tree: &RootedTree, balanced: &Balanced) -> TerminalCuts {
     let mut owner = [None; SITES];
     if tree.is_terminal(tree.root()) {
         owner[usize::from(tree.root())] = Some(tree.root());

@@ -5,17 +5,19 @@
 
 use crate::names::NAME_BYTES;
 use crate::planted::{Error, planted};
+use std::ops::{Range, RangeInclusive};
 
 const LETTER_OR_ENDING: u8 = 2;
 const FIELD_COUNT: u8 = 10;
 const BAD_NAME: u8 = 11;
 const BAD_NUMBER: u8 = 12;
 
-/// Where the names of a line with a letter stand among its fields, and how many fields it has.
-fn layout(letter: &[u8]) -> Option<(std::ops::Range<usize>, usize)> {
+/// Where the names of a line with a letter stand among its fields, and how many fields it may have.
+/// What stands behind the names are numbers.
+fn layout(letter: &[u8]) -> Option<(Range<usize>, RangeInclusive<usize>)> {
     match letter {
-        b"N" => Some((1..2, 2)),
-        b"L" => Some((1..3, 4)),
+        b"N" => Some((1..2, 2..=2)),
+        b"L" => Some((1..3, 4..=5)),
         _ => None,
     }
 }
@@ -27,8 +29,8 @@ pub fn fault(rest: &[u8]) -> u8 {
         return unended(rest);
     };
     let fields: Vec<&[u8]> = rest[..length].split(|&byte| byte == b'\t').collect();
-    let Some((names, count)) = layout(fields[0]) else {
-        let is_planted = planted(Error::CountBeforeLetter) && ![2, 4].contains(&fields.len());
+    let Some((names, counts)) = layout(fields[0]) else {
+        let is_planted = planted(Error::CountBeforeLetter) && ![2, 4, 5].contains(&fields.len());
         return if is_planted {
             FIELD_COUNT
         } else {
@@ -41,7 +43,7 @@ pub fn fault(rest: &[u8]) -> u8 {
             return BAD_NAME;
         }
     }
-    if fields.len() != count {
+    if !counts.contains(&fields.len()) {
         return FIELD_COUNT;
     }
     if !fields[names.clone()].iter().all(|name| is_name(name)) {
@@ -49,8 +51,8 @@ pub fn fault(rest: &[u8]) -> u8 {
         return if is_planted { BAD_NUMBER } else { BAD_NAME };
     }
     // No other fault of form is left.
-    let size = fields[count - 1];
-    if planted(Error::LeadingZeroAsLarge) && size.starts_with(b"0") {
+    let has_leading_zero = |number: &&[u8]| number.len() > 1 && number.starts_with(b"0");
+    if planted(Error::LeadingZeroAsLarge) && fields[names.end..].iter().any(has_leading_zero) {
         return 3;
     }
     BAD_NUMBER
@@ -60,7 +62,9 @@ pub fn fault(rest: &[u8]) -> u8 {
 fn unended(line: &[u8]) -> u8 {
     let fields: Vec<&[u8]> = line.split(|&byte| byte == b'\t').collect();
     match layout(fields[0]) {
-        Some((_, count)) if planted(Error::UnendedAsCount) && fields.len() != count => FIELD_COUNT,
+        Some((_, counts)) if planted(Error::UnendedAsCount) && !counts.contains(&fields.len()) => {
+            FIELD_COUNT
+        }
         _ => LETTER_OR_ENDING,
     }
 }
@@ -73,7 +77,7 @@ fn is_name(field: &[u8]) -> bool {
 mod tests {
     use crate::{Outcome, plan};
 
-    /// The fault of form of a line that byte 10 ends, by the words of the card; none has 0.
+    /// The fault of form of a line that byte 10 ends, by the words of the cards; none has 0.
     fn fault_by_the_card(line: &str) -> u8 {
         let is_name = |name: &str| {
             !name.is_empty()
@@ -86,12 +90,27 @@ mod tests {
         };
         match line.split('\t').collect::<Vec<_>>()[..] {
             ["N", name] if !is_name(name) => 11,
-            ["L", first, second, _] if !is_name(first) || !is_name(second) => 11,
-            ["L", _, _, number] if !is_number(number) => 12,
-            ["N", _] | ["L", _, _, _] => 0,
+            ["L", first, second, _] | ["L", first, second, _, _]
+                if !is_name(first) || !is_name(second) =>
+            {
+                11
+            }
+            ["L", _, _, size] if !is_number(size) => 12,
+            ["L", _, _, size, reserve] if !is_number(size) || !is_number(reserve) => 12,
+            ["N", _] | ["L", _, _, _] | ["L", _, _, _, _] => 0,
             ["N" | "L", ..] => 10,
             _ => 2,
         }
+    }
+
+    /// Whether the numbers of a link line without a fault of form get 3 or 13.
+    fn fault_of_sizes(line: &str) -> Option<u8> {
+        let numbers = line.split('\t').skip(3);
+        let numbers: Vec<u64> = numbers.filter_map(|number| number.parse().ok()).collect();
+        if numbers.iter().any(|&number| number > 1_000_000) {
+            return Some(3);
+        }
+        (numbers.get(1) > Some(&numbers[0])).then_some(13)
     }
 
     /// Compares the planner on one line, ended and not, with what the card says.
@@ -104,10 +123,9 @@ mod tests {
             }
         };
         let due = match fault_by_the_card(line) {
-            // A site alone is not enough, a size may be too large, and no name is given above.
+            // A site alone is not enough, and no name is given above.
             0 if line.starts_with('N') => (8, 0),
-            0 if line.len() > 12 && line.ends_with("0000000") => (3, 2),
-            0 => (6, 2),
+            0 => (fault_of_sizes(line).unwrap_or(6), 2),
             number => (number, 2),
         };
         assert_eq!(answer("\n"), due, "{line:?}");
@@ -165,6 +183,9 @@ mod tests {
         let pieces: Vec<&str> = pieces.iter().map(String::as_str).collect();
         for letter in ["N", "L"] {
             every_text(&mut letter.to_string(), &pieces, 4, &mut check);
+        }
+        for names in ["L\ta\tb", "L\ta b\tb", "L\ta\tabcdefghijklm"] {
+            every_text(&mut names.to_string(), &pieces, 3, &mut check);
         }
         for letter in ["", "n", " N", "N ", "NN", "network", "é"] {
             every_text(&mut letter.to_string(), &pieces, 3, &mut check);

@@ -11,7 +11,7 @@
 //!
 //! | module | step |
 //! |---|---|
-//! | `network` | reads the sheet: sites, links, refusals 1 to 8 and 10 to 12 |
+//! | `network` | reads the sheet: sites, links, refusals 1 to 8 and 10 to 13 |
 //! | `form` | tells what is off in a line of the wrong form: refusals 2, 10, 11, 12 |
 //! | `names` | finds a site by its name, in either case |
 //! | `tree` | roots the tree by taking off its leaves |
@@ -26,7 +26,8 @@
 //! | `replay` | replays a booking log over the network |
 //! | `program` | what the programs do |
 //!
-//! Sites and links are numbered from 0 inside, in the order of their lines.
+//! Sites and links are numbered from 0 inside, in the order of their lines. The capacity of a link is
+//! its usable size, that is its size less its reserve; nothing behind `network` knows of the two.
 
 #![forbid(unsafe_code)]
 
@@ -58,7 +59,7 @@ use trim::Balanced;
 pub const SHEET_BYTES: usize = 16_384;
 /// The most sites a sheet may have.
 pub const SITES: usize = 256;
-/// The largest capacity of a link, in circuits.
+/// The largest size and the largest reserve of a link, in circuits.
 pub const CAPACITY: u32 = 1_000_000;
 /// The length of the program's report buffer, enough for every accepted sheet.
 pub const REPORT_BYTES: usize = 65_536;
@@ -73,7 +74,7 @@ pub enum Outcome {
     },
     /// There is none, and the buffer or list is as it was.
     Refused {
-        /// The number of the cause, 1 to 12.
+        /// The number of the cause, 1 to 13.
         number: u8,
         /// The line at fault, from 1, or 0 when no line is.
         line: u32,

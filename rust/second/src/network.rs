@@ -11,11 +11,12 @@ const HEADING: &[u8] = b"network\t1\n";
 #[derive(Clone, Copy)]
 pub struct Link {
     pub sites: [u8; 2],
+    /// The usable size: the size less the reserve.
     pub capacity: u32,
     /// Where its line starts in the sheet.
     start: u16,
-    /// The length of its line, byte 10 left off, or 0 if the line spells a name otherwise than the
-    /// site's own line.
+    /// The length of its line, byte 10 left off, or 0 if the report prints another: the line has a
+    /// reserve, or spells a name otherwise than the site's own line.
     length: u32,
 }
 
@@ -39,6 +40,7 @@ pub struct Network<'sheet> {
 }
 
 /// A fault of one line.
+#[derive(Clone, Copy, PartialEq, Eq)]
 pub enum Fault {
     /// The form is wrong; `form` tells how. All faults of form come before the others.
     Form,
@@ -51,6 +53,7 @@ const TOO_MANY_SITES: Fault = Fault::Cause(4);
 const NAME_TAKEN: Fault = Fault::Cause(5);
 const UNKNOWN_NAME: Fault = Fault::Cause(6);
 const ALREADY_JOINED: Fault = Fault::Cause(7);
+const RESERVE_ABOVE_SIZE: Fault = Fault::Cause(13);
 
 impl Fault {
     /// The number of the fault of the line at the start of `rest`.
@@ -149,30 +152,27 @@ impl<'sheet> Network<'sheet> {
     ) -> Result<usize, Fault> {
         let (first_name, position) = read_name(self.sheet, start + 2, b'\t')?;
         let (second_name, position) = read_name(self.sheet, position, b'\t')?;
-        let (capacity, next) = read_capacity(self.sheet, position)?;
+        let (size, reserve, next) = read_sizes(self.sheet, position)?;
         let found = (
             table.find(&self.names, first_name, Error::LinksByBytes),
             table.find(&self.names, second_name, Error::LinksByBytes),
         );
-        let too_large = capacity > CAPACITY;
-        if too_large && !planted(Error::UnknownFirst) {
-            return Err(TOO_LARGE);
+        let capacity = usable_size(size, reserve);
+        if let Err(fault) = capacity
+            && !is_told_late(fault)
+        {
+            return Err(fault);
         }
         let (Found::Site(first), Found::Site(second)) = found else {
             return Err(UNKNOWN_NAME);
         };
-        if too_large {
-            return Err(TOO_LARGE);
-        }
+        let capacity = capacity?;
         if !joined.join(first, second) {
             return Err(ALREADY_JOINED);
         }
         let is_spelt_alike = self.name(first) == first_name && self.name(second) == second_name;
-        let length = if is_spelt_alike || planted(Error::TypedNames) {
-            next - 1 - start
-        } else {
-            0
-        };
+        let is_printed = reserve.is_none() && (is_spelt_alike || planted(Error::TypedNames));
+        let length = if is_printed { next - 1 - start } else { 0 };
         // Each link joined two parts of the network, so there are fewer links than sites.
         self.links[self.link_count] = Link {
             sites: [first, second],
@@ -230,12 +230,21 @@ impl<'sheet> Network<'sheet> {
         self.links[usize::from(link)].capacity
     }
 
-    /// The line of a link as it stands in the sheet, byte 10 left off, if it spells both names as
-    /// the sites' own lines do.
+    /// The line of a link as it stands in the sheet, byte 10 left off, if the report prints the same:
+    /// it has no reserve and spells both names as the sites' own lines do.
     #[inline]
     pub fn line(&self, link: &Link) -> Option<&'sheet [u8]> {
         let line = &self.sheet[usize::from(link.start)..][..link.length as usize];
         (!line.is_empty()).then_some(line)
+    }
+
+    /// The size of a link, its reserve not taken off, for errors that can be planted.
+    #[cold]
+    pub fn given_size(&self, link: &Link) -> u32 {
+        let line = &self.sheet[usize::from(link.start)..];
+        let tabs = (0..line.len()).filter(|&place| line[place] == b'\t');
+        let size = tabs.skip(2).map(|tab| read_number(line, tab + 1)).next();
+        size.map_or(0, |read| read.map_or(0, |(size, ..)| size))
     }
 
     /// The links at each site, folded together.
@@ -274,10 +283,57 @@ pub fn read_name(sheet: &[u8], position: usize, after: u8) -> Result<(Name, usiz
     }
 }
 
-/// Reads the number that ends a link line; returns it and the position past the line. Every
-/// number above the largest capacity may be returned as another such number.
+/// Reads the size and the reserve, if there is one, that end a link line; returns them and the
+/// position past the line.
 #[inline(always)]
-pub fn read_capacity(sheet: &[u8], position: usize) -> Result<(u32, usize), Fault> {
+fn read_sizes(sheet: &[u8], position: usize) -> Result<(u32, Option<u32>, usize), Fault> {
+    let (size, after, next) = read_number(sheet, position)?;
+    match after {
+        b'\n' => Ok((size, None, next)),
+        b'\t' => match read_number(sheet, next)? {
+            (reserve, b'\n', next) => Ok((size, Some(reserve), next)),
+            _ => Err(Fault::Form),
+        },
+        _ => Err(Fault::Form),
+    }
+}
+
+/// The size less the reserve, which is 0 where none is given. A number that is too large is told
+/// before a reserve above the size.
+#[inline(always)]
+fn usable_size(size: u32, reserve: Option<u32>) -> Result<u32, Fault> {
+    let held_back = reserve.unwrap_or(0);
+    let is_above = held_back > size
+        || (planted(Error::WholeReserveRefused) && reserve.is_some() && held_back == size);
+    if is_above && planted(Error::ReserveBeforeLarge) {
+        return Err(RESERVE_ABOVE_SIZE);
+    }
+    if size > CAPACITY || held_back > CAPACITY {
+        return Err(TOO_LARGE);
+    }
+    if is_above {
+        return Err(RESERVE_ABOVE_SIZE);
+    }
+    if planted(Error::ReserveAdded) {
+        return Ok(size + held_back);
+    }
+    if planted(Error::ReservePassedOver) {
+        return Ok(size);
+    }
+    Ok(size - held_back)
+}
+
+/// Whether a fault of the sizes is told after an unknown name, which is an error that can be planted.
+#[inline(always)]
+fn is_told_late(fault: Fault) -> bool {
+    (planted(Error::UnknownFirst) && fault == TOO_LARGE)
+        || (planted(Error::UnknownBeforeReserve) && fault == RESERVE_ABOVE_SIZE)
+}
+
+/// Reads a number; returns it, the byte behind it and the position past that byte. Every number
+/// above the largest capacity may be returned as another such number.
+#[inline(always)]
+pub fn read_number(sheet: &[u8], position: usize) -> Result<(u32, u8, usize), Fault> {
     const EVERY_BYTE: u64 = u64::MAX / 0xff;
     let bytes = load::<8>(sheet, position);
     let word = u64::from_le_bytes(bytes);
@@ -287,7 +343,7 @@ pub fn read_capacity(sheet: &[u8], position: usize) -> Result<(u32, usize), Faul
             ^ (EVERY_BYTE * 0x30));
     let digits = (other.trailing_zeros() / 8) as usize;
     if planted(Error::EmptySize) && bytes[0] == b'\n' {
-        return Ok((0, position + 1));
+        return Ok((0, b'\n', position + 1));
     }
     if digits == 0 || (bytes[0] == b'0' && digits > 1) {
         return Err(Fault::Form);
@@ -295,24 +351,21 @@ pub fn read_capacity(sheet: &[u8], position: usize) -> Result<(u32, usize), Faul
     if digits == 8 {
         return read_long_number(sheet, position + 8);
     }
-    if bytes[digits] != b'\n' {
-        return Err(Fault::Form);
-    }
     // The digits moved to the end of eight, then added up in pairs, fours and eights.
     let digit = (word << (64 - 8 * digits)) & (EVERY_BYTE * 0x0f);
     let pairs = (digit * 10 + (digit >> 8)) & 0x00ff_00ff_00ff_00ff;
     let fours = (pairs * 100 + (pairs >> 16)) & 0x0000_ffff_0000_ffff;
     let number = (fours * 10_000 + (fours >> 32)) as u32;
-    Ok((number, position + digits + 1))
+    Ok((number, bytes[digits], position + digits + 1))
 }
 
 /// Goes past the rest of a number of eight digits or more, which is always too large.
 #[cold]
-fn read_long_number(sheet: &[u8], position: usize) -> Result<(u32, usize), Fault> {
+fn read_long_number(sheet: &[u8], position: usize) -> Result<(u32, u8, usize), Fault> {
     let rest = &sheet[position..];
     match rest.iter().position(|byte| !byte.is_ascii_digit()) {
-        Some(length) if rest[length] == b'\n' => Ok((u32::MAX, position + length + 1)),
-        _ => Err(Fault::Form),
+        Some(length) => Ok((u32::MAX, rest[length], position + length + 1)),
+        None => Err(Fault::Form),
     }
 }
 
@@ -355,10 +408,22 @@ impl JoinedSites {
 mod tests {
     use super::*;
 
-    fn capacity(text: &[u8]) -> Option<u32> {
-        read_capacity(text, 0).ok().map(|(number, next)| {
+    /// The size and the reserve that end a line.
+    fn sizes(text: &[u8]) -> Option<(u32, Option<u32>)> {
+        read_sizes(text, 0).ok().map(|(size, reserve, next)| {
             assert_eq!(next, text.len());
-            number
+            (size, reserve)
+        })
+    }
+
+    /// The size that ends a line, which must be read alike as a reserve.
+    fn capacity(text: &[u8]) -> Option<u32> {
+        let as_reserve = sizes(&[b"12\t", text].concat());
+        let as_size = sizes(text);
+        assert_eq!(as_reserve, as_size.map(|(size, _)| (12, Some(size))));
+        as_size.map(|(size, reserve)| {
+            assert_eq!(reserve, None);
+            size
         })
     }
 
@@ -397,8 +462,59 @@ mod tests {
     }
 
     #[test]
+    fn a_reserve_may_follow_the_size() {
+        assert_eq!(sizes(b"7\t0\n"), Some((7, Some(0))));
+        assert_eq!(
+            sizes(b"1000000\t1000000\n"),
+            Some((1_000_000, Some(1_000_000)))
+        );
+        assert_eq!(sizes(b"0\t9999999\n"), Some((0, Some(9_999_999))));
+        let large = sizes(b"123456789\t12345678\n");
+        assert!(large.is_some_and(|(size, reserve)| size.min(reserve.unwrap_or(0)) > CAPACITY));
+        for wrong in [
+            &b"7\t\n"[..],
+            b"\t7\n",
+            b"7\t7\t\n",
+            b"7\t7\t7\n",
+            b"7\t\t7\n",
+            b"7\t07\n",
+            b"07\t7\n",
+            b"7\t7",
+            b"7\t",
+            b"7 7\n",
+            b"12345678\t",
+            b"12345678\t\n",
+            b"12345678\t12345678\t\n",
+            b"1\t12345678",
+        ] {
+            assert_eq!(sizes(wrong), None, "{wrong:?}");
+        }
+    }
+
+    #[test]
+    fn the_reserve_comes_off() {
+        let usable = |size, reserve| match usable_size(size, reserve) {
+            Ok(usable) => Ok(usable),
+            Err(fault) => Err(fault.number(b"")),
+        };
+        for size in [0, 1, 2, 999_999, CAPACITY] {
+            assert_eq!(usable(size, None), Ok(size));
+            assert_eq!(usable(size, Some(0)), Ok(size));
+            assert_eq!(usable(size, Some(size)), Ok(0));
+            assert_eq!(usable(size, Some(size / 2)), Ok(size.div_ceil(2)));
+            let above = if size < CAPACITY { 13 } else { 3 };
+            assert_eq!(usable(size, Some(size + 1)), Err(above));
+            assert_eq!(usable(size, Some(CAPACITY + 1)), Err(3));
+        }
+        for reserve in [None, Some(0), Some(CAPACITY + 1), Some(u32::MAX)] {
+            assert_eq!(usable(CAPACITY + 1, reserve), Err(3));
+            assert_eq!(usable(u32::MAX, reserve), Err(3));
+        }
+    }
+
+    #[test]
     fn only_digits_count_as_digits() {
-        for byte in (0..=u8::MAX).filter(|&byte| byte != b'\n') {
+        for byte in (0..=u8::MAX).filter(|byte| !b"\t\n".contains(byte)) {
             let digit = byte.is_ascii_digit().then(|| u32::from(byte - b'0'));
             assert_eq!(
                 capacity(&[b'1', byte, b'\n']),

@@ -57,10 +57,19 @@ pub fn odd_pieces(
     cuts: &TerminalCuts,
     loads: &Balanced,
 ) -> u32 {
+    if planted(Error::PiecesByGiven) {
+        return counted(network, &tree.with_given_sizes(network), cuts, loads);
+    }
+    counted(network, tree, cuts, loads)
+}
+
+/// The same with the capacities of a tree.
+#[inline(always)]
+fn counted(network: &Network, tree: &RootedTree, cuts: &TerminalCuts, loads: &Balanced) -> u32 {
     let mut is_odd = [false; SITES];
-    for link in network.links() {
-        for site in link.sites {
-            is_odd[usize::from(site)] ^= link.capacity & 1 == 1;
+    for &child in tree.leaves_first() {
+        for site in [child, tree.parent(child)] {
+            is_odd[usize::from(site)] ^= tree.capacity(child) & 1 == 1;
         }
     }
     if planted(Error::OddByLoads) {

@@ -1,6 +1,6 @@
 //! Errors planted on purpose.
 //!
-//! With the feature `planted` one of forty-seven errors can be switched on, to show that the comparison
+//! With the feature `planted` one of fifty-five errors can be switched on, to show that the comparison
 //! of the planners finds it. Without the feature none of this reaches the compiled planner.
 
 /// An error that can be planted, numbered from 1.
@@ -68,6 +68,22 @@ pub enum Error {
     SitesByBytes = 30,
     /// The report has all names in capitals.
     InCapitals = 31,
+    /// The reserve is added to the size.
+    ReserveAdded = 32,
+    /// The report prints the size of a link with a reserve as it is given.
+    GivenPrinted = 33,
+    /// A reserve above the size is told before a number that is too large.
+    ReserveBeforeLarge = 34,
+    /// A reserve equal to the size is refused.
+    WholeReserveRefused = 35,
+    /// An unknown name is told before a reserve above the size.
+    UnknownBeforeReserve = 36,
+    /// End sets spread over links trimmed below the size that is given.
+    SetsByGiven = 37,
+    /// Pieces in whole circuits are connected, and odd, by the sizes that are given.
+    PiecesByGiven = 38,
+    /// The reserve is passed over.
+    ReservePassedOver = 39,
     /// Of a path the first link alone is looked at for an overfilled one.
     FirstLinkOnly = 40,
     /// Loads in halves are held against the capacity in circuits.
@@ -103,7 +119,7 @@ pub enum Error {
 }
 
 /// All errors, in the order of their numbers.
-pub const ERRORS: [Error; 47] = [
+pub const ERRORS: [Error; 55] = [
     Error::RoundedHalf,
     Error::HighestRoot,
     Error::UpwardSets,
@@ -135,6 +151,14 @@ pub const ERRORS: [Error; 47] = [
     Error::HashByBytes,
     Error::SitesByBytes,
     Error::InCapitals,
+    Error::ReserveAdded,
+    Error::GivenPrinted,
+    Error::ReserveBeforeLarge,
+    Error::WholeReserveRefused,
+    Error::UnknownBeforeReserve,
+    Error::SetsByGiven,
+    Error::PiecesByGiven,
+    Error::ReservePassedOver,
     Error::FirstLinkOnly,
     Error::AgainstCapacity,
     Error::TakesLess,

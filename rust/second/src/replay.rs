@@ -4,7 +4,7 @@
 //! answer: 0, or the number of the first cause against it.
 
 use crate::names::{NAME_BYTES, Name, NameTable};
-use crate::network::{Network, load, read_capacity, read_name};
+use crate::network::{Network, load, read_name, read_number};
 use crate::planted::{Error, planted};
 use crate::tree::RootedTree;
 use crate::{CAPACITY, Refusal, SITES};
@@ -316,8 +316,8 @@ fn read_fields(log: &[u8], start: usize) -> Option<(bool, [Name; 2], u32, usize)
     };
     let (first, position) = read_name(log, start + 2, b'\t').ok()?;
     let (second, position) = read_name(log, position, b'\t').ok()?;
-    let (halves, next) = read_capacity(log, position).ok()?;
-    Some((opens, [first, second], halves, next))
+    let (halves, after, next) = read_number(log, position).ok()?;
+    (after == b'\n').then_some((opens, [first, second], halves, next))
 }
 
 /// The fault of the line at the start of `rest`, whose form is wrong, and where the next line starts.

@@ -4,6 +4,7 @@ use crate::cuts::TerminalCuts;
 use crate::names::Name;
 use crate::network::{Link, Network};
 use crate::pairs::Pairs;
+use crate::planted::{Error, planted};
 use crate::tree::RootedTree;
 use crate::trim::Balanced;
 use crate::{CAPACITY, SITES};
@@ -83,7 +84,7 @@ pub fn write(network: &Network, tree: &RootedTree, shown: &Shown) -> Vec<u8> {
     text
 }
 
-/// Writes the letter of a link, the names of its sites and its given size.
+/// Writes the letter of a link, the names of its sites and its usable size.
 fn push_link(text: &mut Vec<u8>, network: &Network, link: &Link) {
     text.push(b'L');
     for site in link.sites {
@@ -91,7 +92,12 @@ fn push_link(text: &mut Vec<u8>, network: &Network, link: &Link) {
         push_name(text, network.name(site));
     }
     text.push(b'\t');
-    push_number(text, link.capacity);
+    let size = if planted(Error::GivenPrinted) {
+        network.given_size(link)
+    } else {
+        link.capacity
+    };
+    push_number(text, size);
 }
 
 /// Writes the lines of the pairs.

@@ -132,8 +132,19 @@ impl RootedTree {
     }
 }
 
-/// A tree of even capacities, for an error that can be planted.
+/// Trees of other capacities, for errors that can be planted.
 impl RootedTree {
+    /// The sizes that are given, reserves not taken off.
+    #[cold]
+    pub fn with_given_sizes(&self, network: &Network) -> Self {
+        let mut tree = RootedTree { ..*self };
+        for link in network.links() {
+            tree.capacity[usize::from(self.child(link.sites))] = network.given_size(link);
+        }
+        tree
+    }
+
+    /// Even capacities.
     pub fn with_even_capacities(&self) -> Self {
         RootedTree {
             capacity: self.capacity.map(|capacity| capacity & !1),

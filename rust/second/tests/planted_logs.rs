@@ -47,10 +47,7 @@ fn errors_of_logs_are_errors() {
         .map(|case| (case.clone(), due(&case.network, &case.log)))
         .collect();
     assert!(cases.iter().all(|(case, due)| is_right(case, due)));
-    let first = ERRORS
-        .iter()
-        .position(|&error| error == Error::FirstLinkOnly);
-    for &error in &ERRORS[first.expect("there are errors of logs")..] {
+    for &error in &ERRORS[Error::FirstLinkOnly as usize - 1..] {
         plant(error);
         let found = cases.iter().position(|(case, due)| !is_right(case, due));
         assert!(found.is_some(), "{error:?}");

@@ -1,9 +1,11 @@
 //! The sheets to try of the scope document and the cards, against answers written out by hand.
 
 use second::{Outcome, REPORT_BYTES, SITES, order, order_lines, pair_lines, plan, whole};
-use sheets::cases::{Due, every_sheet};
+use sheets::cases::{self, Due};
+use sheets::reserve;
 use sheets::tried::{ACCEPTED, refused, star};
 use sheets::whole::TRIED;
+use sheets::{Layout, Network, Random};
 
 type Planner = fn(&[u8], &mut [u8]) -> Outcome;
 
@@ -182,21 +184,49 @@ fn lines_of_an_order_in_either_case() {
     assert_eq!(lines, b"1\tA\n3\tb\n2\thub\n4\tC\n");
 }
 
-#[test]
-fn every_small_sheet_in_either_case() {
-    let count = every_sheet(|sheet, due| {
-        let (outcome, report) = planned(plan, sheet, REPORT_BYTES);
+/// Compares the reports on a sheet of two sites with what is due.
+fn is_due(sheet: &[u8], due: &Due) -> Result<(), String> {
+    for (planner, due) in [(plan as Planner, due), (whole, &due.in_whole_circuits())] {
+        let (outcome, report) = planned(planner, sheet, REPORT_BYTES);
         let answer = match outcome {
             Outcome::Report { .. } => Due::Report(report),
             Outcome::Refused { number, line } => Due::Refused(number, line),
         };
-        if answer == *due {
-            Ok(())
-        } else {
-            Err(format!("{answer:?} where {due:?} is due"))
+        if answer != *due {
+            return Err(format!("{answer:?} where {due:?} is due"));
         }
-    });
+    }
+    Ok(())
+}
+
+#[test]
+fn every_small_sheet_in_either_case() {
+    let count = cases::every_sheet(is_due);
     assert_eq!(count, Ok(8_usize.pow(4) + 12_usize.pow(4) + 37 * 81));
+}
+
+#[test]
+fn every_small_sheet_with_reserves() {
+    let count = reserve::every_sheet(is_due);
+    assert_eq!(count, Ok(24 * 25 * 25 * 2 + 24 * 24 * 3));
+}
+
+/// A reserve makes no difference but to the size that can be used.
+#[test]
+fn reports_by_usable_size() {
+    let mut random = Random::new(5);
+    for _ in 0..2_000 {
+        let with_reserves = Network::any(40, &mut random);
+        let mut usable = with_reserves.clone();
+        usable.sizes = with_reserves.usable_sizes();
+        usable.reserves.fill(None);
+        let layout = Layout::any(&mut random);
+        let sheets = [with_reserves, usable].map(|it| it.sheet(layout, &mut random.clone()));
+        for planner in [plan, whole, order_lines] {
+            let [one, other] = [0, 1].map(|number| report(planner, &sheets[number]));
+            assert_eq!(one, other, "{}", String::from_utf8_lossy(&sheets[0]));
+        }
+    }
 }
 
 /// The number that a sheet of three lines under its heading gets, or 0.

@@ -43,6 +43,23 @@ pub enum Due {
     Refused(u8, u32),
 }
 
+impl Due {
+    /// What is due in whole circuits of a sheet with two sites, where nothing is left free: the same
+    /// but for the heading and the number of odd pieces, which is 0.
+    #[must_use]
+    pub fn in_whole_circuits(&self) -> Due {
+        let Due::Report(report) = self else {
+            return self.clone();
+        };
+        let report = String::from_utf8_lossy(report);
+        let (pair, lines): (Vec<&str>, Vec<&str>) = report
+            .split_inclusive('\n')
+            .partition(|line| line.starts_with("P\t"));
+        let lines = lines.concat().replacen("plan", "whole", 1);
+        Due::Report([lines.as_str(), "Q\t0\n", &pair.concat()].concat().into())
+    }
+}
+
 /// Calls `see` with sheets of two sites and a link, and what is due of each; returns how many.
 ///
 /// The four names of a sheet are taken in all ways out of one list. The lists: names of one byte, at

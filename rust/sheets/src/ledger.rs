@@ -43,23 +43,24 @@ pub struct Move {
 
 /// What is open over a network.
 #[derive(Clone)]
-pub struct Ledger<'network> {
-    network: &'network Network,
+pub struct Ledger {
     /// The site of each name in capitals.
     sites: HashMap<Vec<u8>, usize>,
     /// For each link and each site whether the site is joined with the first site of the link without it.
     sides: Vec<Vec<bool>>,
     is_end: Vec<bool>,
+    /// The usable size of each link.
+    capacity: Vec<u32>,
     /// What the lines answered with 0 moved.
     moves: Vec<Move>,
     open: BTreeMap<[usize; 2], u64>,
     loads: Vec<u64>,
 }
 
-impl<'network> Ledger<'network> {
+impl Ledger {
     /// Nothing is open.
     #[must_use]
-    pub fn new(network: &'network Network) -> Self {
+    pub fn new(network: &Network) -> Self {
         let names = network.names.iter().map(|name| name.to_ascii_uppercase());
         let sites = 0..network.names.len();
         let degree = |site| {
@@ -70,10 +71,10 @@ impl<'network> Ledger<'network> {
                 .filter(move |&&it| it == site)
         };
         Ledger {
-            network,
             sites: names.zip(sites.clone()).collect(),
             sides: sides(network),
             is_end: sites.map(|site| degree(site).count() == 1).collect(),
+            capacity: network.usable_sizes(),
             moves: Vec::new(),
             open: BTreeMap::new(),
             loads: vec![0; network.links.len()],
@@ -183,7 +184,7 @@ impl<'network> Ledger<'network> {
     /// What a link may carry: twice its capacity.
     #[must_use]
     pub fn most(&self, link: usize) -> u64 {
-        2 * u64::from(self.network.sizes[link])
+        2 * u64::from(self.capacity[link])
     }
 
     /// What may still be opened between two different sites, as far as the links of their path let

@@ -9,6 +9,7 @@ pub mod logs;
 pub mod order;
 mod random;
 pub mod replay;
+pub mod reserve;
 mod tree;
 pub mod tried;
 pub mod whole;
@@ -16,13 +17,14 @@ pub mod whole;
 pub use random::Random;
 pub use tree::{
     Layout, Names, Network, SHAPES, SIZES, Shape, Sizes, Spelling, join_lines, prufer_links,
+    some_reserve,
 };
 
 /// The largest sheet that is read, in bytes.
 pub const SHEET_BYTES: usize = 16_384;
 /// The most sites a sheet may have.
 pub const SITES: usize = 256;
-/// The largest size of a link, in circuits.
+/// The largest size of a link, and the largest reserve, in circuits.
 pub const SIZE: u32 = 1_000_000;
 /// The first line of every sheet.
 pub const HEADING: &[u8] = b"network\t1";

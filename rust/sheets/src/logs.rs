@@ -47,7 +47,7 @@ impl Case {
 
 /// A log on its way, with what is open after its lines.
 struct Writer<'case> {
-    ledger: Ledger<'case>,
+    ledger: Ledger,
     network: &'case Network,
     ends: Vec<usize>,
     random: &'case mut Random,
@@ -604,6 +604,7 @@ fn small_trees() -> Vec<Network> {
         names: names.iter().map(|name| name.as_bytes().to_vec()).collect(),
         links: links.iter().map(|&(sites, _)| sites).collect(),
         sizes: links.iter().map(|&(_, size)| size).collect(),
+        reserves: vec![None; links.len()],
         spelling: Spelling::AsGiven,
     };
     vec![

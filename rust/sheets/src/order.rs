@@ -20,7 +20,7 @@ impl Tried {
 }
 
 /// The sheets.
-pub const TRIED: [Tried; 9] = [
+pub const TRIED: [Tried; 10] = [
     Tried {
         title: "star, hub first",
         sheet: "network 1\nN hub\nN a\nN b\nN c\nL hub a 5\nL hub b 1\nL hub c 1\n",
@@ -61,6 +61,11 @@ pub const TRIED: [Tried; 9] = [
         sheet: "network 1\nN h\nN k\nN a\nN b\nN c\nN d\n\
                 L h k 10\nL h a 3\nL h b 3\nL k c 1\nL k d 1\n",
         order: &[3, 4, 1, 5, 2, 6],
+    },
+    Tried {
+        title: "star, hub first, links with reserves",
+        sheet: "network 1\nN hub\nN a\nN b\nN c\nL hub a 5 5\nL hub b 1 0\nL hub c 2 1\n",
+        order: &[2, 3, 1, 4],
     },
     Tried {
         title: "star, hub second, names in either case",

@@ -31,7 +31,7 @@ const TWO: &str = "network 1\nN a\nN b\nL a b 1000000\n";
 const PATH: &str = "network 1\nN a\nN h\nN k\nN b\nN c\nL a h 7\nL h k 3\nL k b 5\nL k c 5\n";
 
 /// The logs.
-pub const TRIED: [Tried; 13] = [
+pub const TRIED: [Tried; 14] = [
     Tried {
         title: "no lines",
         sheet: STAR,
@@ -106,6 +106,12 @@ pub const TRIED: [Tried; 13] = [
         sheet: TWO,
         log: "+ a b 1\n\n- a b 1\n\n",
         answers: &[0, 2, 0, 2],
+    },
+    Tried {
+        title: "links with reserves",
+        sheet: "network 1\nN a\nN b\nN c\nN h\nL a h 5 3\nL b h 3 0\nL h c 4 4\n",
+        log: "+ a b 5\n+ a b 4\n+ b a 1\n+ b c 1\n- a b 4\n",
+        answers: &[15, 0, 15, 15, 0],
     },
     Tried {
         title: "links of size 0",

@@ -265,7 +265,7 @@ impl Layout {
     }
 }
 
-/// A tree with names and sizes.
+/// A tree with names, sizes and reserves.
 #[derive(Clone, Debug)]
 pub struct Network {
     /// The names of the sites, in the order of their lines.
@@ -274,12 +274,15 @@ pub struct Network {
     pub links: Vec<[usize; 2]>,
     /// The size of each link.
     pub sizes: Vec<u32>,
+    /// The reserve of each link, if its line has one; never above its size.
+    pub reserves: Vec<Option<u32>>,
     /// How link lines spell names.
     pub spelling: Spelling,
 }
 
 impl Network {
-    /// A random tree of the given kind with `count` sites, its sites and links in random order.
+    /// A random tree of the given kind with `count` sites, its sites and links in random order, without
+    /// reserves.
     pub fn random(
         shape: Shape,
         count: usize,
@@ -302,13 +305,14 @@ impl Network {
         Network {
             names: names.list(count, random),
             sizes: links.iter().map(|_| sizes.draw(random)).collect(),
+            reserves: vec![None; links.len()],
             links,
             spelling: Spelling::AsGiven,
         }
     }
 
     /// A random tree of any kind with at most `most` sites; every second one spells all names in
-    /// either case.
+    /// either case, and every second one has reserves.
     pub fn any(most: usize, random: &mut Random) -> Self {
         let shape = *random.pick(&SHAPES);
         let sizes = *random.pick(&SIZES);
@@ -321,7 +325,32 @@ impl Network {
                 *name = in_either_case(name, random);
             }
         }
+        if random.once_in(2) {
+            network.hold_back(random);
+        }
         network
+    }
+
+    /// Gives some links a reserve: out of their sizes, or on top of them.
+    fn hold_back(&mut self, random: &mut Random) {
+        let times = *random.pick(&[1, 2, 2, 5]);
+        let on_top = random.once_in(2);
+        for (size, reserve) in self.sizes.iter_mut().zip(&mut self.reserves) {
+            if random.once_in(times) {
+                let held_back = some_reserve(if on_top { SIZE - *size } else { *size }, random);
+                *size += if on_top { held_back } else { 0 };
+                *reserve = Some(held_back);
+            }
+        }
+    }
+
+    /// The usable size of each link: its size less its reserve.
+    #[must_use]
+    pub fn usable_sizes(&self) -> Vec<u32> {
+        let links = self.sizes.iter().zip(&self.reserves);
+        links
+            .map(|(size, reserve)| size - reserve.unwrap_or(0))
+            .collect()
     }
 
     /// The links with their sizes in ascending order, the lower site first: the same for two
@@ -347,8 +376,10 @@ impl Network {
             Spelling::AsGiven => self.names[site].clone(),
             Spelling::EitherCase => in_either_case(&self.names[site], random),
         });
-        let size = self.sizes[link].to_string();
-        [b"L", first.as_slice(), &second, size.as_bytes()].join(&b'\t')
+        let size = self.sizes[link].to_string().into_bytes();
+        let mut fields = vec![b"L".to_vec(), first, second, size];
+        fields.extend(self.reserves[link].map(|reserve| reserve.to_string().into_bytes()));
+        fields.join(&b'\t')
     }
 
     /// The lines of the sheet, each without its byte 10. Links keep their order, unless they
@@ -376,6 +407,18 @@ impl Network {
     /// The sheet.
     pub fn sheet(&self, layout: Layout, random: &mut Random) -> Vec<u8> {
         join_lines(&self.lines(layout, random))
+    }
+}
+
+/// A reserve of at most `most`: often one of the least or one of the largest.
+pub fn some_reserve(most: u32, random: &mut Random) -> u32 {
+    match random.below(6) {
+        0 => 0,
+        1 => most,
+        2 => most.min(1),
+        3 => most.saturating_sub(1),
+        4 => random.between(0, most.min(9) as usize) as u32,
+        _ => random.between(0, most as usize) as u32,
     }
 }
 

@@ -2,7 +2,7 @@
 //!
 //! Texts are written here with a space where a tab stands in them, and `~` where a space does.
 
-use crate::{HEADING, SHEET_BYTES, SITES};
+use crate::{SHEET_BYTES, SITES};
 
 /// An accepted sheet and its report.
 pub struct Accepted {
@@ -43,7 +43,7 @@ pub(crate) fn tabbed(text: &str) -> Vec<u8> {
 }
 
 /// The accepted sheets.
-pub const ACCEPTED: [Accepted; 18] = [
+pub const ACCEPTED: [Accepted; 27] = [
     Accepted {
         title: "star 1, 1, 1",
         sheet: "network 1\nN hub\nN a\nN b\nN c\nL hub a 1\nL hub b 1\nL hub c 1\n",
@@ -390,6 +390,141 @@ X q 1 1
 P 0 q 2
 ",
     },
+    Accepted {
+        title: "star 5, 1, 1 of links with reserves 2, 1, 0",
+        sheet: "network 1\nN hub\nN a\nN b\nN c\nL hub a 7 2\nL hub b 2 1\nL hub c 1 0\n",
+        report: "\
+plan 4 2
+L hub a 5 2
+L hub b 1 1
+L hub c 1 1
+N hub a
+N a a
+N b b
+N c c
+X a 2 2
+X b 1 1
+X c 1 1
+P a b 2
+P a c 2
+",
+    },
+    Accepted {
+        title: "star 5, 1, 1 with a reserve that leaves nothing to trim",
+        sheet: "network 1\nN hub\nN a\nN b\nN c\nL hub a 5 3\nL hub b 1\nL hub c 1\n",
+        report: "\
+plan 4 2
+L hub a 2 2
+L hub b 1 1
+L hub c 1 1
+N hub -
+N a a
+N b b
+N c c
+X a 2 1
+X b 1 1
+X c 1 1
+P a b 2
+P a c 2
+",
+    },
+    Accepted {
+        title: "star 2, 2, 2 with reserves 1, 1, 2",
+        sheet: "network 1\nN hub\nN a\nN b\nN c\nL hub a 2 1\nL hub b 2 1\nL hub c 2 2\n",
+        report: "\
+plan 2 1
+L hub a 1 1
+L hub b 1 1
+L hub c 0 0
+N hub -
+N a a
+N b b
+N c c
+X a 1 1
+X b 1 1
+X c 0 1
+P a b 2
+",
+    },
+    Accepted {
+        title: "path 7, 3, 5 with reserves, names in either case",
+        sheet: "network 1\nN a\nN h\nN K\nN b\nL A h 9 2\nL h k 3\nL K b 1000000 999995\n",
+        report: "\
+plan 6 1
+L a h 7 3
+L h K 3 3
+L K b 5 3
+N a a
+N h a
+N K b
+N b b
+X a 3 2
+X b 3 2
+P a b 6
+",
+    },
+    Accepted {
+        title: "a reserve of 0",
+        sheet: "network 1\nN a\nN b\nL a b 4 0\n",
+        report: "\
+plan 8 1
+L a b 4 4
+N a a
+N b b
+X a 4 1
+X b 4 1
+P a b 8
+",
+    },
+    Accepted {
+        title: "a reserve equal to the size",
+        sheet: "network 1\nN a\nN b\nL a b 4 4\n",
+        report: "\
+plan 0 0
+L a b 0 0
+N a a
+N b b
+X a 0 1
+X b 0 1
+",
+    },
+    Accepted {
+        title: "size 0 and a reserve of 0",
+        sheet: "network 1\nN a\nN b\nL a b 0 0\n",
+        report: "\
+plan 0 0
+L a b 0 0
+N a a
+N b b
+X a 0 1
+X b 0 1
+",
+    },
+    Accepted {
+        title: "size and reserve 1,000,000",
+        sheet: "network 1\nN a\nN b\nL a b 1000000 1000000\n",
+        report: "\
+plan 0 0
+L a b 0 0
+N a a
+N b b
+X a 0 1
+X b 0 1
+",
+    },
+    Accepted {
+        title: "size 10 and a reserve of 9",
+        sheet: "network 1\nN a\nN b\nL a b 10 9\n",
+        report: "\
+plan 2 1
+L a b 1 1
+N a a
+N b b
+X a 1 1
+X b 1 1
+P a b 2
+",
+    },
 ];
 
 /// A sheet of `sites` sites `s1`, `s2` and so on, each but the first linked to the first.
@@ -461,7 +596,7 @@ pub fn refused() -> Vec<Refused> {
             line: 513,
         },
     ];
-    for &(title, sheet, number, line) in REFUSED.iter().chain(FORMS).chain(CASES) {
+    for &(title, sheet, number, line) in REFUSED.iter().chain(FORMS).chain(CASES).chain(RESERVES) {
         list.push(Refused {
             title,
             sheet: tabbed(sheet),
@@ -469,32 +604,35 @@ pub fn refused() -> Vec<Refused> {
             line,
         });
     }
-    list.push(Refused {
-        title: "a size of 16,000 digits",
-        sheet: long_number(16_000, "\n"),
-        number: 3,
-        line: 4,
-    });
-    list.push(Refused {
-        title: "a size of 16,000 digits without byte 10",
-        sheet: long_number(16_000, ""),
-        number: 2,
-        line: 4,
-    });
-    list.push(Refused {
-        title: "a size of 16,000 digits and a letter",
-        sheet: long_number(16_000, "x\n"),
-        number: 12,
-        line: 4,
-    });
+    for (title, before, behind, number) in [
+        ("a size of 16,000 digits", "", "\n", 3),
+        ("a size of 16,000 digits without byte 10", "", "", 2),
+        ("a size of 16,000 digits and a letter", "", "x\n", 12),
+        ("a size of 16,000 digits and a reserve", "", " 1\n", 3),
+        ("a size of 16,000 digits and a bad reserve", "", " 01\n", 12),
+        ("a size of 16,000 digits and two fields", "", " 1 1\n", 10),
+        ("a reserve of 16,000 digits", "1 ", "\n", 3),
+        ("a reserve of 16,000 digits without byte 10", "1 ", "", 2),
+        ("a reserve of 16,000 digits and a letter", "1 ", "x\n", 12),
+        ("a reserve of 16,000 digits, a bad size", "01 ", "\n", 12),
+        ("a reserve of 16,000 digits and a field", "1 ", " 1\n", 10),
+    ] {
+        list.push(Refused {
+            title,
+            sheet: long_number(before, 16_000, behind),
+            number,
+            line: 4,
+        });
+    }
     list
 }
 
-fn long_number(digits: usize, ending: &str) -> Vec<u8> {
-    let mut sheet = HEADING.to_vec();
-    sheet.extend(tabbed("\nN a\nN b\nL a b "));
+/// A sheet with a long number in its link line.
+fn long_number(before: &str, digits: usize, behind: &str) -> Vec<u8> {
+    let mut sheet = tabbed("network 1\nN a\nN b\nL a b ");
+    sheet.extend(tabbed(before));
     sheet.extend(std::iter::repeat_n(b'9', digits));
-    sheet.extend_from_slice(ending.as_bytes());
+    sheet.extend(tabbed(behind));
     sheet
 }
 
@@ -563,8 +701,8 @@ const REFUSED: &[(&str, &str, u8, u32)] = &[
         4,
     ),
     (
-        "link with five fields",
-        "network 1\nN a\nN b\nL a b 1 1\n",
+        "link with six fields",
+        "network 1\nN a\nN b\nL a b 1 1 1\n",
         10,
         4,
     ),
@@ -577,7 +715,7 @@ const REFUSED: &[(&str, &str, u8, u32)] = &[
     (
         "link with two tabs",
         "network 1\nN a\nN b\nL a  b 1\n",
-        10,
+        11,
         4,
     ),
     (
@@ -687,7 +825,7 @@ const REFUSED: &[(&str, &str, u8, u32)] = &[
     (
         "a tab before the size",
         "network 1\nN a\nN b\nL a b  1\n",
-        10,
+        12,
         4,
     ),
 ];
@@ -824,8 +962,8 @@ const FORMS: &[(&str, &str, u8, u32)] = &[
         4,
     ),
     (
-        "link with an empty fifth field",
-        "network 1\nN a\nN b\nL a b 1 \n",
+        "link with an empty sixth field",
+        "network 1\nN a\nN b\nL a b 1 1 \n",
         10,
         4,
     ),
@@ -850,14 +988,14 @@ const FORMS: &[(&str, &str, u8, u32)] = &[
         4,
     ),
     (
-        "five fields and a bad name",
-        "network 1\nN a\nN b\nL a-b b 1 1\n",
+        "six fields and a bad name",
+        "network 1\nN a\nN b\nL a-b b 1 1 1\n",
         10,
         4,
     ),
     (
-        "five fields and an empty name",
-        "network 1\nN a\nN b\nL  b 1 1\n",
+        "six fields and an empty name",
+        "network 1\nN a\nN b\nL  b 1 1 1\n",
         10,
         4,
     ),
@@ -868,32 +1006,32 @@ const FORMS: &[(&str, &str, u8, u32)] = &[
         4,
     ),
     (
-        "five fields, a leading zero",
-        "network 1\nN a\nN b\nL a b 07 1\n",
+        "six fields, a leading zero",
+        "network 1\nN a\nN b\nL a b 07 1 1\n",
         10,
         4,
     ),
     (
-        "five fields, all wrong",
-        "network 1\nN a\nN b\nL - - 07 07\n",
+        "six fields, all wrong",
+        "network 1\nN a\nN b\nL - - 07 07 07\n",
         10,
         4,
     ),
     (
-        "five fields, a size too large",
-        "network 1\nN a\nN b\nL a b 1000001 1\n",
+        "six fields, a size too large",
+        "network 1\nN a\nN b\nL a b 1000001 1 1\n",
         10,
         4,
     ),
     (
-        "five fields, a name unknown",
-        "network 1\nN a\nN b\nL a q 1 1\n",
+        "six fields, a name unknown",
+        "network 1\nN a\nN b\nL a q 1 1 1\n",
         10,
         4,
     ),
     (
-        "five fields, one site",
-        "network 1\nN a\nN b\nL a a 1 1\n",
+        "six fields, one site",
+        "network 1\nN a\nN b\nL a a 1 1 1\n",
         10,
         4,
     ),
@@ -1222,5 +1360,460 @@ const CASES: &[(&str, &str, u8, u32)] = &[
         "network 1\nN a0\nN A\u{10}\n",
         11,
         3,
+    ),
+];
+
+/// Reserves: the number of fields, both numbers for 12, then both for 3, then 13, then 6 and 7.
+/// Title, sheet, number and line.
+const RESERVES: &[(&str, &str, u8, u32)] = &[
+    (
+        "reserve without byte 10",
+        "network 1\nN a\nN b\nL a b 5 1",
+        2,
+        4,
+    ),
+    (
+        "empty reserve without byte 10",
+        "network 1\nN a\nN b\nL a b 5 ",
+        2,
+        4,
+    ),
+    (
+        "reserve above the size without byte 10",
+        "network 1\nN a\nN b\nL a b 1 2",
+        2,
+        4,
+    ),
+    (
+        "reserve too large without byte 10",
+        "network 1\nN a\nN b\nL a b 1 1000001",
+        2,
+        4,
+    ),
+    (
+        "six fields without byte 10",
+        "network 1\nN a\nN b\nL a b 5 1 1",
+        2,
+        4,
+    ),
+    (
+        "reserve behind an unknown letter",
+        "network 1\nN a\nN b\nM a b 1 2\n",
+        2,
+        4,
+    ),
+    (
+        "six fields, the reserve above the size",
+        "network 1\nN a\nN b\nL a b 1 2 0\n",
+        10,
+        4,
+    ),
+    (
+        "six fields, the reserve empty",
+        "network 1\nN a\nN b\nL a b 1  0\n",
+        10,
+        4,
+    ),
+    (
+        "six fields, the reserve too large",
+        "network 1\nN a\nN b\nL a b 1 1000001 0\n",
+        10,
+        4,
+    ),
+    (
+        "six fields, all numbers empty",
+        "network 1\nN a\nN b\nL a b   \n",
+        10,
+        4,
+    ),
+    (
+        "a tab too many behind a reserve",
+        "network 1\nN a\nN b\nL a b 5 1 \n",
+        10,
+        4,
+    ),
+    (
+        "seven fields",
+        "network 1\nN a\nN b\nL a b 5 1 1 1\n",
+        10,
+        4,
+    ),
+    (
+        "three fields with the tab of a reserve",
+        "network 1\nN a\nN b\nL a \n",
+        10,
+        4,
+    ),
+    (
+        "site with the fields of a link with a reserve",
+        "network 1\nN a\nN b\nN a b 5 1\n",
+        10,
+        4,
+    ),
+    (
+        "first name bad, an empty reserve",
+        "network 1\nN a\nN b\nL a-b b 5 \n",
+        11,
+        4,
+    ),
+    (
+        "second name bad, the reserve above the size",
+        "network 1\nN a\nN b\nL a b-c 1 2\n",
+        11,
+        4,
+    ),
+    (
+        "second name empty, a reserve",
+        "network 1\nN a\nN b\nL a  5 1\n",
+        11,
+        4,
+    ),
+    (
+        "first name empty, a reserve too large",
+        "network 1\nN a\nN b\nL  b 5 1000001\n",
+        11,
+        4,
+    ),
+    (
+        "five fields, four of them empty",
+        "network 1\nN a\nN b\nL    \n",
+        11,
+        4,
+    ),
+    ("empty reserve", "network 1\nN a\nN b\nL a b 5 \n", 12, 4),
+    (
+        "empty size and a reserve",
+        "network 1\nN a\nN b\nL a b  0\n",
+        12,
+        4,
+    ),
+    (
+        "empty size and an empty reserve",
+        "network 1\nN a\nN b\nL a b  \n",
+        12,
+        4,
+    ),
+    ("reserve 00", "network 1\nN a\nN b\nL a b 5 00\n", 12, 4),
+    ("reserve 02", "network 1\nN a\nN b\nL a b 5 02\n", 12, 4),
+    (
+        "reserve 01000001",
+        "network 1\nN a\nN b\nL a b 5 01000001\n",
+        12,
+        4,
+    ),
+    ("reserve -1", "network 1\nN a\nN b\nL a b 5 -1\n", 12, 4),
+    ("reserve +1", "network 1\nN a\nN b\nL a b 5 +1\n", 12, 4),
+    ("reserve 1.0", "network 1\nN a\nN b\nL a b 5 1.0\n", 12, 4),
+    (
+        "reserve in words",
+        "network 1\nN a\nN b\nL a b 5 two\n",
+        12,
+        4,
+    ),
+    (
+        "reserve with a space before",
+        "network 1\nN a\nN b\nL a b 5 ~1\n",
+        12,
+        4,
+    ),
+    (
+        "reserve with a space behind",
+        "network 1\nN a\nN b\nL a b 5 1~\n",
+        12,
+        4,
+    ),
+    (
+        "reserve with byte 13",
+        "network 1\nN a\nN b\nL a b 5 1\r\n",
+        12,
+        4,
+    ),
+    (
+        "a space for the tab before the reserve",
+        "network 1\nN a\nN b\nL a b 5~1\n",
+        12,
+        4,
+    ),
+    (
+        "size 05 and a reserve",
+        "network 1\nN a\nN b\nL a b 05 1\n",
+        12,
+        4,
+    ),
+    (
+        "leading zeros in size and reserve",
+        "network 1\nN a\nN b\nL a b 05 01\n",
+        12,
+        4,
+    ),
+    (
+        "size too large, an empty reserve",
+        "network 1\nN a\nN b\nL a b 1000001 \n",
+        12,
+        4,
+    ),
+    (
+        "size too large, reserve 01",
+        "network 1\nN a\nN b\nL a b 1000001 01\n",
+        12,
+        4,
+    ),
+    (
+        "size 05, the reserve too large",
+        "network 1\nN a\nN b\nL a b 05 1000001\n",
+        12,
+        4,
+    ),
+    (
+        "size of eight digits, reserve of eight digits and a letter",
+        "network 1\nN a\nN b\nL a b 12345678 12345678x\n",
+        12,
+        4,
+    ),
+    (
+        "reserve above the size but for a leading zero",
+        "network 1\nN a\nN b\nL a b 1 02\n",
+        12,
+        4,
+    ),
+    (
+        "reserve above the size but for the size's leading zero",
+        "network 1\nN a\nN b\nL a b 01 2\n",
+        12,
+        4,
+    ),
+    (
+        "reserve above an empty size",
+        "network 1\nN a\nN b\nL a b  2\n",
+        12,
+        4,
+    ),
+    (
+        "reserve 01, a name unknown",
+        "network 1\nN a\nN b\nL a q 5 01\n",
+        12,
+        4,
+    ),
+    (
+        "reserve 01, one site",
+        "network 1\nN a\nN b\nL a a 5 01\n",
+        12,
+        4,
+    ),
+    (
+        "reserve 1,000,001",
+        "network 1\nN a\nN b\nL a b 5 1000001\n",
+        3,
+        4,
+    ),
+    (
+        "reserve 1,000,001 of size 0",
+        "network 1\nN a\nN b\nL a b 0 1000001\n",
+        3,
+        4,
+    ),
+    (
+        "reserve 1,000,001 of size 1,000,000",
+        "network 1\nN a\nN b\nL a b 1000000 1000001\n",
+        3,
+        4,
+    ),
+    (
+        "reserve 9,999,999",
+        "network 1\nN a\nN b\nL a b 5 9999999\n",
+        3,
+        4,
+    ),
+    (
+        "reserve 10,000,000",
+        "network 1\nN a\nN b\nL a b 5 10000000\n",
+        3,
+        4,
+    ),
+    (
+        "reserve 2^32 + 3",
+        "network 1\nN a\nN b\nL a b 5 4294967299\n",
+        3,
+        4,
+    ),
+    (
+        "reserve 2^64 + 3",
+        "network 1\nN a\nN b\nL a b 5 18446744073709551619\n",
+        3,
+        4,
+    ),
+    (
+        "size 1,000,001, a reserve of 0",
+        "network 1\nN a\nN b\nL a b 1000001 0\n",
+        3,
+        4,
+    ),
+    (
+        "size 1,000,001, usable size 1,000,000",
+        "network 1\nN a\nN b\nL a b 1000001 1\n",
+        3,
+        4,
+    ),
+    (
+        "size and reserve 1,000,001",
+        "network 1\nN a\nN b\nL a b 1000001 1000001\n",
+        3,
+        4,
+    ),
+    (
+        "size 1,000,001, reserve 1,000,002",
+        "network 1\nN a\nN b\nL a b 1000001 1000002\n",
+        3,
+        4,
+    ),
+    (
+        "size and reserve 2^32",
+        "network 1\nN a\nN b\nL a b 4294967296 4294967296\n",
+        3,
+        4,
+    ),
+    (
+        "reserve too large, a name unknown",
+        "network 1\nN a\nN b\nL a q 5 1000001\n",
+        3,
+        4,
+    ),
+    (
+        "reserve too large, one site",
+        "network 1\nN a\nN b\nL a a 5 1000001\n",
+        3,
+        4,
+    ),
+    (
+        "size too large, a reserve, already joined",
+        "network 1\nN a\nN b\nL a b 1\nL b a 1000001 1\n",
+        3,
+        5,
+    ),
+    (
+        "reserve 2 of size 1",
+        "network 1\nN a\nN b\nL a b 1 2\n",
+        13,
+        4,
+    ),
+    (
+        "reserve 1 of size 0",
+        "network 1\nN a\nN b\nL a b 0 1\n",
+        13,
+        4,
+    ),
+    (
+        "reserve 10 of size 9",
+        "network 1\nN a\nN b\nL a b 9 10\n",
+        13,
+        4,
+    ),
+    (
+        "reserve 1,000,000 of size 999,999",
+        "network 1\nN a\nN b\nL a b 999999 1000000\n",
+        13,
+        4,
+    ),
+    (
+        "reserve 1,000,000 of size 0",
+        "network 1\nN a\nN b\nL a b 0 1000000\n",
+        13,
+        4,
+    ),
+    (
+        "reserve above the size, first name unknown",
+        "network 1\nN a\nN b\nL q b 1 2\n",
+        13,
+        4,
+    ),
+    (
+        "reserve above the size, second name unknown",
+        "network 1\nN a\nN b\nL a q 1 2\n",
+        13,
+        4,
+    ),
+    (
+        "reserve above the size, both names unknown",
+        "network 1\nN a\nN b\nL q r 1 2\n",
+        13,
+        4,
+    ),
+    (
+        "reserve above the size, one site",
+        "network 1\nN a\nN b\nL a a 1 2\n",
+        13,
+        4,
+    ),
+    (
+        "reserve above the size, one site in two spellings",
+        "network 1\nN a\nN b\nL a A 1 2\n",
+        13,
+        4,
+    ),
+    (
+        "reserve above the size, already joined",
+        "network 1\nN a\nN b\nL a b 1\nL b a 1 2\n",
+        13,
+        5,
+    ),
+    (
+        "reserve above the size, before 8",
+        "network 1\nN a\nN b\nN c\nL a b 1 2\n",
+        13,
+        5,
+    ),
+    (
+        "lowest line decides: 13 before 2",
+        "network 1\nN a\nN b\nL a b 1 2\nP\n",
+        13,
+        4,
+    ),
+    (
+        "lowest line decides: 5 before 13",
+        "network 1\nN a\nN b\nN a\nL a b 1 2\n",
+        5,
+        4,
+    ),
+    (
+        "lowest line decides: 7 before 13",
+        "network 1\nN a\nN b\nL a a 2 1\nL a b 1 2\n",
+        7,
+        4,
+    ),
+    (
+        "first name unknown, a reserve",
+        "network 1\nN a\nN b\nL q b 2 1\n",
+        6,
+        4,
+    ),
+    (
+        "second name unknown, a reserve equal to the size",
+        "network 1\nN a\nN b\nL a q 2 2\n",
+        6,
+        4,
+    ),
+    (
+        "one site, a reserve",
+        "network 1\nN a\nN b\nL a a 2 1\n",
+        7,
+        4,
+    ),
+    (
+        "link given twice, with and without a reserve",
+        "network 1\nN a\nN b\nL a b 2\nL b a 2 1\n",
+        7,
+        5,
+    ),
+    (
+        "ring over links all held back",
+        "network 1\nN a\nN b\nL a b 2 2\nL b a 3 3\n",
+        7,
+        5,
+    ),
+    (
+        "a link with a reserve, not all joined",
+        "network 1\nN a\nN b\nN c\nL a b 2 1\n",
+        8,
+        0,
     ),
 ];

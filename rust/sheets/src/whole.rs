@@ -42,7 +42,7 @@ impl Tried {
 }
 
 /// The sheets.
-pub const TRIED: [Tried; 13] = [
+pub const TRIED: [Tried; 19] = [
     Tried {
         title: "star 1, 1, 1",
         sheet: "network 1\nN hub\nN a\nN b\nN c\nL hub a 1\nL hub b 1\nL hub c 1\n",
@@ -141,5 +141,48 @@ pub const TRIED: [Tried; 13] = [
         total: 4,
         odd_pieces: Some(0),
         pairs: Some("P a B 2\nP a c 2\n"),
+    },
+    Tried {
+        title: "star 2, 2, 2 with reserves of 1",
+        sheet: "network 1\nN hub\nN a\nN b\nN c\nL hub a 2 1\nL hub b 2 1\nL hub c 2 1\n",
+        total: 2,
+        odd_pieces: Some(1),
+        pairs: None,
+    },
+    Tried {
+        title: "star 1, 1, 1, one link all held back",
+        sheet: "network 1\nN hub\nN a\nN b\nN c\nL hub a 1\nL hub b 1 0\nL hub c 1 1\n",
+        total: 2,
+        odd_pieces: Some(0),
+        pairs: Some("P a b 2\n"),
+    },
+    Tried {
+        title: "star 5, 1, 1 of links with reserves",
+        sheet: "network 1\nN hub\nN a\nN b\nN c\nL hub a 1000000 999995\nL hub b 2 1\nL hub c 1 0\n",
+        total: 4,
+        odd_pieces: Some(0),
+        pairs: Some("P a b 2\nP a c 2\n"),
+    },
+    Tried {
+        title: "two stars 1, 1, 1 joined by a link all held back",
+        sheet: "network 1\nN h\nN k\nN a\nN b\nN c\nN d\nN e\nN f\nL h k 2 2\n\
+                L h a 1\nL h b 1\nL h c 1\nL k d 1\nL k e 1\nL k f 1\n",
+        total: 4,
+        odd_pieces: Some(2),
+        pairs: None,
+    },
+    Tried {
+        title: "two sites, size 5, reserve 2",
+        sheet: "network 1\nN a\nN b\nL a b 5 2\n",
+        total: 6,
+        odd_pieces: Some(0),
+        pairs: Some("P a b 6\n"),
+    },
+    Tried {
+        title: "two sites, all held back",
+        sheet: "network 1\nN a\nN b\nL a b 5 5\n",
+        total: 0,
+        odd_pieces: Some(0),
+        pairs: Some(""),
     },
 ];

@@ -1,11 +1,11 @@
 //! The tree circuit planner: a safe interface to its proved static library.
 //!
 //! A network sheet lists the sites and links of a tree with the number of circuits each link
-//! holds. The planner trims every link to what can be used of it, shares the circuits out
-//! between the ends of the tree so that their total is the greatest, and shows by the end sets
-//! that no plan has more. Amounts are counted in halves of a circuit. [`plan`] shares halves out,
-//! [`whole`] whole circuits alone: all its amounts are even, and its total is the greatest among
-//! such plans.
+//! holds, and how many of these are held back. The planner trims every link to what can be used of
+//! it, shares the circuits out between the ends of the tree so that their total is the greatest, and
+//! shows by the end sets that no plan has more. Amounts are counted in halves of a circuit. [`plan`]
+//! shares halves out, [`whole`] whole circuits alone: all its amounts are even, and its total is the
+//! greatest among such plans.
 //!
 //! ```
 //! let sheet = b"network\t1\nN\ta\nN\tb\nL\ta\tb\t4\n";
@@ -44,6 +44,17 @@
 //! let mut buffer = [0; waderarmoire::REPORT_BYTES];
 //! let report = waderarmoire::plan(sheet, &mut buffer)?;
 //! assert!(report.starts_with(b"plan\t8\t1\nL\tHill\tmill\t4\t4\n"));
+//! # Ok::<(), waderarmoire::Refusal>(())
+//! ```
+//!
+//! A link line may have a fifth field, the reserve. What is left of the size is the usable size, which
+//! everything goes by and which the report prints:
+//!
+//! ```
+//! let sheet = b"network\t1\nN\ta\nN\tb\nL\ta\tb\t6\t2\n";
+//! let mut buffer = [0; waderarmoire::REPORT_BYTES];
+//! let report = waderarmoire::plan(sheet, &mut buffer)?;
+//! assert!(report.starts_with(b"plan\t8\t1\nL\ta\tb\t4\t4\n"));
 //! # Ok::<(), waderarmoire::Refusal>(())
 //! ```
 //!
@@ -137,7 +148,7 @@ pub struct Refusal {
     ///
     /// 1. no bytes, or more than 16,384
     /// 2. wrong heading, letter or line ending
-    /// 3. size above 1,000,000
+    /// 3. size or reserve above 1,000,000
     /// 4. more sites than 256
     /// 5. name already given to a site
     /// 6. link to a name not given on a line above
@@ -147,9 +158,10 @@ pub struct Refusal {
     /// 10. wrong number of fields
     /// 11. a name is not 1 to 12 letters or digits
     /// 12. a number is not written in decimal without a leading zero
+    /// 13. reserve above the size
     ///
     /// Names are read in either case for 5, 6 and 7. The lowest line with a fault decides; within a
-    /// line the order is 2, 10, 11, 12, then 4, 5 for a site and 3, 6, 7 for a link.
+    /// line the order is 2, 10, 11, 12, then 4, 5 for a site and 3, 13, 6, 7 for a link.
     pub number: u8,
     /// The line at fault, counted from 1, or 0 when no line is.
     pub line: u32,
@@ -172,6 +184,7 @@ impl Refusal {
             10 => "wrong number of fields",
             11 => "a name is not 1 to 12 letters or digits",
             12 => "a number is not written in decimal without a leading zero",
+            13 => "reserve above the size",
             _ => "a cause without words",
         }
     }

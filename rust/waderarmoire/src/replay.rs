@@ -78,7 +78,7 @@ impl Error for ReplayRefusal {}
 /// - 3: an amount of 0, or above 2,000,000
 /// - 6: the names are not those of two different ends
 /// - 14: of `-`, the pair has less than that open
-/// - 15: of `+`, a link between the two would carry more than twice its capacity
+/// - 15: of `+`, a link between the two would carry more than twice its usable size
 /// - 16: of `+`, the pair would be the 513th that is open
 ///
 /// The places after the answers keep their values. A log of 0 bytes has no lines and gets no answers.

@@ -5,7 +5,8 @@ use std::env;
 use std::thread::{self, Builder};
 use waderarmoire::{REPORT_BYTES, STACK_BYTES, order, plan, whole};
 
-/// The sheet of a tree of a shape, its sites in the order of the shape or the other way round.
+/// The sheet of a tree of a shape, its sites in the order of the shape or the other way round; every
+/// second link has a reserve.
 fn sheet(shape: Shape, count: usize, seed: u64, turned: bool) -> Vec<u8> {
     let mut random = Random::new(seed);
     let mut links = shape.links(count, &mut random);
@@ -15,10 +16,12 @@ fn sheet(shape: Shape, count: usize, seed: u64, turned: bool) -> Vec<u8> {
         }
     }
     let size = |_| random.below(SIZE as usize + 1) as u32;
-    let sizes = (1..count).map(size).collect();
+    let sizes: Vec<u32> = (1..count).map(size).collect();
+    let reserve = |(link, size): (usize, &u32)| (link % 2 == 1).then_some(size / 3);
     let network = Network {
         names: Names::Counted.list(count, &mut random),
         links,
+        reserves: sizes.iter().enumerate().map(reserve).collect(),
         sizes,
         spelling: Spelling::AsGiven,
     };
