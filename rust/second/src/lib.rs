@@ -1,13 +1,13 @@
 //! A second tree circuit planner.
 //!
 //! It reads a network sheet and writes the report headed `plan`, or that headed `whole`, or lists the
-//! sites in the order of work, or tells why the sheet is refused. It was written from the scope
-//! document and the cards alone and shares nothing with the proved planner, so that comparing the
-//! two can find a mistake in either.
+//! sites in the order of work, or replays a booking log over it, or tells why the sheet is refused. It
+//! was written from the scope document and the cards alone and shares nothing with the proved planner,
+//! so that comparing the two can find a mistake in either.
 //!
 //! Every step takes time linear in the sheet, or as good as linear: finding out whether two sites
 //! are joined already, names that collide in their hash table, and the sites that may be taken next,
-//! kept in order, may add a little.
+//! kept in order, may add a little. A line of a log takes time in the length of the path between its sites.
 //!
 //! | module | step |
 //! |---|---|

@@ -140,16 +140,12 @@ impl<'network> Desk<'network> {
             load: [0; SITES],
             pairs: OpenPairs::new(),
         };
-        let halves = if planted(Error::AgainstCapacity) {
-            1
-        } else {
-            2
-        };
+        let halves = 2 - u32::from(planted(Error::AgainstCapacity));
         desk.is_end[usize::from(tree.root())] = tree.is_terminal(tree.root());
-        for (number, &site) in (1..).zip(tree.leaves_first().iter().rev()) {
-            desk.number[usize::from(site)] = number;
+        for (above, &site) in tree.leaves_first().iter().rev().enumerate() {
+            let number = above + 1;
+            desk.number[usize::from(site)] = number as u8;
             desk.is_end[usize::from(site)] = tree.is_terminal(site);
-            let number = usize::from(number);
             desk.parent[number] = desk.number[usize::from(tree.parent(site))];
             desk.most[number] = halves * tree.capacity(site);
         }
