@@ -37,7 +37,8 @@ module _ (a b x : ℕ) where
   unfolding shrink
   shrink-set [] k l s h d = absurd (omega arith)
   shrink-set (e ∷ es) zero l s h d = pick-same s _ _ ∙ pick-other d _ _
-  shrink-set (e ∷ es) (suc k) l s h d = pick-other (h 0 (omega arith)) _ _ ∙ ap (λ r. e ∷ r) (shrink-set es k (omega arith) s (λ i m. h (suc i) (omega arith)) d)
+  shrink-set (e ∷ es) (suc k) l s h d =
+      pick-other (h 0 (omega arith)) _ _ ∙ ap (λ r. e ∷ r) (shrink-set es k (omega arith) s (λ i m. h (suc i) (omega arith)) d)
 
   -- the last entry, and the others, by places
   last-is : (e : Pair) (es : List Pair) → lastOf e es ≡ getD (e ∷ es) (length es) none
@@ -50,8 +51,8 @@ module _ (a b x : ℕ) where
   front-is e [] = refl
   front-is e (f ∷ es) = ap (λ r. e ∷ r) (front-is f es)
 
-  pub shrink-gone : (es : List Pair) (k m : ℕ) → length es ≡ suc m → k < length es → same a b (getD es k none) ≡ 1 → ((i : ℕ) → i < k → same a b (getD es i none) ≢ 1)
-      → getD es k none .amount ≡ x → shrink a b x es ≡ take m (set es k (getD es m none))
+  pub shrink-gone : (es : List Pair) (k m : ℕ) → length es ≡ suc m → k < length es → same a b (getD es k none) ≡ 1
+      → ((i : ℕ) → i < k → same a b (getD es i none) ≢ 1) → getD es k none .amount ≡ x → shrink a b x es ≡ take m (set es k (getD es m none))
   unfolding shrink moved
   shrink-gone [] k m z l s h d = absurd (omega arith)
   shrink-gone (e ∷ []) zero m z l s h d = let y : m ≡ 0 = omega arith in rw y (pick-same s _ _ ∙ pick-same d _ _)
@@ -61,6 +62,17 @@ module _ (a b x : ℕ) where
   shrink-gone (e ∷ es) (suc k) zero z l s h d = absurd (omega arith)
   shrink-gone (e ∷ es) (suc k) (suc m) z l s h d =
       pick-other (h 0 (omega arith)) _ _ ∙ ap (λ r. e ∷ r) (shrink-gone es k m (omega arith) (omega arith) s (λ i n. h (suc i) (omega arith)) d)
+
+-- ---- one row stored
+
+row-same : (f s m : List ℕ) (k u v w : ℕ) → k < length f → k < length s → k < length m → row (set f k u) (set s k v) (set m k w) k ≡ pair u v w
+row-same f s m k u v w p q r = rw (getD-set-same f k u 0 p, getD-set-same s k v 0 q, getD-set-same m k w 0 r) refl
+
+row-other : (f s m : List ℕ) (k i u v w : ℕ) → i ≢ k → row (set f k u) (set s k v) (set m k w) i ≡ row f s m i
+row-other f s m k i u v w d = rw (getD-set-other f k i u 0 d, getD-set-other s k i v 0 d, getD-set-other m k i w 0 d) refl
+
+amount-other : (f s m : List ℕ) (k i w : ℕ) → i ≢ k → row f s (set m k w) i ≡ row f s m i
+amount-other f s m k i w d = rw (getD-set-other m k i w 0 d) refl
 
 -- ---- the entries of the arrays
 
@@ -80,7 +92,8 @@ entries-at f s m n i l = map-at (row f s m) (upfrom 0 n) i (omega (arith, length
 -- entries that are the entries of a list are the list
 pub entries-are : (f s m : List ℕ) (n : ℕ) (es : List Pair) → length es ≡ n → ((i : ℕ) → i < n → row f s m i ≡ getD es i none) → entries f s m n ≡ es
 entries-are f s m n es z h =
-    ext-getD none (entries f s m n) es (length-entries f s m n ∙ sym z) (λ i l. let k : i < n = omega (arith, length-entries f s m n) in entries-at f s m n i k ∙ h i k)
+    ext-getD none (entries f s m n) es (length-entries f s m n ∙ sym z)
+    (λ i l. let k : i < n = omega (arith, length-entries f s m n) in entries-at f s m n i k ∙ h i k)
 
 module _ (f s m : List ℕ) (a b n k : ℕ) (p : FirstPlace f s a b n k) where
   pub first-there : k < n → same a b (getD (entries f s m n) k none) ≡ 1
@@ -98,8 +111,9 @@ module _ (f s m : List ℕ) (a b n k : ℕ) (p : FirstPlace f s a b n k) where
     entries-amount y l =
         let es = entries f s m n in
         entries-are f s (set m k y) n (set es k (pair a b y)) (length-set es k (pair a b y) ∙ length-entries f s m n) (λ i h. same? i k
-        (λ z. rw (z, getD-set-same m k y 0 (omega arith), getD-set-same es k (pair a b y) none (omega (arith, length-entries f s m n)), p .there l .0, p .there l .1) refl)
-        (λ z. rw (getD-set-other m k i y 0 z, getD-set-other es k i (pair a b y) none z) (sym (entries-at f s m n i h))))
+        (λ z. rw (z, getD-set-same es k (pair a b y) none (omega (arith, length-entries f s m n)))
+        (rw (getD-set-same m k y 0 (omega arith), p .there l .0, p .there l .1) refl))
+        (λ z. rw (getD-set-other es k i (pair a b y) none z) (amount-other f s m k i y z ∙ sym (entries-at f s m n i h))))
 
     pub entries-grown : k < n → entries f s (set m k (look m k + x)) n ≡ grow a b x (entries f s m n)
     entries-grown l = entries-amount (look m k + x) l
@@ -117,10 +131,11 @@ module _ (f s m : List ℕ) (a b n k : ℕ) (p : FirstPlace f s a b n k) where
   entries-new x z lf ls lm =
       let es = entries f s m n in
       let long = length-entries f s m n in
-      entries-are (set f n a) (set s n b) (set m n x) (n + 1) (es ++ (pair a b x ∷ [])) (length-append es (pair a b x ∷ []) ∙ omega (arith, long)) (λ i h. same? i n
-      (λ e. rw (e, getD-set-same f n a 0 lf, getD-set-same s n b 0 ls, getD-set-same m n x 0 lm) (sym (getD-at es (pair a b x) [] none n long)))
-      (λ e. rw (getD-set-other f n i a 0 e, getD-set-other s n i b 0 e, getD-set-other m n i x 0 e)
-      (sym (List·getD-append es (pair a b x ∷ []) none i (omega arith) ∙ entries-at f s m n i (omega arith)))))
+      entries-are (set f n a) (set s n b) (set m n x) (n + 1) (es ++ (pair a b x ∷ []))
+      (length-append es (pair a b x ∷ []) ∙ omega (arith, long))
+      (λ i h. same? i n
+      (λ e. rw e (row-same f s m n a b x lf ls lm ∙ sym (getD-at es (pair a b x) [] none n long)))
+      (λ e. row-other f s m n i a b x e ∙ sym (List·getD-append es (pair a b x ∷ []) none i (omega arith) ∙ entries-at f s m n i (omega arith))))
       ∙ sym (grow-new a b x es (λ i l. first-before i (omega arith)))
 
   -- the last row in the place of the one that goes
@@ -134,19 +149,13 @@ module _ (f s m : List ℕ) (a b n k : ℕ) (p : FirstPlace f s a b n k) where
       entries-are (set f k (look f last)) (set s k (look s last)) (set m k (look m last)) last (take last (set es k e))
       (length-take-le last (set es k e) (omega (arith, length-set es k e)))
       (λ i h. rw (getD-take last (set es k e) i none h) (same? i k
-      (λ z. rw (z, getD-set-same f k (look f last) 0 (omega arith), getD-set-same s k (look s last) 0 (omega arith), getD-set-same m k (look m last) 0 (omega arith), getD-set-same es k e none (omega arith))
-      (sym (entries-at f s m n last (omega arith))))
-      (λ z. rw (getD-set-other f k i (look f last) 0 z, getD-set-other s k i (look s last) 0 z, getD-set-other m k i (look m last) 0 z, getD-set-other es k i e none z)
-      (sym (entries-at f s m n i (omega arith))))))
+      (λ z. rw (z, getD-set-same es k e none (omega arith))
+      (row-same f s m k (look f last) (look s last) (look m last) (omega arith) (omega arith) (omega arith) ∙ sym (entries-at f s m n last (omega arith))))
+      (λ z. rw (getD-set-other es k i e none z)
+      (row-other f s m k i (look f last) (look s last) (look m last) z ∙ sym (entries-at f s m n i (omega arith))))))
       ∙ sym (shrink-gone a b x es k last (omega arith) (omega arith) (first-there l) first-before (rw (entries-at f s m n k l) d))
 
 -- ---- the arrays hold the list that grows or shrinks
-
-row-other : (f s m : List ℕ) (k i u v w : ℕ) → i ≢ k → row (set f k u) (set s k v) (set m k w) i ≡ row f s m i
-row-other f s m k i u v w d = rw (getD-set-other f k i u 0 d, getD-set-other s k i v 0 d, getD-set-other m k i w 0 d) refl
-
-amount-other : (f s m : List ℕ) (k i w : ℕ) → i ≢ k → row f s (set m k w) i ≡ row f s m i
-amount-other f s m k i w d = rw (getD-set-other m k i w 0 d) refl
 
 -- a store behind the entries changes none
 entries-past : (f s m : List ℕ) (n k u v w : ℕ) → n ≤ k → entries (set f k u) (set s k v) (set m k w) n ≡ entries f s m n
@@ -189,7 +198,8 @@ module _ {f s m : List ℕ} {a b x k count : ℕ} (g : Shrinking f s m a b x k c
   }
 
   pub held-gone : look m k ≡ x → let last = count - 1 in
-      Held (shrink a b x (entries f s m count)) (set (set f k (look f last)) last 0) (set (set s k (look s last)) last 0) (set (set m k (look m last)) last 0) last
+      Held (shrink a b x (entries f s m count))
+      (set (set f k (look f last)) last 0) (set (set s k (look s last)) last 0) (set (set m k (look m last)) last 0) last
   held-gone e =
       let h = g .held in
       let last = count - 1 in

@@ -23,7 +23,8 @@ use Rattle.tree.specs.Offer.{links}
 use Rattle.tree.specs.Links.{length-links}
 use Rattle.tree.specs.Accepted.{TreeWithin}
 use Rattle.whole_parents.specs.Orders.{place-of, place-told, from-place, count-drop}
-use Rattle.whole_parents.specs.Parents.{Single, Ordered, Leads, ParentsOf, the-order-is-inward, the-order-takes-every-site, the-order-takes-no-site-twice, ordered-within}
+use Rattle.whole_parents.specs.Parents.{Single, Ordered, Leads, ParentsOf, ordered-within}
+use Rattle.whole_parents.specs.Parents.{the-order-is-inward, the-order-takes-every-site, the-order-takes-no-site-twice}
 use Rattle.whole_parents.specs.Leads.{leads-upward}
 use Rattle.log_paths.specs.Tables.{inTable, Table}
 use Rattle.log_paths.specs.Rows.{Extended, LinksUp, Outward, Spread}
@@ -46,7 +47,8 @@ spread-next {n} {order} {parent} {up} {rows} {rows′} o i h s x =
     record {
       long = x .long ∙ s .long;
       from-parent = λ p l m k small. same? p i
-          (λ e. rw e (x .new k small ∙ ap (λ u. differ u (is k (look up here))) (sym (x .kept (look parent here) k (o .later i i (omega arith) (omega arith)) small))))
+          (λ e. rw e (x .new k small
+          ∙ ap (λ u. differ u (is k (look up here))) (sym (x .kept (look parent here) k (o .later i i (omega arith) (omega arith)) small))))
           (λ d. let there = look order p in
           x .kept there k (λ z. d (o .once p i (omega arith) (omega arith) z)) small
           ∙ s .from-parent p (omega arith) m k small
@@ -120,7 +122,8 @@ module _ {n : ℕ} {a b c : List ℕ} (order : List ℕ) (w : TreeWithin largest
 
   -- two places of the order have different sites
   apart : (i q : ℕ) → i < n → q < n → look order i ≡ look order q → i ≡ q
-  apart i q h k z = place-told (take n order) (once .once) i q (omega (arith, length-order)) (omega (arith, length-order)) (at-place i h ∙ z ∙ sym (at-place q k))
+  apart i q h k z =
+      place-told (take n order) (once .once) i q (omega (arith, length-order)) (omega (arith, length-order)) (at-place i h ∙ z ∙ sym (at-place q k))
 
   -- a link leads to a later place
   later-place : (j x i : ℕ) → j < length (links a b) → Leads (links a b) (take n order) j x → i < n → look order i ≡ x
@@ -224,7 +227,8 @@ module _ {n : ℕ} {a b c : List ℕ} (order : List ℕ) (w : TreeWithin largest
           let ls = links a b in
           let last : n - 1 < n = omega (arith, w .tree .big) in
           let root = look order (n - 1) in
-          let bare : (k : ℕ) → k < SITES → inTable rows k root ≡ 0 = λ k small. s .empty root k small (λ i l m z. omega (arith, apart i (n - 1) (omega arith) last z)) in
+          let bare : (k : ℕ) → k < SITES → inTable rows k root ≡ 0 =
+          λ k small. s .empty root k small (λ i l m z. omega (arith, apart i (n - 1) (omega arith) last z)) in
           record {
             few = w .few;
             root = root;

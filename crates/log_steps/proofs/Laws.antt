@@ -253,4 +253,5 @@ module _ {ls : Links} {c : ℕ → ℕ} {es : List Pair} {r : Request} {f s m l 
 pub fault-answered : {ls : Links} {n : ℕ} {c : ℕ → ℕ} {r : Request} {k count : ℕ} {f s m l : List ℕ} → r ≡ Fault k → Standing ls n c f s m l count
     → Answered ls c (entries f s m count) r f s m l (record { answer = k; count = count })
 unfolding answer next changed
-fault-answered {k = k} {count = count} {f = f} {s = s} {m = m} q t = rw q (record { said = refl; holds = rw (pick-const k 0 (entries f s m count)) (t .holds) })
+fault-answered {k = k} {count = count} {f = f} {s = s} {m = m} q t =
+    rw q (record { said = refl; holds = rw (pick-const k 0 (entries f s m count)) (t .holds) })

@@ -103,16 +103,7 @@ fn open(
         return Replied { answer: 16, count };
     }
     raise(path, p.amount, load);
-    let more = log_pairs::grow(
-        p.first,
-        p.second,
-        p.amount,
-        k,
-        count,
-        first,
-        second,
-        amount,
-    );
+    let more = log_pairs::grow(p.first, p.second, p.amount, k, count, first, second, amount);
     Replied {
         answer: 0,
         count: more,
@@ -148,16 +139,7 @@ fn give_up(
     }
     let path = log_paths::between(rows, p.first, p.second);
     lower(path, p.amount, load);
-    let fewer = log_pairs::shrink(
-        p.first,
-        p.second,
-        p.amount,
-        k,
-        count,
-        first,
-        second,
-        amount,
-    );
+    let fewer = log_pairs::shrink(p.first, p.second, p.amount, k, count, first, second, amount);
     Replied {
         answer: 0,
         count: fewer,

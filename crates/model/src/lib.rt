@@ -65,7 +65,7 @@ pub struct Pairs {
     pub count: usize,
 }
 
-// What a line of a booking log asks (02, Card 6): to open or to give up an amount, in halves, between two sites; or the number of its fault, which asks nothing.
+// What a line of a booking log asks (02, Card 6): to open or to give up an amount, in halves, between two sites; or its fault's number, which asks nothing.
 pub enum Request {
     Open(Pair),
     GiveUp(Pair),

@@ -9,12 +9,12 @@ use lib.ListN.{length, take, getD}
 use Rattle.lists.specs.Numbers.{pick, look, Each}
 use Rattle.model.specs.Limits.{OPEN}
 use Rattle.model.specs.Flows.{Links, load}
-use Rattle.model.specs.Booking.{same, placesOf, answer, next, after, answers, opened, givenUp, Asked, Kept, Entry}
+use Rattle.model.specs.Booking.{openOf, placesOf, answer, next, after, answers, opened, givenUp, Asked, Kept, Entry}
 use Rattle.model.specs.declared.Pair.{Pair}
 use Rattle.model.specs.declared.Request.{Request}
 use Rattle.model.specs.declared.Request.the-variants.{Fault}
-use Rattle.theory_log.specs.Pairs.{same-is}
-use Rattle.theory_log.specs.Requests.{a-refused-request-moves-nothing, a-request-keeps-what-is-kept, the-load-moves-by-what-is-asked}
+use Rattle.theory_log.specs.Requests.{opensFor, givesFor, a-refused-request-moves-nothing, a-request-keeps-what-is-kept}
+use Rattle.theory_log.specs.Requests.{the-load-moves-by-what-is-asked, what-a-pair-has-open-moves-by-what-is-asked-for-it}
 
 -- the line at place i
 abbrev pub line : List Request → ℕ → Request
@@ -61,6 +61,15 @@ module _ (ls : Links) (c : ℕ → ℕ) where
       after-the-line es rs i l
       ∙ a-refused-request-moves-nothing ls 0 c (after ls c es (take i rs)) (line rs i) (λ z. d (a-line-is-answered-after-those-before-it es rs i l ∙ z))
 
+  -- what the requests that are answered 0 opened for the pair p, q, and what they gave up for it
+  unfoldable pub openedFor : ℕ → ℕ → List Pair → List Request → ℕ
+  openedFor p q es [] = 0
+  openedFor p q es (r ∷ rs) = pick (answer ls c es r) 0 (opensFor p q r) 0 + openedFor p q (next ls c es r) rs
+
+  unfoldable pub givenUpFor : ℕ → ℕ → List Pair → List Request → ℕ
+  givenUpFor p q es [] = 0
+  givenUpFor p q es (r ∷ rs) = pick (answer ls c es r) 0 (givesFor p q r) 0 + givenUpFor p q (next ls c es r) rs
+
   -- ---- what every line keeps
 
   module _ (n : ℕ) where
@@ -83,6 +92,16 @@ module _ (ls : Links) (c : ℕ → ℕ) where
       load-after (next ls c es r) rs (a-request-keeps-what-is-kept ls n c es r k (h .0)) (h .1) j,
     )
 
+    open-after : (p q : ℕ) (es : List Pair) (rs : List Request) → Kept ls n c es → Each (Asked n) rs
+        → openOf p q es + openedFor p q es rs ≡ openOf p q (after ls c es rs) + givenUpFor p q es rs
+    unfolding after openedFor givenUpFor
+    open-after p q es [] k h = refl
+    open-after p q es (r ∷ rs) k h = omega (
+      arith,
+      what-a-pair-has-open-moves-by-what-is-asked-for-it ls n c p q es r k (h .0),
+      open-after p q (next ls c es r) rs (a-request-keeps-what-is-kept ls n c es r k (h .0)) (h .1),
+    )
+
     each-take : (rs : List Request) (i : ℕ) → Each (Asked n) rs → Each (Asked n) (take i rs)
     each-take [] zero h = tt
     each-take [] (suc i) h = tt
@@ -98,6 +117,12 @@ module _ (ls : Links) (c : ℕ → ℕ) where
           → opened ls c [] (take i rs) j ≡ load ls (after ls c [] (take i rs)) j + givenUp ls c [] (take i rs) j
       unfolding load
       after-every-line-the-load-is-what-was-opened-less-what-was-given-up j = omega (arith, load-after [] (take i rs) kept-empty (each-take rs i asked) j)
+
+      pub after-every-line-a-pair-has-open-what-was-opened-for-it-less-what-was-given-up : (p q : ℕ)
+          → openedFor p q [] (take i rs) ≡ openOf p q (after ls c [] (take i rs)) + givenUpFor p q [] (take i rs)
+      unfolding openOf
+      after-every-line-a-pair-has-open-what-was-opened-for-it-less-what-was-given-up p q =
+          omega (arith, open-after p q [] (take i rs) kept-empty (each-take rs i asked))
 
       pub after-every-line-no-load-is-above-twice-the-capacity : (j : ℕ) → j < length ls → load ls (after ls c [] (take i rs)) j ≤ 2 * c j
       after-every-line-no-load-is-above-twice-the-capacity = after-every-line-the-open-pairs-are-kept .fits

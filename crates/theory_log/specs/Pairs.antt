@@ -68,7 +68,8 @@ module _ (a b x : ℕ) where
   grow-places p q [] = rw (is-same {u = 0} refl) (omega arith)
   grow-places p q (e ∷ es) = same? (same a b e) 1
       (λ s. let k = same-one a b e s in
-      rw (pick-same s, is-other {u = same a b e + placesOf a b es} {v = 0} (λ z. omega arith)) (omega (arith, same-sites p q e a b (e .amount + x) (k .0) (k .1))))
+      rw (pick-same s, is-other {u = same a b e + placesOf a b es} {v = 0} (λ z. omega arith))
+      (omega (arith, same-sites p q e a b (e .amount + x) (k .0) (k .1))))
       (λ d. let z : same a b e + placesOf a b es ≡ placesOf a b es = omega (arith, same-other a b e d) in
       rw (pick-other d, z) (omega (arith, grow-places p q es)))
 
@@ -84,7 +85,10 @@ module _ (a b x : ℕ) where
   unfolding grow
   grow-entries [] p h = (p, tt)
   grow-entries (e ∷ es) p h = same? (same a b e) 1
-      (λ s. rw (pick-same s) (record { first-site = p .first-site; second-site = p .second-site; lower-first = p .lower-first; some = omega (arith, p .some) }, h .1))
+      (λ s. rw (pick-same s) (
+        record { first-site = p .first-site; second-site = p .second-site; lower-first = p .lower-first; some = omega (arith, p .some) },
+        h .1,
+      ))
       (λ d. rw (pick-other d) (h .0, grow-entries es p (h .1)))
 
   -- entries stand once

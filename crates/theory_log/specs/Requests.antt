@@ -12,13 +12,16 @@ use Rattle.lists.specs.Sums.{pick-same, pick-other, pick-const, same?, cases, i
 use Rattle.model.specs.Limits.{OPEN}
 use Rattle.model.specs.Flows.{Links, Tree, separates, load}
 use Rattle.model.specs.Pairing.{lowerFirst}
-use Rattle.model.specs.Booking.{pair, same, openOf, placesOf, grow, shrink, answerOpen, answerGiveUp, answer, changed, next, opens, gives, Proper, Asked, Entry, Kept}
+use Rattle.model.specs.Booking.{pair, same, openOf, placesOf, grow, shrink, answerOpen, answerGiveUp, answer, changed, next, opens, gives}
+use Rattle.model.specs.Booking.{Proper, Asked, Entry, Kept}
 use Rattle.model.specs.declared.Pair.{Pair}
 use Rattle.model.specs.declared.Request.{Request}
 use Rattle.model.specs.declared.Request.the-variants.{Open, GiveUp, Fault}
 use Rattle.theory_trees.specs.Trees.{local-one, separates-comm, separates-le}
 use Rattle.theory_log.specs.Pairs.{open-none, grow-load, grow-length, grow-entries, grow-once, shrink-load, shrink-places, shrink-length, shrink-entries}
-use Rattle.theory_log.specs.Answers.{Overfilled, NoPlace, an-opening-is-answered-0-exactly-where-no-cause-applies, a-giving-up-is-answered-0-exactly-where-that-much-is-open}
+use Rattle.theory_log.specs.Pairs.{grow-open, shrink-open, nothing-left}
+use Rattle.theory_log.specs.Answers.{Overfilled, NoPlace, gives-up, an-opening-is-answered-0-exactly-where-no-cause-applies}
+use Rattle.theory_log.specs.Answers.{a-giving-up-is-answered-0-exactly-where-that-much-is-open}
 
 -- ---- the lower site first
 
@@ -46,6 +49,17 @@ lower-entry n e h = same? (less (e .second) (e .first)) 1
       lower-first = cases (decLt (e .second) (e .first)) (λ l. absurd (d (less-one l))) (λ l. let o = h .different in omega (arith, o));
       some = h .some;
     }))
+
+-- what a request opens for the pair p, q, and what it gives up for it
+unfoldable pub opensFor : ℕ → ℕ → Request → ℕ
+opensFor p q (Open e) = same p q (lowerFirst e) * lowerFirst e .amount
+opensFor p q (GiveUp e) = 0
+opensFor p q (Fault k) = 0
+
+unfoldable pub givesFor : ℕ → ℕ → Request → ℕ
+givesFor p q (Open e) = 0
+givesFor p q (GiveUp e) = same p q (lowerFirst e) * lowerFirst e .amount
+givesFor p q (Fault k) = 0
 
 -- the two sites of a pair may stand in either order
 pub the-order-of-the-sites-does-not-matter : (a b x : ℕ) → lowerFirst (pair a b x) ≡ lowerFirst (pair b a x)
@@ -135,6 +149,31 @@ module _ (ls : Links) (n : ℕ) (c : ℕ → ℕ) where
       rw (pick-same z, pick-same z, pick-same z) (omega (arith, lower-over ls j e, less)))
       (λ d. rw (pick-other d, pick-other d, pick-other d) refl)
   the-load-moves-by-what-is-asked es (Fault f) k h j = rw (pick-const f 0 es) refl
+
+  -- what a pair has open moves by what is asked for it
+  pub what-a-pair-has-open-moves-by-what-is-asked-for-it : (p q : ℕ) (es : List Pair) (r : Request) → Kept ls n c es → Asked n r
+      → openOf p q es + pick (answer ls c es r) 0 (opensFor p q r) 0 ≡ openOf p q (next ls c es r) + pick (answer ls c es r) 0 (givesFor p q r) 0
+  unfolding next answer changed opensFor givesFor
+  what-a-pair-has-open-moves-by-what-is-asked-for-it p q es (Open e) k h = same? (answerOpen ls c es (lowerFirst e)) 0
+      (λ z. let l = lowerFirst e in
+      rw (pick-same z, pick-same z, pick-same z) (omega (arith, grow-open (l .first) (l .second) (l .amount) p q es)))
+      (λ d. rw (pick-other d, pick-other d, pick-other d) refl)
+  what-a-pair-has-open-moves-by-what-is-asked-for-it p q es (GiveUp e) k h = same? (answerGiveUp ls c es (lowerFirst e)) 0
+      (λ z. let l = lowerFirst e in
+      let less = shrink-open (l .first) (l .second) (l .amount) p q es (k .once (l .first) (l .second)) (lower-entry n e h .some) (give-enough es l z) in
+      rw (pick-same z, pick-same z, pick-same z) (omega (arith, less)))
+      (λ d. rw (pick-other d, pick-other d, pick-other d) refl)
+  what-a-pair-has-open-moves-by-what-is-asked-for-it p q es (Fault f) k h = rw (pick-const f 0 es) refl
+
+  -- a pair that falls to nothing gives its place back
+  pub a-pair-that-falls-to-nothing-gives-its-place-back : (es : List Pair) (e : Pair) → Kept ls n c es → Proper n e
+      → openOf (lowerFirst e .first) (lowerFirst e .second) es ≡ e .amount → suc (length (next ls c es (GiveUp e))) ≡ length es
+  unfolding next answer changed
+  a-pair-that-falls-to-nothing-gives-its-place-back es e k h o =
+      let p = lowerFirst e in
+      let all : openOf (p .first) (p .second) es ≡ p .amount = o ∙ sym (lower-amount e) in
+      rw (pick-same (gives-up ls c es p (omega arith)))
+      (nothing-left (p .first) (p .second) (p .amount) es (k .once (p .first) (p .second)) (lower-entry n e h .some) all .1)
 
   -- ---- open amounts are small: some link separates the two sites
 

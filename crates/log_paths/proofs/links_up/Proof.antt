@@ -20,7 +20,11 @@ abbrev μ-loop : tie.MeasureT-loop
 μ-loop links child up₀ j₀ up j = links - j
 
 loop-holds : tie.Need-loop-holds Inv-loop μ-loop
-loop-holds c = (omega arith, refl, record { each = λ i l. absurd (omega arith); others = λ x d. look-zeros PLACES x; low = λ x. omega (arith, look-zeros PLACES x) })
+loop-holds c = (
+  omega arith,
+  refl,
+  record { each = λ i l. absurd (omega arith); others = λ x d. look-zeros PLACES x; low = λ x. omega (arith, look-zeros PLACES x) },
+)
 
 -- the child of link j is low
 low : (c : tie.In-loop Inv-loop μ-loop) → look (c .before .before .args .child .now) (c .before .loop .j) ≤ SITES

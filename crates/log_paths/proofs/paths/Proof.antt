@@ -37,13 +37,16 @@ outward-requires : tie.Need-outward-requires
 outward-requires c κs =
     let told = c .before .before .before .before .before .before .before in
     let first = told .before .before .before in
-    outward-order (first .eliminate .result .sites) (first .before .before .before .before .pre) (ordered first) (told .parents-of .ensures) (c .before .before .before .links-up .ensures)
+    let w = first .before .before .before .before .pre in
+    outward-order (first .eliminate .result .sites) w (ordered first) (told .parents-of .ensures) (c .before .before .before .links-up .ensures)
 
 returns : tie.Need-returns
 returns c =
     let told = c .before .before .before .before .before .before .before .before in
     let first = told .before .before .before in
-    table (first .eliminate .result .sites) (first .before .before .before .before .pre) (ordered first) (told .parents-of .ensures) (c .before .before .before .before .links-up .ensures) (c .outward .ensures)
+    let w = first .before .before .before .before .pre in
+    let up = c .before .before .before .before .links-up in
+    table (first .eliminate .result .sites) w (ordered first) (told .parents-of .ensures) (up .ensures) (c .outward .ensures)
 
 pub paths-spec : {M : Type 1} → statement M
 paths-spec = tie.close (tie.spec (λ c κs. search needs) parents-of-requires links-up-requires outward-requires returns)

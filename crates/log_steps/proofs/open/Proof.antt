@@ -27,7 +27,10 @@ find-requires : tie.Need-find-requires
 find-requires c κs = c .before .before .before .before .before .before .before .before .before .pre .2 .holds .pairs .few
 
 -- no link would be overfilled
-fits : (c : tie.After-find) → let a = c .before .before .before .before .before .before .before .before .before .before .args in Passing (c .before .before .before .before .before .before .between .result) (a .p .amount) (a .capacity .now) (a .load .now) → ⊥
+fits : (c : tie.After-find) →
+    let a = c .before .before .before .before .before .before .before .before .before .before .args in
+    let path = c .before .before .before .before .before .before .between .result in
+    Passing path (a .p .amount) (a .capacity .now) (a .load .now) → ⊥
 fits c = rw (c .before .before .before .if1 .left) at (c .before .before .before .before .overfills .ensures)
 
 returns-2 : tie.Need-returns-2
@@ -46,13 +49,15 @@ grow-requires : tie.Need-grow-requires
 grow-requires c κs =
     let s = c .before .before .before .before .before .before .before .before .before .before .before .before .before .before .before .before .pre in
     let path = c .before .before .before .before .before .before .before .before .before .before .before .before .between in
-    growing (s .0) (s .2) (s .1) (path .result) (path .ensures) (fits (c .before .before .before .before .before .before)) (c .before .before .before .before .before .before .find .ensures) (c .before .before .before .before .before .if2 .left)
+    let room = c .before .before .before .before .before in
+    growing (s .0) (s .2) (s .1) (path .result) (path .ensures) (fits (room .before)) (room .before .find .ensures) (room .if2 .left)
 
 returns-3 : tie.Need-returns-3
 returns-3 c =
     let s = c .before .before .before .before .before .before .before .before .before .before .before .before .before .before .before .before .before .pre in
     let path = c .before .before .before .before .before .before .before .before .before .before .before .before .before .between in
-    opened (s .0) (s .2) (s .1) (path .result) (path .ensures) (fits (c .before .before .before .before .before .before .before)) (c .before .before .before .before .before .before .before .find .ensures) (c .before .before .before .before .before .before .if2 .left)
+    let room = c .before .before .before .before .before .before in
+    opened (s .0) (s .2) (s .1) (path .result) (path .ensures) (fits (room .before)) (room .before .find .ensures) (room .if2 .left)
     (c .before .before .before .before .raise .ensures) (c .grow .ensures)
 
 pub open-spec : {M : Type 1} → statement M

@@ -45,7 +45,9 @@ inside : (c : tie.After-known-told Inv-loop μ-loop) → c .before .j .given .0 
 inside c = omega (arith, found c .to, c .before .before .before .before .loop .inv .low)
 
 loop-holds : tie.Need-loop-holds Inv-loop μ-loop
-loop-holds c = let a = c .args in walking-start (a .path) (will (a .path) (a .x) (a .load .now)) (a .load .now) (others (a .path) (a .x) (a .load .now)) (c .pre .places)
+loop-holds c =
+    let a = c .args in
+    walking-start (a .path) (will (a .path) (a .x) (a .load .now)) (a .load .now) (others (a .path) (a .x) (a .load .now)) (c .pre .places)
 
 returns : tie.Need-returns Inv-loop μ-loop
 unfolding raised
