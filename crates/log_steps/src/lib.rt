@@ -34,13 +34,13 @@ fn overfills(path: Set, x: u64, capacity: &[u64], load: &[u64; SITES]) -> bool
 {
     let mut p: usize = 0;
     loop {
-        let Found::At(j) = path.next(p) else {
+        let Found::At(link) = path.next(p) else {
             return false;
         };
-        if 2 * capacity[j] < load[j] + x {
+        if 2 * capacity[link] < load[link] + x {
             return true;
         }
-        p = j + 1;
+        p = link + 1;
     }
 }
 
@@ -95,15 +95,25 @@ fn open(
         (now (first .exit)) (now (second .exit)) (now (amount .exit)) (now (load .exit)) r ⌝ }
 {
     let path = log_paths::between(rows, p.first, p.second);
-    if overfills(path, p.amount, capacity, load) {
+    let full = overfills(path, p.amount, capacity, load);
+    let place = log_pairs::find(p.first, p.second, count, first, second);
+    if full {
         return Replied { answer: 15, count };
     }
-    let k = log_pairs::find(p.first, p.second, count, first, second);
-    if k == OPEN {
+    if place == OPEN {
         return Replied { answer: 16, count };
     }
     raise(path, p.amount, load);
-    let more = log_pairs::grow(p.first, p.second, p.amount, k, count, first, second, amount);
+    let more = log_pairs::grow(
+        p.first,
+        p.second,
+        p.amount,
+        place,
+        count,
+        first,
+        second,
+        amount,
+    );
     Replied {
         answer: 0,
         count: more,
@@ -130,16 +140,25 @@ fn give_up(
         (entries (now (first .entry)) (now (second .entry)) (now (amount .entry)) count) p
         (now (first .exit)) (now (second .exit)) (now (amount .exit)) (now (load .exit)) r ⌝ }
 {
-    let k = log_pairs::find(p.first, p.second, count, first, second);
-    if k == count {
+    let place = log_pairs::find(p.first, p.second, count, first, second);
+    if place == count {
         return Replied { answer: 14, count };
     }
-    if amount[k] < p.amount {
+    if amount[place] < p.amount {
         return Replied { answer: 14, count };
     }
     let path = log_paths::between(rows, p.first, p.second);
     lower(path, p.amount, load);
-    let fewer = log_pairs::shrink(p.first, p.second, p.amount, k, count, first, second, amount);
+    let fewer = log_pairs::shrink(
+        p.first,
+        p.second,
+        p.amount,
+        place,
+        count,
+        first,
+        second,
+        amount,
+    );
     Replied {
         answer: 0,
         count: fewer,
@@ -168,14 +187,14 @@ pub fn step(
 {
     match request {
         Request::Open(e) => {
-            let p = pairing_order::lower_first(e);
+            let more = pairing_order::lower_first(e);
             open(
                 n,
                 one,
                 two,
                 capacity,
                 rows,
-                p,
+                more,
                 count,
                 first,
                 second,
@@ -184,14 +203,14 @@ pub fn step(
             )
         }
         Request::GiveUp(e) => {
-            let p = pairing_order::lower_first(e);
+            let less = pairing_order::lower_first(e);
             give_up(
                 n,
                 one,
                 two,
                 capacity,
                 rows,
-                p,
+                less,
                 count,
                 first,
                 second,

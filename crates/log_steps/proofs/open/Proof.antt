@@ -17,27 +17,28 @@ overfills-requires c κs =
     let path = c .before .between in
     measured (s .0) (s .2) (s .1) (path .result) (path .ensures)
 
+find-requires : tie.Need-find-requires
+find-requires c κs = c .before .before .before .before .before .before .before .before .pre .2 .holds .pairs .few
+
 returns : tie.Need-returns
 returns c =
-    let s = c .before .before .before .before .before .before .before .pre in
-    let path = c .before .before .before .between in
-    answered-15 (s .0) (s .2) (s .1) (path .result) (path .ensures) (rw (c .if1 .taken) at (c .before .overfills .ensures))
-
-find-requires : tie.Need-find-requires
-find-requires c κs = c .before .before .before .before .before .before .before .before .before .pre .2 .holds .pairs .few
+    let s = c .before .before .before .before .before .before .before .before .before .before .pre in
+    let path = c .before .before .before .before .before .before .between in
+    let over = rw (c .if1 .taken) at (c .before .before .before .before .overfills .ensures) in
+    answered-15 (s .0) (s .2) (s .1) (path .result) (path .ensures) over
 
 -- no link would be overfilled
-fits : (c : tie.After-find) →
+fits : (c : tie.Else1) →
     let a = c .before .before .before .before .before .before .before .before .before .before .args in
     let path = c .before .before .before .before .before .before .between .result in
     Passing path (a .p .amount) (a .capacity .now) (a .load .now) → ⊥
-fits c = rw (c .before .before .before .if1 .left) at (c .before .before .before .before .overfills .ensures)
+fits c = rw (c .if1 .left) at (c .before .before .before .before .overfills .ensures)
 
 returns-2 : tie.Need-returns-2
 returns-2 c =
     let s = c .before .before .before .before .before .before .before .before .before .before .before .pre in
     let path = c .before .before .before .before .before .before .before .between in
-    answered-16 (s .0) (s .2) (s .1) (path .result) (path .ensures) (fits (c .before)) (c .before .find .ensures) (c .if2 .taken)
+    answered-16 (s .0) (s .2) (s .1) (path .result) (path .ensures) (fits (c .before)) (c .before .before .find .ensures) (c .if2 .taken)
 
 raise-requires : tie.Need-raise-requires
 raise-requires c κs =
@@ -50,14 +51,14 @@ grow-requires c κs =
     let s = c .before .before .before .before .before .before .before .before .before .before .before .before .before .before .before .before .pre in
     let path = c .before .before .before .before .before .before .before .before .before .before .before .before .between in
     let room = c .before .before .before .before .before in
-    growing (s .0) (s .2) (s .1) (path .result) (path .ensures) (fits (room .before)) (room .before .find .ensures) (room .if2 .left)
+    growing (s .0) (s .2) (s .1) (path .result) (path .ensures) (fits (room .before)) (room .before .before .find .ensures) (room .if2 .left)
 
 returns-3 : tie.Need-returns-3
 returns-3 c =
     let s = c .before .before .before .before .before .before .before .before .before .before .before .before .before .before .before .before .before .pre in
     let path = c .before .before .before .before .before .before .before .before .before .before .before .before .before .between in
     let room = c .before .before .before .before .before .before in
-    opened (s .0) (s .2) (s .1) (path .result) (path .ensures) (fits (room .before)) (room .before .find .ensures) (room .if2 .left)
+    opened (s .0) (s .2) (s .1) (path .result) (path .ensures) (fits (room .before)) (room .before .before .find .ensures) (room .if2 .left)
     (c .before .before .before .before .raise .ensures) (c .grow .ensures)
 
 pub open-spec : {M : Type 1} → statement M
@@ -66,8 +67,8 @@ open-spec =
     (tie.spec
     between-requires
     overfills-requires
-    returns
     find-requires
+    returns
     returns-2
     raise-requires
     grow-requires

@@ -24,11 +24,11 @@ abbrev μ-loop : tie.MeasureT-loop
 -- the member that was found
 found : (c : tie.After-known-told Inv-loop μ-loop) →
     let top = c .before .before .before .before in
-    First (member (top .before .before .args .path)) (top .loop .p) (SITES - top .loop .p) (c .before .j .given .0 .0)
+    First (member (top .before .before .args .path)) (top .loop .p) (SITES - top .loop .p) (c .before .link .given .0 .0)
 found c =
     let top = c .before .before .before .before in
-    first-at (member (top .before .before .args .path)) (top .loop .p) (SITES - top .loop .p) (c .before .j .given .0 .0)
-    (sym (c .before .before .before .next .ensures) ∙ c .before .j .given .1)
+    first-at (member (top .before .before .args .path)) (top .loop .p) (SITES - top .loop .p) (c .before .link .given .0 .0)
+    (sym (c .before .before .before .next .ensures) ∙ c .before .link .given .1)
 
 -- it is a link whose numbers are small
 pub record Small (j x : ℕ) (c l : List ℕ) : Type 0 where
@@ -39,11 +39,11 @@ pub record Small (j x : ℕ) (c l : List ℕ) : Type 0 where
   pub amount : x ≤ AMOUNT
 
 small : (c : tie.After-known-told Inv-loop μ-loop) → let a = c .before .before .before .before .before .before .args in
-    Small (c .before .j .given .0 .0) (a .x) (a .capacity .now) (a .load .now)
+    Small (c .before .link .given .0 .0) (a .x) (a .capacity .now) (a .load .now)
 small c =
     let top = c .before .before .before .before in
     let s = top .before .before in
-    let j = c .before .j .given .0 .0 in
+    let j = c .before .link .given .0 .0 in
     let link = s .pre .links j (found c .hit) in
     record {
       site = omega (arith, found c .to, top .loop .inv .0);
@@ -65,7 +65,7 @@ returns c =
 returns-2 : tie.Need-returns-2 Inv-loop μ-loop
 returns-2 c =
     let d = c .before .before .before in
-    record { link = d .before .j .given .0 .0; on = found d .hit; over = c .if1 .taken }
+    record { link = d .before .link .given .0 .0; on = found d .hit; over = c .if1 .taken }
 
 loop-again : tie.Need-loop-again Inv-loop μ-loop
 loop-again c =
@@ -73,7 +73,7 @@ loop-again c =
     let top = d .before .before .before .before in
     let f = found d in (
       omega (arith, small d),
-      λ j l o over. same? j (d .before .j .given .0 .0)
+      λ j l o over. same? j (d .before .link .given .0 .0)
           (λ e. let under = c .if1 .left in omega (arith, rw e at over))
           (λ e. cases (decLt j (top .loop .p)) (λ q. top .loop .inv .1 j q o over) (λ q. f .miss j (omega arith) (omega arith) o)),
     )

@@ -7,25 +7,25 @@ use Rattle.log_steps.proofs.step.Tie as tie
 
 open-requires : tie.Need-open-requires
 open-requires c κs =
-    let told = c .before .before .before .before .before in
-    let s = told .before .before .before .before .before .before in
-    (s .pre .0, asked-wanted (rw (told .before .request .given .1) at (s .pre .1)) (c .before .before .before .before .lower-first .ensures), s .pre .2)
+    let opening = c .before .before .before .before .before in
+    let s = opening .before .before .before .before .before .before in
+    (s .pre .0, asked-wanted (rw (opening .before .request .given .1) at (s .pre .1)) (c .before .before .before .before .lower-first .ensures), s .pre .2)
 
 give-up-requires : tie.Need-give-up-requires
 give-up-requires c κs =
-    let told = c .before .before .before .before .before in
-    let s = told .before .before .before .before .before .before in
-    (s .pre .0, asked-wanted (rw (told .before .request2 .given .1) at (s .pre .1)) (c .before .before .before .before .lower-first2 .ensures), s .pre .2)
+    let giving = c .before .before .before .before .before in
+    let s = giving .before .before .before .before .before .before in
+    (s .pre .0, asked-wanted (rw (giving .before .request2 .given .1) at (s .pre .1)) (c .before .before .before .before .lower-first2 .ensures), s .pre .2)
 
 returns : tie.Need-returns
 returns c =
-    let lowered = c .before .before .before .before .before in
-    open-answered (lowered .before .before .request .given .1) (lowered .lower-first .ensures) (c .«open» .ensures)
+    let opened = c .before .before .before .before .before in
+    open-answered (opened .before .before .request .given .1) (opened .lower-first .ensures) (c .«open» .ensures)
 
 returns-2 : tie.Need-returns-2
 returns-2 c =
-    let lowered = c .before .before .before .before .before in
-    give-up-answered (lowered .before .before .request2 .given .1) (lowered .lower-first2 .ensures) (c .give-up .ensures)
+    let giving = c .before .before .before .before .before in
+    give-up-answered (giving .before .before .request2 .given .1) (giving .lower-first2 .ensures) (c .give-up .ensures)
 
 returns-3 : tie.Need-returns-3
 returns-3 c = fault-answered (c .before .request3 .given .1) (c .before .before .before .before .before .before .pre .2)
