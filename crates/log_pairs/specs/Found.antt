@@ -1,15 +1,15 @@
 -- What the place of a pair tells, for callers: what the pair has open, and that its place is free for more.
-use mathlib.Core.Path.{_≡_, refl, ap, _∙_}
+use mathlib.Core.Path.{_≡_, refl, _∙_}
 use mathlib.Core.Logic.{_≢_}
 use mathlib.Core.List.{List, [], _∷_}
-use Prim.Native.Nat.{ℕ, zero, suc, _+_, _*_, _≤_, _<_}
+use Prim.Native.Nat.{ℕ, zero, suc, _≤_, _<_}
 use native.Mathlib.Omega.{arith}
 use lib.ListN.{length, getD}
 use Rattle.lists.specs.Numbers.{look}
 use Rattle.model.specs.Booking.{same, openOf, placesOf}
 use Rattle.model.specs.declared.Pair.{Pair}
 use Rattle.theory_log.specs.Pairs.{same-other, open-none}
-use Rattle.log_pairs.specs.Arrays.{none, row, entries, FirstPlace}
+use Rattle.log_pairs.specs.Arrays.{none, entries, FirstPlace}
 use Rattle.log_pairs.specs.Rows.{length-entries, entries-at, first-there, first-before}
 
 open-at : (a b : ℕ) (es : List Pair) (k : ℕ) → k < length es → placesOf a b es ≤ 1 → same a b (getD es k none) ≡ 1 → openOf a b es ≡ getD es k none .amount

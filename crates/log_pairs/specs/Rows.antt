@@ -2,15 +2,13 @@
 use mathlib.Core.Path.{_≡_, refl, sym, ap, _∙_}
 use mathlib.Core.Logic.{_≢_}
 use mathlib.Core.List.{List, [], _∷_, _++_, map}
-use Prim.Native.Nat.{ℕ, zero, suc, _+_, _-_, _*_, _≤_, _<_}
+use Prim.Native.Nat.{ℕ, zero, suc, _+_, _-_, _≤_, _<_}
 use native.Mathlib.Omega.{arith}
-use native.Mathlib.Decide.{decLt}
-use native.Mathlib.Numerals.{add-one}
-use lib.ListN.{length, take, set, getD, length-map, length-set, length-append, List·getD-map, List·getD-append}
+use lib.ListN.{length, take, set, getD, length-map, length-set, length-append, List·getD-append}
 use lib.Seq.{ext-getD, getD-set-same, getD-set-other, getD-take, length-take-le, getD-at}
-use Rattle.lists.specs.Numbers.{pick, upfrom, look}
+use Rattle.lists.specs.Numbers.{upfrom, look}
 use Rattle.model.specs.declared.Pair.{Pair}
-use Rattle.lists.specs.Sums.{pick-same, pick-other, same?, cases}
+use Rattle.lists.specs.Sums.{pick-same, pick-other, same?}
 use Rattle.lists.specs.Places.{length-upfrom, look-upfrom}
 use Rattle.model.specs.Booking.{pair, same, grow, shrink, moved, lastOf, frontOf}
 use Rattle.theory_log.specs.Pairs.{same-one, same-is}

@@ -1,6 +1,5 @@
 // Inner: the open pairs of a booking log (02, Card 6) in arrays: one is found, grows, or shrinks. Only the planner's own crates call it.
 use model::OPEN;
-ghost use mathlib.Core.Path.{_≡_};
 ghost use Prim.Native.Nat.{_≤_};
 ghost use Rattle.model.specs.Limits.{OPEN};
 ghost use Rattle.model.specs.Booking.{grow, shrink};

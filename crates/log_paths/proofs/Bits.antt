@@ -6,7 +6,7 @@ use native.Mathlib.Decide.{decLt}
 use native.Mathlib.Omega.{arith}
 use lib.Bits.{differ as digitsDiffer, bitXor, xor-shr, xor-step, xor-zero-r}
 use lib.Pow.{pow-lt, shl-shr, pow-add}
-use Rattle.lists.specs.Numbers.{pick, is, differ}
+use Rattle.lists.specs.Numbers.{is, differ}
 use Rattle.lists.specs.Sums.{pick-same, pick-other, same?, cases, is-same, is-other, differ-same, differ-other, differ-le}
 use Rattle.tree_sets.specs.Members.{bit}
 use Rattle.log_paths.specs.Rows.{single}

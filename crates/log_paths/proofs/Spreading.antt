@@ -1,28 +1,28 @@
 -- The rows from the root outward: each is made from a row that stays, so at the end the two rows of every link differ in its bit alone; and by `all-agree`
 -- the rows are then those of the links between each site and the root.
 use mathlib.Core.Path.{_≡_, refl, sym, ap, ap₂, _∙_}
-use mathlib.Core.Logic.{_≢_, _⊎_, inl, inr}
+use mathlib.Core.Logic.{_≢_, inl, inr}
 use mathlib.Core.List.{List}
-use Prim.Native.Nat.{ℕ, zero, suc, _+_, _-_, _*_, _/_, _%_, _≤_, _<_}
+use Prim.Native.Nat.{ℕ, suc, _+_, _-_, _*_, _/_, _≤_, _<_}
 use native.Mathlib.Nat.{zero-div}
 use native.Mathlib.Omega.{arith}
 use lib.ListN.{length, take, drop, replicate, length-drop}
 use lib.Seq.{getD-take, getD-drop}
 use Rattle.model.specs.Limits.{ROWS, SITES, WORDS}
 use Rattle.lists.specs.Numbers.{is, differ, look, count}
-use Rattle.lists.specs.Sums.{same?, is-same, is-other, is-le, differ-same, differ-other, differ-le}
+use Rattle.lists.specs.Sums.{same?, is-same, is-other, is-le, differ-same, differ-other}
 use Rattle.lists.specs.Places.{look-zeros}
 use Rattle.model.specs.Edition.{largest}
 use Rattle.model.specs.Flows.{Links, Site, Tree, one, two, at, side, separates}
-use Rattle.model.specs.Trimming.{elimination, Inward}
+use Rattle.model.specs.Trimming.{elimination}
 use Rattle.model.specs.WholeLoads.{from, upward, beyond, parentOf}
 use Rattle.theory_trees.specs.Trees.{side-link, far-one, loopless, separates-le, separates-comm, separates-self, all-agree, at-end}
 use Rattle.theory_trees.specs.TreeTest.{length-elimination}
-use Rattle.theory_whole.specs.Links.{Above, above, single, beyond-not, unvisited-at}
+use Rattle.theory_whole.specs.Links.{Above, above, beyond-not, unvisited-at}
 use Rattle.tree.specs.Offer.{links}
 use Rattle.tree.specs.Links.{length-links}
 use Rattle.tree.specs.Accepted.{TreeWithin}
-use Rattle.whole_parents.specs.Orders.{place-of, place-told, from-place, count-drop}
+use Rattle.whole_parents.specs.Orders.{place-of, place-told, from-place}
 use Rattle.whole_parents.specs.Parents.{Single, Ordered, Leads, ParentsOf, ordered-within}
 use Rattle.whole_parents.specs.Parents.{the-order-is-inward, the-order-takes-every-site, the-order-takes-no-site-twice}
 use Rattle.whole_parents.specs.Leads.{leads-upward}

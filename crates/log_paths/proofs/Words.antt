@@ -12,7 +12,7 @@ use Rattle.model.specs.Limits.{SITES, WORDS}
 use Rattle.lists.specs.Numbers.{is, differ, look}
 use Rattle.lists.specs.Sums.{same?, cases}
 use Rattle.tree_sets.specs.Members.{bit, member}
-use Rattle.log_paths.specs.Tables.{inTable, Table, PathBy}
+use Rattle.log_paths.specs.Tables.{inTable, PathBy}
 use Rattle.log_paths.specs.Rows.{single, Extended}
 use Rattle.log_paths.specs.Laws.{what-is-no-link-separates-nothing, separates-from}
 use Rattle.log_paths.proofs.Bits.{bit-xor, bit-single}

@@ -1,7 +1,7 @@
 -- Separation in a tree, for callers: a number that is no link's separates nothing, and seen from any site r a link separates a and b just where it
 -- separates one of them from r.
 use mathlib.Core.Path.{_≡_, sym, _∙_}
-use Prim.Native.Nat.{ℕ, _+_, _≤_, _<_}
+use Prim.Native.Nat.{ℕ, _+_, _≤_}
 use native.Mathlib.Decide.{decLt}
 use native.Mathlib.Omega.{arith}
 use lib.ListN.{length}

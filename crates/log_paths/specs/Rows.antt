@@ -3,11 +3,10 @@ use mathlib.Core.Path.{_≡_}
 use mathlib.Core.Logic.{_≢_}
 use mathlib.Core.List.{List}
 use Prim.Native.Nat.{ℕ, suc, _/_, _%_, _^_, _≤_, _<_}
-use lib.ListN.{length, take}
+use lib.ListN.{length}
 use Rattle.model.specs.Limits.{ROWS, SITES}
 use Rattle.lists.specs.Numbers.{pick, is, differ, look}
-use Rattle.model.specs.Flows.{Links, Site}
-use Rattle.model.specs.Trimming.{elimination}
+use Rattle.model.specs.Flows.{Site}
 use Rattle.log_paths.specs.Tables.{inTable}
 
 -- word q of the set that has only the number j

@@ -2,31 +2,30 @@
 use mathlib.Core.Path.{_≡_, refl, sym, ap, ap₂, _∙_}
 use mathlib.Core.Logic.{_≢_}
 use mathlib.Core.List.{List, [], _∷_, map}
-use Prim.Native.Nat.{ℕ, zero, suc, _+_, _-_, _*_, _≤_, _<_}
+use Prim.Native.Nat.{ℕ, _+_, _-_, _*_, _≤_, _<_}
 use native.Mathlib.Decide.{decLt}
 use native.Mathlib.Omega.{arith}
-use lib.ListN.{length, getD, length-map, List·getD-eq-default}
-use Rattle.model.specs.Limits.{AMOUNT, OPEN, SITES, SIZE}
+use lib.ListN.{length, length-map, List·getD-eq-default}
+use Rattle.model.specs.Limits.{AMOUNT, OPEN, SITES}
 use Rattle.lists.specs.Numbers.{pick, look, upfrom, Each}
 use Rattle.lists.specs.Sums.{pick-same, pick-other, pick-const, same?, cases}
 use Rattle.lists.specs.Places.{length-upfrom, look-values}
-use Rattle.model.specs.Flows.{Links, Site, Tree, separates, load}
+use Rattle.model.specs.Flows.{Links, Tree, separates, load}
 use Rattle.model.specs.Pairing.{lowerFirst}
-use Rattle.model.specs.Booking.{openOf, placesOf, grow, shrink, overfilled, answerOpen, answerGiveUp, answer, changed, next, Proper, Entry, Kept}
+use Rattle.model.specs.Booking.{openOf, grow, shrink, overfilled, answerOpen, answer, changed, next, Proper, Entry}
 use Rattle.model.specs.declared.Pair.{Pair}
 use Rattle.model.specs.declared.Request.{Request}
 use Rattle.model.specs.declared.Request.the-variants.{Open, GiveUp, Fault}
 use Rattle.tree.specs.Offer.{links}
 use Rattle.tree.specs.Links.{length-links}
 use Rattle.tree_sets.specs.Members.{member}
-use Rattle.tree_sets.specs.Laws.{member-le}
 use Rattle.tree_sets.specs.declared.Set.{Set}
 use Rattle.theory_log.specs.Pairs.{grow-load, shrink-load}
-use Rattle.theory_log.specs.Answers.{Overfilled, overfilled-some, overfilled-by, says-15, says-16, opens-new, opens-more, says-14, gives-up}
+use Rattle.theory_log.specs.Answers.{overfilled-some, overfilled-by, says-15, says-16, opens-new, opens-more, says-14, gives-up}
 use Rattle.theory_log.specs.Requests.{lower-amount, lower-entry, entry-at, an-open-amount-is-at-most-twice-a-capacity}
-use Rattle.log_paths.specs.Tables.{Table, PathBy}
+use Rattle.log_paths.specs.Tables.{PathBy}
 use Rattle.log_paths.specs.Laws.{what-is-no-link-separates-nothing}
-use Rattle.log_pairs.specs.Arrays.{none, row, entries, Held, FirstPlace, Growing, Shrinking}
+use Rattle.log_pairs.specs.Arrays.{none, entries, Held, FirstPlace, Growing, Shrinking}
 use Rattle.log_pairs.specs.Found.{a-pair-that-is-found-has-its-amount-open, a-pair-that-is-not-found-has-nothing-open}
 use Rattle.log_pairs.specs.Rows.{length-entries, entries-at}
 use Rattle.log_steps.specs.Loads.{Measured, Passing, Raising, Lowering, raised, lowered}

@@ -1,18 +1,18 @@
 -- The arrays along a log, for callers: after the requests rs, from arrays of zeros, they hold what is open after them, and it is kept.
-use mathlib.Core.Path.{_≡_, refl, sym, _∙_}
+use mathlib.Core.Path.{_≡_, refl}
 use mathlib.Core.List.{List, [], _∷_, _++_}
 use Prim.Native.Nat.{ℕ}
 use native.Mathlib.Omega.{arith}
-use lib.ListN.{length, replicate}
+use lib.ListN.{replicate}
 use Rattle.model.specs.Limits.{OPEN, SITES}
-use Rattle.lists.specs.Numbers.{look, upfrom}
+use Rattle.lists.specs.Numbers.{upfrom}
 use Rattle.lists.specs.Places.{look-zeros}
 use Rattle.model.specs.Flows.{Links, load}
 use Rattle.model.specs.Booking.{answer, after, Asked, Kept}
 use Rattle.model.specs.declared.Request.{Request}
 use Rattle.theory_log.specs.Requests.{a-request-keeps-what-is-kept}
 use Rattle.theory_log.specs.Logs.{after-one-more, kept-empty}
-use Rattle.log_pairs.specs.Arrays.{entries, Held}
+use Rattle.log_pairs.specs.Arrays.{entries}
 use Rattle.log_steps.specs.Steps.{Holds, Standing, Answered}
 use Rattle.log_steps.specs.declared.Replied.{Replied}
 

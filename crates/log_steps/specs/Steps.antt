@@ -7,7 +7,7 @@ use Rattle.model.specs.Limits.{AMOUNT, SITES}
 use Rattle.lists.specs.Numbers.{pick, look}
 use Rattle.model.specs.Edition.{largest}
 use Rattle.model.specs.Flows.{Links, load}
-use Rattle.model.specs.Booking.{grow, shrink, answerOpen, answerGiveUp, answer, next, Asked, Entry, Kept}
+use Rattle.model.specs.Booking.{grow, shrink, answerOpen, answerGiveUp, answer, next, Entry, Kept}
 use Rattle.model.specs.declared.Pair.{Pair}
 use Rattle.model.specs.declared.Request.{Request}
 use Rattle.tree.specs.Offer.{links}

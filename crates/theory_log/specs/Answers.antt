@@ -1,12 +1,12 @@
 -- When a request gets which answer: each number exactly where its cause applies, in the order of document 02, Card 6.
-use mathlib.Core.Path.{_≡_, refl, sym, _∙_}
+use mathlib.Core.Path.{_≡_, _∙_}
 use mathlib.Core.Logic.{_≢_, _↔_}
 use mathlib.Core.List.{List}
 use Prim.Native.Nat.{ℕ, _+_, _*_, _≤_, _<_}
 use native.Mathlib.Omega.{arith}
 use native.Mathlib.Decide.{decLt}
 use lib.ListN.{length}
-use Rattle.lists.specs.Numbers.{pick, less, sum}
+use Rattle.lists.specs.Numbers.{less}
 use Rattle.lists.specs.Sums.{pick-same, pick-other, same?, cases, less-one, less-none, sum-ge, sum-some}
 use Rattle.model.specs.Limits.{OPEN}
 use Rattle.model.specs.Flows.{Links, separates, load}

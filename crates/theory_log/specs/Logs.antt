@@ -1,6 +1,6 @@
 -- A booking log, line by line (02, Card 6): after every line each link's load is what the lines answered 0 opened over it less what they gave up, and never
 -- above twice its capacity; a refused line moves nothing; at most OPEN pairs are open, all different, each with an amount. By induction along the log.
-use mathlib.Core.Path.{_≡_, refl, sym, ap, _∙_}
+use mathlib.Core.Path.{_≡_, refl, ap, _∙_}
 use mathlib.Core.Logic.{_≢_}
 use mathlib.Core.List.{List, [], _∷_, _++_}
 use Prim.Native.Nat.{ℕ, zero, suc, _+_, _*_, _≤_, _<_}

@@ -1,11 +1,11 @@
 -- Laws of the list of open pairs: loads, places of a pair, entries and lengths as a pair grows and shrinks. By induction along the list.
-use mathlib.Core.Path.{_≡_, refl, sym, ap, _∙_}
+use mathlib.Core.Path.{_≡_, refl, ap}
 use mathlib.Core.Logic.{_≢_}
 use mathlib.Core.List.{List, [], _∷_}
 use Prim.Native.Nat.{ℕ, suc, _+_, _-_, _*_, _≤_, _<_}
 use native.Mathlib.Omega.{arith}
 use lib.ListN.{length}
-use Rattle.lists.specs.Numbers.{pick, is, Each}
+use Rattle.lists.specs.Numbers.{is, Each}
 use Rattle.model.specs.Flows.{Links, separates, load}
 use Rattle.model.specs.declared.Pair.{Pair}
 use Rattle.lists.specs.Sums.{pick-same, pick-other, same?, is-same, is-other, is-one, is-le, product-one}

@@ -7,7 +7,7 @@ use Prim.Native.Nat.{ℕ, zero, suc, _+_, _*_, _≤_, _<_}
 use native.Mathlib.Omega.{arith}
 use native.Mathlib.Decide.{decLt}
 use lib.ListN.{length, getD}
-use Rattle.lists.specs.Numbers.{pick, is, less, Each}
+use Rattle.lists.specs.Numbers.{pick, less, Each}
 use Rattle.lists.specs.Sums.{pick-same, pick-other, pick-const, same?, cases, is-same, is-other, less-one, less-lt}
 use Rattle.model.specs.Limits.{OPEN}
 use Rattle.model.specs.Flows.{Links, Tree, separates, load}
@@ -20,7 +20,7 @@ use Rattle.model.specs.declared.Request.the-variants.{Open, GiveUp, Fault}
 use Rattle.theory_trees.specs.Trees.{local-one, separates-comm, separates-le}
 use Rattle.theory_log.specs.Pairs.{open-none, grow-load, grow-length, grow-entries, grow-once, shrink-load, shrink-places, shrink-length, shrink-entries}
 use Rattle.theory_log.specs.Pairs.{grow-open, shrink-open, nothing-left}
-use Rattle.theory_log.specs.Answers.{Overfilled, NoPlace, gives-up, an-opening-is-answered-0-exactly-where-no-cause-applies}
+use Rattle.theory_log.specs.Answers.{gives-up, an-opening-is-answered-0-exactly-where-no-cause-applies}
 use Rattle.theory_log.specs.Answers.{a-giving-up-is-answered-0-exactly-where-that-much-is-open}
 
 -- ---- the lower site first

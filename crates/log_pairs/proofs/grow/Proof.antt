@@ -1,5 +1,4 @@
 -- `grow` meets its contract: the entry at place k grows, or a new one stands behind the others.
-use mathlib.Core.Path.{_≡_}
 use native.Mathlib.Omega.{arith}
 use borrow.Author.Needs.{needs}
 use Rattle.log_pairs.specs.Rows.{held-grown, held-new}

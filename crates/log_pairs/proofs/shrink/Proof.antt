@@ -1,5 +1,4 @@
 -- `shrink` meets its contract: something is left at place k, or the last entry stands there.
-use mathlib.Core.Path.{_≡_}
 use native.Mathlib.Omega.{arith}
 use borrow.Author.Needs.{needs}
 use Rattle.log_pairs.specs.Rows.{held-shrunk, held-gone}

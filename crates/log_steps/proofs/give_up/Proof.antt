@@ -1,9 +1,7 @@
 -- `give_up` meets its contract, by its tests: each leads to the answer of its cause.
-use mathlib.Core.Path.{_≡_}
 use Prim.Native.Nat.{_≤_, _<_}
 use native.Mathlib.Omega.{arith}
 use Rattle.model.specs.Limits.{OPEN}
-use Rattle.lists.specs.Numbers.{look}
 use Rattle.log_steps.proofs.Laws.{sites-low, inside, lowering, not-open, too-little, enough-open, shrinking, given-up}
 use Rattle.log_steps.proofs.give_up.Statement.{statement}
 use Rattle.log_steps.proofs.give_up.Tie as tie

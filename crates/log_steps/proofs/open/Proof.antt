@@ -1,8 +1,4 @@
 -- `open` meets its contract, by its tests: each leads to the answer of its cause.
-use mathlib.Core.Path.{_≡_}
-use mathlib.Core.Logic.{_≢_}
-use Rattle.lists.specs.Numbers.{look}
-use Rattle.model.specs.Limits.{OPEN}
 use Rattle.log_steps.specs.Loads.{Passing}
 use Rattle.log_steps.proofs.Laws.{sites-low, measured, raising, answered-15, answered-16, growing, opened}
 use Rattle.log_steps.proofs.open.Statement.{statement}

@@ -11,7 +11,6 @@ use Rattle.lists.specs.Numbers.{look}
 use Rattle.lists.specs.Sums.{same?, cases}
 use Rattle.tree_sets.specs.Members.{member}
 use Rattle.tree_sets.specs.Laws.{First, first-at, first-absent}
-use Rattle.log_steps.specs.Loads.{Measured, Passing}
 use Rattle.log_steps.proofs.overfills.Statement.{statement}
 use Rattle.log_steps.proofs.overfills.Tie as tie
 
