@@ -5,6 +5,7 @@ pub mod Flows
 pub mod Trimming
 pub mod Cuts
 pub mod Pairing
+pub mod Booking
 pub mod Whole
 pub mod WholeLoads
 pub mod Examples
