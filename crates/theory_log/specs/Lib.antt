@@ -1,0 +1,4 @@
+pub mod Pairs
+pub mod Answers
+pub mod Requests
+pub mod Logs
