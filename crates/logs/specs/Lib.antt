@@ -1,0 +1,6 @@
+pub mod Log
+pub mod Outcome
+pub mod LogLaws
+pub mod Causes
+pub mod Told
+pub mod AfterLines
