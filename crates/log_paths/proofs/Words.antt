@@ -10,12 +10,11 @@ use lib.ListN.{length, set, length-set, List·getD-eq-default}
 use lib.Seq.{getD-set-same, getD-set-other}
 use Rattle.model.specs.Limits.{SITES, WORDS}
 use Rattle.lists.specs.Numbers.{is, differ, look}
-use Rattle.lists.specs.Sums.{same?, cases, differ-same, differ-other, differ-triangle}
-use Rattle.model.specs.Flows.{Links, Site, Tree, side, separates}
-use Rattle.theory_trees.specs.Trees.{separates-le, separates-comm, separates-triple, separates-same, without-none}
+use Rattle.lists.specs.Sums.{same?, cases}
 use Rattle.tree_sets.specs.Members.{bit, member}
 use Rattle.log_paths.specs.Tables.{inTable, Table, PathBy}
 use Rattle.log_paths.specs.Rows.{single, Extended}
+use Rattle.log_paths.specs.Laws.{what-is-no-link-separates-nothing, separates-from}
 use Rattle.log_paths.proofs.Bits.{bit-xor, bit-single}
 
 -- f stands at q places from b on, the rest is as it was
@@ -56,34 +55,6 @@ patch-extended near far j was now t = record {
 
 -- ---- two rows set against each other
 
-two-of-three : (x y z : ℕ) → x ≤ 1 → y ≤ 1 → z ≤ 1 → x + y + z ≤ 2 → z ≤ x + y → x ≤ y + z → y ≤ x + z → differ x y ≡ z
-two-of-three x y z a b c t p q r = same? x y
-    (λ e. differ-same e ∙ omega arith)
-    (λ d. differ-other d ∙ omega arith)
-
-module _ {ls : Links} {n : ℕ} (T : Tree ls n) where
-  triangle : (j x y z : ℕ) → separates ls j x z ≤ separates ls j x y + separates ls j y z
-  unfolding separates
-  triangle j x y z = differ-triangle (side ls j x) (side ls j y) (side ls j z)
-
-  -- a number that is no link's separates nothing
-  separates-none : (j a b : ℕ) → length ls ≤ j → Site n a → Site n b → separates ls j a b ≡ 0
-  separates-none j a b h p q = separates-same ls j a b (unfold side in rw (without-none ls j h) (T .whole a p ∙ sym (T .whole b q)))
-
-  separates-from : (j r a b : ℕ) → Site n r → Site n a → Site n b → differ (separates ls j r a) (separates ls j r b) ≡ separates ls j a b
-  separates-from j r a b p q s = cases (decLt j (length ls))
-      (λ l. two-of-three (separates ls j r a) (separates ls j r b) (separates ls j a b)
-      (separates-le ls j r a) (separates-le ls j r b) (separates-le ls j a b)
-      (omega (arith, separates-triple T j r a b l p q s))
-      (omega (arith, triangle j a r b, separates-comm ls j a r))
-      (omega (arith, triangle j r b a, separates-comm ls j b a))
-      (triangle j r a b))
-      (λ l. let h : length ls ≤ j = omega arith in
-      differ-same (separates-none j r a h p q ∙ sym (separates-none j r b h p s)) ∙ sym (separates-none j a b h q s))
-
-  separates-high : (j a b : ℕ) → n ≤ SITES → SITES ≤ j → Site n a → Site n b → separates ls j a b ≡ 0
-  separates-high j a b few h p q = separates-none j a b (omega (arith, T .links)) p q
-
 -- the words where two rows differ are the path
 pub path-by : (rows words : List ℕ) (a b : ℕ) → length words ≡ WORDS
     → ((q : ℕ) → q < WORDS → look words q ≡ bitXor (look rows (a * WORDS + q)) (look rows (b * WORDS + q))) → PathBy rows a b (record { words = words })
@@ -93,4 +64,5 @@ path-by rows words a b long each ls n T t p q j = cases (decLt j SITES)
     ∙ bit-xor (look rows (a * WORDS + j / 64)) (look rows (b * WORDS + j / 64)) (j % 64)
     ∙ ap₂ differ (t .told j a l p) (t .told j b l q)
     ∙ separates-from T j (t .root) a b (t .root-site) p q)
-    (λ l. rw (List·getD-eq-default words 0 {n = j / 64} (omega arith), zero-div) (sym (separates-high T j a b (t .few) (omega arith) p q)))
+    (λ l. rw (List·getD-eq-default words 0 {n = j / 64} (omega arith), zero-div)
+    (sym (what-is-no-link-separates-nothing T j a b (omega (arith, T .links, t .few)) p q)))

@@ -10,6 +10,7 @@ use Rattle.tree_sets.specs.declared.Set.{Set}
 
 -- the links on a path have capacities, and their loads fit
 pub record Measured (path : Set) (x : ℕ) (c l : List ℕ) : Type 0 where
+  pub few : length c ≤ SITES
   pub links : (j : ℕ) → member path j ≡ 1 → j < length c
   pub capacities : (j : ℕ) → j < length c → look c j ≤ SIZE
   pub loads : (j : ℕ) → look l j ≤ AMOUNT
