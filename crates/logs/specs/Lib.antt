@@ -4,3 +4,4 @@ pub mod LogLaws
 pub mod Causes
 pub mod Told
 pub mod AfterLines
+pub mod Progress
