@@ -5,3 +5,4 @@ pub mod Causes
 pub mod Told
 pub mod AfterLines
 pub mod Progress
+pub mod OverNetwork

@@ -88,8 +88,8 @@ module _ (s : List ℕ) (names : List (ℕ × ℕ)) (t : ℕ → ℕ) (ls : Link
             ∙ set-behind before (drop (suc i) l) (look l i) v
             ∙ ap₂ (λ w k. (before ++ (w ∷ [])) ++ drop k l) (replays.replayed-answer ls (length names) c (P .replayed) a) (sym (add-one i))
             ∙ ap (λ r. r ++ drop (i + 1) l)
-                (sym (answers-one-more ls c [] (asked (P .done)) (requestAt s names t log at))
-                ∙ ap (answers ls c []) (sym (map-append (requestAt s names t log) (P .done) (at ∷ []))))
+            (sym (answers-one-more ls c [] (asked (P .done)) (requestAt s names t log at))
+            ∙ ap (answers ls c []) (sym (map-append (requestAt s names t log) (P .done) (at ∷ []))))
 
         pub next : Progress f′ g′ m′ load′ (reply .count) (afterLine log at) (i + 1) (set list i (reply .answer))
         next = record {

@@ -63,13 +63,7 @@ fn line_of(log: &[u8], line: &[u8], at: usize) -> Line
 }
 
 // An amount asked for between what the look-ups of two names found, by the ends: fault 6 unless they are two different ends.
-fn between(
-    ends: &[u8; PLACES],
-    opens: bool,
-    amount: u64,
-    one: Found,
-    two: Found,
-) -> Request
+fn between(ends: &[u8; PLACES], opens: bool, amount: u64, one: Found, two: Found) -> Request
     requires { ⌜ Labelled PLACES one × Labelled PLACES two ⌝ }
     ensures { λ r. ⌜ r ≡ between (look (now (ends .entry))) opens amount one two ⌝ }
 {
