@@ -34,10 +34,10 @@ module _ (l : List ℕ) where
   two = length (field (fields l) 2)
 
   -- where the second and the third field end, the first being one byte
-  second-end : 1 < length (fields l) → length (field (fields l) 0) ≡ 1 → getD (ends 0 (fields l)) 1 0 ≡ 2 + one
+  pub second-end : 1 < length (fields l) → length (field (fields l) 0) ≡ 1 → getD (ends 0 (fields l)) 1 0 ≡ 2 + one
   second-end h e = omega (arith, length-of-field (field-lies 0 l 0 (omega arith)), length-of-field (field-lies 1 l 0 h))
 
-  third-end : 2 < length (fields l) → length (field (fields l) 0) ≡ 1 → getD (ends 0 (fields l)) 2 0 ≡ 3 + one + two
+  pub third-end : 2 < length (fields l) → length (field (fields l) 0) ≡ 1 → getD (ends 0 (fields l)) 2 0 ≡ 3 + one + two
   third-end h e = omega (arith, second-end (omega arith) e, length-of-field (field-lies 2 l 0 h))
 
   -- the second and the third field, by their places
