@@ -2,18 +2,16 @@
 -- By the places of the fields.
 use mathlib.Core.Bool.{Bool, true, false, cond}
 use mathlib.Core.List.{List}
-use mathlib.Core.Path.{_≡_, refl, ap, _∙_}
+use mathlib.Core.Path.{_≡_, ap, _∙_}
 use Prim.Native.Nat.{ℕ, _+_, _-_, _≤_, _<_}
 use native.Mathlib.Nat.{sub-zero}
 use native.Mathlib.Omega.{arith}
-use lib.Dec.{leb}
 use lib.ListN.{length, getD, take, drop}
-use borrow.Author.Tests.{leb-true}
 use Rattle.model.specs.Text.{bytes}
 use Rattle.text_grammar.specs.Grammar.{ends, split}
 use Rattle.text_grammar.specs.SplitLaws.{field-lies, length-of-field, end-of-split}
 use Rattle.text_grammar.specs.declared.Fields.{Fields}
-use Rattle.sheet_kinds.specs.LineKinds.{same, fields, field, isName, value, isHeading, checked, siteForm, linkForm, IsSite, IsLink, siteLine, usableSize, linkOf}
+use Rattle.sheet_kinds.specs.LineKinds.{same, fields, field, isName, isHeading, checked, siteForm, linkForm, IsSite, IsLink, siteLine, usableSize, linkOf}
 use Rattle.sheet_kinds.specs.LineKinds.{sizedLink, linkLine, kindOf, kind}
 use Rattle.sheet_kinds.specs.LineKindLaws.{judged-cases, site-parts, link-parts, capacity-cases}
 use Rattle.sheet_kinds.specs.declared.Line.{Line}
