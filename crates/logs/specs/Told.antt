@@ -27,8 +27,9 @@ pub record IsRefused (t k l : ℕ) (list : List ℕ) (o : Replayed) : Type 0 whe
   pub count-told : countOf (o .outcome) ≡ 0
   pub list-kept : o .list ≡ list
 
--- every line is answered: number 0, line 0 and the count of lines; the list holds the answers, and after them its values from before
+-- every line is answered: text 0, number 0, line 0 and the count of lines; the list holds the answers, and after them its values from before
 pub record AllAnswered (s : List ℕ) (net : Network) (log list : List ℕ) (o : Replayed) : Type 0 where
+  pub text-told : textOf (o .outcome) ≡ 0
   pub number-told : number (o .outcome) ≡ 0
   pub line-told : lineOf (o .outcome) ≡ 0
   pub count-told : countOf (o .outcome) ≡ length (lines log)
@@ -63,7 +64,7 @@ module _ (ed : Edition) (s log l : List ℕ) where
     unfolding replayed replayRead replayOver
     over-short-log g h = cases (decLe (length (lines log)) (length l))
         (λ k. all-answered net sheet (record { bytes = g; few = h }) k
-        (rw (e, le-leb _ _ g, le-leb _ _ h, le-leb _ _ k) (record { number-told = refl; line-told = refl; count-told = refl; list-filled = refl })))
+        (rw (e, le-leb _ _ g, le-leb _ _ h, le-leb _ _ k) (record { text-told = refl; number-told = refl; line-told = refl; count-told = refl; list-filled = refl })))
         (λ k. let i : length l < length (lines log) = omega arith in
         few-places net sheet (record { bytes = g; few = h }) i
         (rw (e, le-leb _ _ g, le-leb _ _ h, lt-leb _ _ i) (record { text-told = refl; number-told = refl; line-told = refl; count-told = refl; list-kept = refl })))
