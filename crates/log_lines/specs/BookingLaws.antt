@@ -1,17 +1,15 @@
 -- What a line is that asks for something: formed, with an amount within the limit, its names being its fields 1 and 2. By the places of the fields.
 use mathlib.Core.Bool.{Bool, true, false, cond, _&&_, false≢true}
 use mathlib.Core.List.{List, [], _∷_}
-use mathlib.Core.Logic.{_↔_, _≢_, ⊎-elim}
+use mathlib.Core.Logic.{_≢_, ⊎-elim}
 use mathlib.Core.Path.{_≡_, refl, sym, ap, _∙_}
 use Prim.Native.Nat.{ℕ, _+_, _-_, _≤_, _<_}
 use native.Mathlib.Omega.{arith}
 use lib.Dec.{leb}
 use lib.ListN.{length, getD, take, drop}
-use borrow.Author.Tests.{eq-eqb, ne-eqb, leb-true, le-leb, lt-leb}
+use borrow.Author.Tests.{eq-eqb, ne-eqb, le-leb}
 use Rattle.model.specs.Limits.{AMOUNT}
-use Rattle.model.specs.Text.{bytes}
-use Rattle.text_fields.specs.Fields.{same, fields, field, isName, value}
-use Rattle.text_fields.specs.FieldLaws.{both, same-are-equal, equal-are-same}
+use Rattle.text_fields.specs.Fields.{same, fields, field, value}
 use Rattle.text_grammar.specs.Grammar.{split, checked, faultOf, sizeOf}
 use Rattle.text_grammar.specs.SplitLaws.{end-of-split, field-lies}
 use Rattle.text_grammar.specs.FormLaws.{formed-or-faulty}

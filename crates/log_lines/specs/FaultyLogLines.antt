@@ -19,7 +19,7 @@ use Rattle.text_grammar.specs.Grammar.{checked, faultOf, WrongCount, BadName, B
 use Rattle.text_grammar.specs.FormLaws.{another-letter}
 use Rattle.text_grammar.specs.RuleLaws as rule
 use Rattle.log_lines.specs.LogLines.{logForm, judged, booking, lineAs, logLine}
-use Rattle.log_lines.specs.BookingLaws.{IsFormed, formed-keeps, Asks, asking, judged-cases, letter-tells, asks-makes}
+use Rattle.log_lines.specs.BookingLaws.{IsFormed, formed-keeps, Asks, asking, judged-cases, letter-tells}
 use Rattle.log_lines.specs.declared.Line.{Line}
 use Rattle.log_lines.specs.declared.Line.the-variants.{Booking, Fault}
 

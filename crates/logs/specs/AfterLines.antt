@@ -2,14 +2,14 @@
 -- Document 02, Card 6 ("After every line each link's load is what the answered-0 lines opened over it less what they gave up, and never above twice its size").
 use mathlib.Core.List.{List, [], _∷_, map}
 use mathlib.Core.Logic.{_↔_, _≢_}
-use mathlib.Core.Path.{_≡_, refl, sym, ap, _∙_}
+use mathlib.Core.Path.{_≡_, refl, ap, _∙_}
 use Prim.Native.Nat.{ℕ, zero, suc, _+_, _*_, _≤_, _<_}
 use native.Mathlib.Omega.{arith}
 use lib.ListN.{length, take, drop, getD, length-map, List·getD-append}
 use Rattle.lists.specs.Numbers.{look, Each}
 use Rattle.model.specs.Limits.{OPEN}
 use Rattle.model.specs.Flows.{load, ends}
-use Rattle.model.specs.Booking.{placesOf, answer, after, answers, opened, givenUp, Asked, Entry}
+use Rattle.model.specs.Booking.{placesOf, answer, after, opened, givenUp, Asked, Entry}
 use Rattle.model.specs.declared.Pair.{Pair}
 use Rattle.model.specs.declared.Request.{Request}
 use Rattle.model.specs.declared.Request.the-variants as request

@@ -14,13 +14,13 @@ use Rattle.model.specs.Pairing.{lowerFirst}
 use Rattle.model.specs.Booking.{pair, openOf, answer}
 use Rattle.model.specs.declared.Pair.{Pair}
 use Rattle.model.specs.declared.Request.the-variants as request
-use Rattle.theory_log.specs.Answers.{Overfilled, NoPlace, Opening, overfills, crowds, fits, opening, says-14, says-15, says-16, gives-up, overfilled-by}
+use Rattle.theory_log.specs.Answers.{Overfilled, NoPlace, Opening, overfills, crowds, fits, opening, says-14, says-15, gives-up, overfilled-by}
 use Rattle.theory_log.specs.Answers.{answered-16-exactly-where-nothing-is-overfilled-and-there-is-no-place}
 use Rattle.text_lines.specs.Lines.{lineAt}
 use Rattle.text_fields.specs.Fields.{fields, field, value}
 use Rattle.sheet_names.specs.declared.Found.{Found}
 use Rattle.sheet_names.specs.declared.Found.the-variants.{At, Absent}
-use Rattle.sheet.specs.Sheet.{part, lookup}
+use Rattle.sheet.specs.Sheet.{lookup}
 use Rattle.log_lines.specs.LogLines.{logLine}
 use Rattle.log_lines.specs.BookingLaws.{Asks, asks-makes, name-is-field-1, name-is-field-2}
 use Rattle.log_lines.specs.FaultyLogLines.{LineFault, no-sign, wrong-count, bad-name, bad-number, wrong-amount, Tells, a-line-tells}

@@ -1,20 +1,19 @@
 -- The lines of a log one by one, and that what a line asks can be asked: two different sites and an amount within the limit.
 use mathlib.Core.Bool.{Bool, true, false, cond, _&&_, not}
-use mathlib.Core.List.{List, [], _∷_, _++_, map, append-assoc, map-append}
+use mathlib.Core.List.{List, [], _∷_, map}
 use mathlib.Core.Logic.{_≢_}
-use mathlib.Core.Path.{_≡_, refl, sym, ap, subst, _∙_}
+use mathlib.Core.Path.{_≡_, refl, sym, ap}
 use Prim.Native.Nat.{ℕ, zero, suc, _+_, _-_, _≤_, _<_}
 use native.Mathlib.Nat.{sub-zero}
 use native.Mathlib.Omega.{arith}
 use borrow.Author.Tests.{eqb-false, eq-eqb, ne-eqb, lt-ltb, le-ltb}
 use lib.Dec.{eqb, ltb}
-use lib.ListN.{length, drop, length-append}
+use lib.ListN.{length, drop}
 use Rattle.lists.specs.Numbers.{Each}
 use Rattle.model.specs.Limits.{AMOUNT}
 use Rattle.model.specs.Flows.{Site}
 use Rattle.model.specs.Booking.{pair, Proper, Asked}
 use Rattle.model.specs.declared.Pair.{Pair}
-use Rattle.model.specs.declared.Request.{Request}
 use Rattle.model.specs.declared.Request.the-variants as request
 use Rattle.text_lines.specs.Lines.{lineLength, lineAt, afterLine, hasLine}
 use Rattle.text_lines.specs.LineLaws.{length-of-line, no-line-past-the-sheet, after-line-is-later}
@@ -22,7 +21,7 @@ use Rattle.text_fields.specs.Fields.{fields, field, value}
 use Rattle.sheet_names.specs.LookupLaws.{Says, lookup-says}
 use Rattle.sheet_names.specs.declared.Found.{Found}
 use Rattle.sheet_names.specs.declared.Found.the-variants.{At, Absent}
-use Rattle.sheet.specs.Sheet.{part, lookup}
+use Rattle.sheet.specs.Sheet.{lookup}
 use Rattle.log_lines.specs.LogLines.{logLine}
 use Rattle.log_lines.specs.FaultyLogLines as line
 use Rattle.log_lines.specs.declared.Line.{Line}

@@ -12,7 +12,7 @@ use Rattle.model.specs.Flows.{Links, ends}
 use Rattle.model.specs.Booking.{answers}
 use Rattle.tree.specs.Offer.{links}
 use Rattle.sheet_names.specs.Names.{ranges, Different}
-use Rattle.sheet.specs.Sheet.{Network, Read, refused, accepted, readSheet}
+use Rattle.sheet.specs.Sheet.{Read, refused, accepted, readSheet}
 use Rattle.sheet.specs.Reading.{lists, reading}
 use Rattle.sheet.specs.ListLaws.{names-are}
 use Rattle.sheet.specs.SheetTheorem.{an-accepted-sheet-is-a-tree}

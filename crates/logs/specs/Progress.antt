@@ -10,7 +10,7 @@ use lib.Seq.{drop-cons}
 use Rattle.lists.specs.Numbers.{look}
 use Rattle.model.specs.Limits.{OPEN, SITES}
 use Rattle.model.specs.Flows.{Links}
-use Rattle.model.specs.Booking.{after, answers}
+use Rattle.model.specs.Booking.{answers}
 use Rattle.model.specs.declared.Request.{Request}
 use Rattle.theory_log.specs.Logs.{answers-one-more, each-line-gets-one-answer}
 use Rattle.text_lines.specs.Lines.{afterLine}

@@ -17,7 +17,6 @@ use Rattle.sheet.specs.Answers.{SheetNumber, refusals-have-sheet-numbers}
 use Rattle.sheet.specs.SheetTheorem.{a-sheet-is-refused-for-its-cause}
 use Rattle.logs.specs.Log.{lines, answersOf}
 use Rattle.logs.specs.Outcome.{Replayed, textOf, number, lineOf, countOf, replayOver, replayRead, replayed}
-use Rattle.logs.specs.declared.Outcome.the-variants.{Answered, Refused}
 
 -- text t is refused with number k at line l: the count is 0 and the list keeps its values
 pub record IsRefused (t k l : ℕ) (list : List ℕ) (o : Replayed) : Type 0 where

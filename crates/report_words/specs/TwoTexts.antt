@@ -10,7 +10,7 @@ use Rattle.lists.specs.Numbers.{pick}
 use Rattle.lists.specs.Sums.{pick-cases}
 use Rattle.text_writers.specs.Fields.{decimal, line}
 use Rattle.text_writers.specs.Decimal.{decimal-length}
-use Rattle.report_words.specs.Words.{grouped, place, cause, words}
+use Rattle.report_words.specs.Words.{grouped, words}
 use Rattle.report_words.specs.Lengths.{grouped-length, words-are-short}
 
 -- `refused`, text, number, line

@@ -1,6 +1,6 @@
 -- `answer_tree` meets its contract: the table of names, the ends and the table of paths are those of the tree.
 use mathlib.Core.List.{[], _++_}
-use mathlib.Core.Path.{_≡_, ap, _∙_}
+use mathlib.Core.Path.{ap, _∙_}
 use native.Mathlib.Omega.{arith}
 use borrow.Author.Needs.{needs}
 use lib.ListN.{length, drop}

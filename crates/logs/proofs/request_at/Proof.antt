@@ -1,12 +1,11 @@
 -- `request_at` meets its contract: a fault is passed on, and what is asked goes by the look-ups of the two names.
-use mathlib.Core.Path.{_≡_, sym, ap, ap₂, subst, _∙_}
+use mathlib.Core.Path.{sym, subst}
 use Prim.Native.Nat.{_<_}
 use native.Mathlib.Omega.{arith}
 use borrow.Author.Needs.{needs}
 use lib.ListN.{length}
-use Rattle.lists.specs.Numbers.{look}
 use Rattle.model.specs.Limits.{PLACES}
-use Rattle.sheet_names.specs.Names.{part, ranges, lookup}
+use Rattle.sheet_names.specs.Names.{part, ranges}
 use Rattle.sheet_names.specs.LookupLaws.{length-ranges}
 use Rattle.sheet.specs.StepCases.{Labelled, labelled}
 use Rattle.logs.specs.Log.{between, requestBy, requestAt}

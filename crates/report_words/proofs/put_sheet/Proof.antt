@@ -1,6 +1,5 @@
 -- `put_sheet` meets its contract: nothing for no line, else the word.
 use mathlib.Core.List.{[]}
-use mathlib.Core.Path.{sym}
 use borrow.Author.Needs.{needs}
 use Rattle.lists.specs.Sums.{pick-same, pick-other}
 use Rattle.model.specs.Text.{bytes}
