@@ -2,7 +2,7 @@
 -- Document 02, Card 6, and 01 on a second text read with the sheet (its refusals first, then 1, then 9, each at line 0).
 use mathlib.Core.Path.{_≡_, refl}
 use mathlib.Core.Logic.{_⊎_, inl, inr}
-use mathlib.Core.List.{List, _++_}
+use mathlib.Core.List.{List, [], _++_}
 use Prim.Native.Nat.{ℕ, _≤_, _<_}
 use native.Mathlib.Omega.{arith}
 use native.Mathlib.Decide.{decLe}
@@ -15,8 +15,10 @@ use Rattle.sheet.specs.Sheet.{Network, Read, refused, accepted, readSheet}
 use Rattle.sheet.specs.Causes.{Refusal}
 use Rattle.sheet.specs.Answers.{SheetNumber, refusals-have-sheet-numbers}
 use Rattle.sheet.specs.SheetTheorem.{a-sheet-is-refused-for-its-cause}
-use Rattle.logs.specs.Log.{lines, answersOf}
+use Rattle.model.specs.Booking.{answers}
+use Rattle.logs.specs.Log.{linesFrom, lines, requests, answersOf}
 use Rattle.logs.specs.Outcome.{Replayed, textOf, number, lineOf, countOf, replayOver, replayRead, replayed}
+use Rattle.logs.specs.declared.Outcome.the-variants.{Answered}
 
 -- text t is refused with number k at line l: the count is 0 and the list keeps its values
 pub record IsRefused (t k l : ℕ) (list : List ℕ) (o : Replayed) : Type 0 where
@@ -90,3 +92,9 @@ module _ (ed : Edition) (s log l : List ℕ) where
           faulty-sheet k line c (refusals-have-sheet-numbers ed s c)
           (rw e (record { text-told = refl; number-told = refl; line-told = refl; count-told = refl; list-kept = refl }))
       by (accepted net) e = over-log net e
+
+-- a log of 0 bytes has no lines: it is accepted with any list, which keeps its values (01: such a text is not refused for that)
+pub a-log-of-0-bytes-is-accepted : (ed : Edition) (s l : List ℕ) (net : Network) → readSheet ed s ≡ accepted net
+    → replayed ed s [] l ≡ record { outcome = Answered 0; list = l }
+unfolding replayed replayRead replayOver lines linesFrom requests answers
+a-log-of-0-bytes-is-accepted ed s l net e = rw (e, le-leb 0 (length l) (omega arith)) refl
