@@ -1,4 +1,5 @@
 -- `step` meets its contract: the lower site first, and the way of the request; a fault moves nothing.
+use mathlib.Core.Path.{_≡_}
 use borrow.Author.Needs.{needs}
 use Rattle.log_steps.proofs.Laws.{asked-wanted, open-answered, give-up-answered, fault-answered}
 use Rattle.log_steps.proofs.step.Statement.{statement}
