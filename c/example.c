@@ -1,8 +1,9 @@
 /*
  * Reads one sheet on standard input and writes the report, or the line "refused", tab, number,
  * tab, line. With the word "whole" behind its name it plans in whole circuits; with the word
- * "order" it writes the numbers of the sites in the order of work, one a line. Build, from the
- * root of the repository:
+ * "order" it writes the numbers of the sites in the order of work, one a line. With the word
+ * "replay" and two file names, a sheet and a booking log, it writes the answer to each line of the
+ * log, or "refused", tab, text, tab, number, tab, line. Build, from the root of the repository:
  *
  *   gcc -O2 -Ic c/example.c target/staticlib/libwaderarmoire.a -o example
  */
@@ -15,9 +16,57 @@
 static uint8_t sheet[WADERARMOIRE_SHEET_BYTES + 1];
 static uint8_t report[WADERARMOIRE_REPORT_BYTES];
 static size_t list[WADERARMOIRE_SITES];
+static uint8_t log_text[WADERARMOIRE_LOG_BYTES + 1];
+static uint64_t answers[WADERARMOIRE_LOG_LINES];
+
+/* Whether all that was printed is written. */
+static int end_output(void)
+{
+    if (fflush(stdout) != 0 || ferror(stdout)) {
+        perror("standard output");
+        return 1;
+    }
+    return 0;
+}
+
+/* Reads a file into the places of a buffer; 1 where it cannot be read. */
+static int read_file(const char *name, uint8_t *text, size_t places, size_t *length)
+{
+    FILE *file = fopen(name, "rb");
+    if (file == NULL) {
+        perror(name);
+        return 1;
+    }
+    *length = fread(text, 1, places, file);
+    int failed = ferror(file);
+    if (failed)
+        perror(name);
+    fclose(file);
+    return failed != 0;
+}
+
+/* Replays a log over a sheet, both files. */
+static int replay(const char *sheet_name, const char *log_name)
+{
+    size_t sheet_len, log_len;
+    if (read_file(sheet_name, sheet, sizeof sheet, &sheet_len) != 0
+        || read_file(log_name, log_text, sizeof log_text, &log_len) != 0)
+        return 1;
+    uint64_t answer = waderarmoire_replay(sheet, sheet_len, log_text, log_len, answers,
+                                          WADERARMOIRE_LOG_LINES);
+    if (waderarmoire_number(answer) != 0)
+        printf("refused\t%u\t%u\t%u\n", waderarmoire_text(answer), waderarmoire_number(answer),
+               waderarmoire_line(answer));
+    for (size_t line = 0; line < waderarmoire_length(answer); line++)
+        printf("%llu\n", (unsigned long long)answers[line]);
+    return end_output();
+}
 
 int main(int count, char **words)
 {
+    if (count == 4 && strcmp(words[1], "replay") == 0)
+        return replay(words[2], words[3]);
+
     size_t sheet_len = fread(sheet, 1, sizeof sheet, stdin);
     if (ferror(stdin)) {
         perror("standard input");
@@ -43,9 +92,5 @@ int main(int count, char **words)
     else
         fwrite(report, 1, length, stdout);
 
-    if (fflush(stdout) != 0 || ferror(stdout)) {
-        perror("standard output");
-        return 1;
-    }
-    return 0;
+    return end_output();
 }

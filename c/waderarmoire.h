@@ -2,8 +2,9 @@
  * Waderarmoire, the tree circuit planner: C interface of the static library.
  *
  * One call reads a network sheet and writes the report of its plan, in halves of a circuit or in
- * whole circuits, or lists its sites in the order of work, or tells why the sheet is refused. Link
- * with libwaderarmoire.a, which is built for x86-64 Linux.
+ * whole circuits, or lists its sites in the order of work, or replays a booking log over it, or
+ * tells why the sheet or the log is refused. Link with libwaderarmoire.a, which is built for x86-64
+ * Linux.
  *
  * The library allocates nothing, keeps nothing between calls, has no global state and calls
  * nothing but memcpy and memset: any number of threads may call it at once, each with a buffer
@@ -32,6 +33,10 @@ extern "C" {
 
 /* A list of this length is enough for the order of every accepted sheet. */
 #define WADERARMOIRE_SITES 256
+
+/* The largest log that is replayed, in bytes and in lines; a list of so many answers is enough. */
+#define WADERARMOIRE_LOG_BYTES 65536
+#define WADERARMOIRE_LOG_LINES 4096
 
 /* A thread with a stack of this length can plan every sheet. */
 #define WADERARMOIRE_STACK_BYTES 131072
@@ -73,6 +78,31 @@ uint64_t waderarmoire_order(const uint8_t *sheet, size_t sheet_len, size_t *list
                             size_t list_len);
 
 /*
+ * Replays a booking log of log_len bytes over the network of a sheet and writes the answer to each
+ * line into a list of answers_len places. A line is "+" to open or "-" to give up, then the names of
+ * two ends in either order and an amount in halves from 1 to 2,000,000, parted by tabs. Its answer:
+ *   0  done; else nothing is moved:
+ *   2  first field neither "+" nor "-", or a line that is not ended
+ *  10  wrong number of fields
+ *  11  a name is not 1 to 12 letters or digits
+ *  12  a number is not written in decimal without a leading zero
+ *   3  amount 0 or above 2,000,000
+ *   6  the names are not those of two different ends (a-z read as A-Z)
+ *  14  of "-": less than that is open between them
+ *  15  of "+": a link on the path would carry more than twice its size
+ *  16  of "+": 512 other pairs are open
+ *
+ * The caller owes the same for sheet, log and answers, the last of which is written. On success the
+ * places after the answers keep their values; on a refusal the whole list keeps its values.
+ * The answer of the call holds four numbers: the text that is refused (1 the sheet, 2 the log), its
+ * number and line, and the count of lines answered, which stands in the place of the length. The
+ * sheet's refusals come first; a log gets 1 for more bytes or lines than those above, then 9 for
+ * more lines than places, both at line 0.
+ */
+uint64_t waderarmoire_replay(const uint8_t *sheet, size_t sheet_len, const uint8_t *log,
+                             size_t log_len, uint64_t *answers, size_t answers_len);
+
+/*
  * The number of the refusal, or 0 for success:
  *   1  no bytes, or more than 16,384
  *   2  wrong heading, letter or line ending
@@ -92,7 +122,13 @@ uint64_t waderarmoire_order(const uint8_t *sheet, size_t sheet_len, size_t *list
  */
 static inline unsigned waderarmoire_number(uint64_t answer)
 {
-    return (unsigned)(answer >> 40);
+    return (unsigned)(answer >> 40) & 0xfffu;
+}
+
+/* Of a replay, the text that is refused: 1 the sheet, 2 the log; 0 for success. */
+static inline unsigned waderarmoire_text(uint64_t answer)
+{
+    return (unsigned)(answer >> 52);
 }
 
 /* The line at fault, counted from 1, or 0 when no line is. */
@@ -101,7 +137,7 @@ static inline unsigned waderarmoire_line(uint64_t answer)
     return (unsigned)(answer >> 20) & 0xfffffu;
 }
 
-/* The length of the report in bytes, or the count of sites of the order; 0 on a refusal. */
+/* The length of the report in bytes, or the count of sites of the order or of lines answered; 0 on a refusal. */
 static inline size_t waderarmoire_length(uint64_t answer)
 {
     return (size_t)(answer & 0xfffffu);

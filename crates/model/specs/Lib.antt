@@ -6,6 +6,7 @@ pub mod Trimming
 pub mod Cuts
 pub mod Pairing
 pub mod Parts
+pub mod Booking
 pub mod Whole
 pub mod WholeLoads
 pub mod Examples

@@ -1,4 +1,4 @@
--- The limits of the planner, by the names that src/lib.rt gives them. Document 01, "The network sheet"; a number changes here and there.
+-- The limits of the planner, by the names that src/lib.rt gives them. Document 01, "The network sheet", and 02, Card 6; a number changes here and there.
 -- Nothing but these two files knows them.
 use Prim.Native.Nat.{ℕ, _+_, _-_, _*_, _/_}
 
@@ -45,3 +45,23 @@ SIZE = 1000000
 -- bytes that are enough for every report
 abbrev pub REPORT : ℕ
 REPORT = 65536
+
+-- the largest number of lines of a booking log
+abbrev pub LOGLINES : ℕ
+LOGLINES = 4096
+
+-- the largest number of bytes of a booking log
+abbrev pub LOGBYTES : ℕ
+LOGBYTES = 65536
+
+-- the largest amount of a line of a booking log, in halves
+abbrev pub AMOUNT : ℕ
+AMOUNT = 2 * SIZE
+
+-- the largest number of pairs that are open together
+abbrev pub OPEN : ℕ
+OPEN = 512
+
+-- words of the table of paths: a set of links for each site
+abbrev pub ROWS : ℕ
+ROWS = WORDS * PLACES

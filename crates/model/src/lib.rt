@@ -37,6 +37,21 @@ pub const SIZE: u64 = 1000000;
 // Bytes that are enough for every report.
 pub const REPORT: usize = 65536;
 
+// The largest number of lines of a booking log.
+pub const LOGLINES: usize = 4096;
+
+// The largest number of bytes of a booking log.
+pub const LOGBYTES: usize = 65536;
+
+// The largest amount of a line of a booking log, in halves.
+pub const AMOUNT: u64 = 2 * SIZE;
+
+// The largest number of pairs that are open together.
+pub const OPEN: usize = 512;
+
+// Words of the table of paths: a set of links for each site.
+pub const ROWS: usize = WORDS * PLACES;
+
 // An entry of a multiflow (01: a pair of a plan): two sites and the amount between them.
 pub struct Pair {
     pub first: usize,
@@ -48,6 +63,13 @@ pub struct Pair {
 pub struct Pairs {
     pub list: [Pair; SITES],
     pub count: usize,
+}
+
+// What a line of a booking log asks (02, Card 6): to open or to give up an amount, in halves, between two sites; or its fault's number, which asks nothing.
+pub enum Request {
+    Open(Pair),
+    GiveUp(Pair),
+    Fault(u64),
 }
 
 // The limits that go with an edition of the sheet (01: edition): bytes of a sheet, sites, and the size of a link.

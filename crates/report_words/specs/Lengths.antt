@@ -34,7 +34,7 @@ unfolding comma three
 comma-length a n = length-append a (bytes "," ++ three n)
 
 -- a machine number with its commas
-grouped-length : (n : ℕ) → n < 2 ^ 64 → length (grouped n) ≤ 28
+pub grouped-length : (n : ℕ) → n < 2 ^ 64 → length (grouped n) ≤ 28
 grouped-length n l = elim (decLt n 1000) [
   | yes s ↦ omega (arith, ap length (grouped-small n s), decimal-length n l)
   | no s ↦ elim (decLt n (1000 * 1000)) [
@@ -55,7 +55,7 @@ grouped-length n l = elim (decLt n 1000) [
   ]
 ]
 
-place-length : (l : ℕ) → l < 2 ^ 64 → length (place l) ≤ 27
+pub place-length : (l : ℕ) → l < 2 ^ 64 → length (place l) ≤ 27
 unfolding place
 place-length l h =
     let told = bytes "line " ++ (decimal l ++ bytes ": ") in
@@ -66,7 +66,7 @@ place-length l h =
 limit-length : (t : List ℕ) (n : ℕ) → n < 2 ^ 64 → length t ≤ 50 → length (t ++ grouped n) ≤ 78
 limit-length t n l h = omega (arith, length-append t (grouped n), grouped-length n l)
 
-cause-length : (n : ℕ) → length (cause n) ≤ 78
+pub cause-length : (n : ℕ) → length (cause n) ≤ 78
 unfolding cause
 cause-length n =
     let P : List ℕ → Type 0 = λ t. length t ≤ 78 in

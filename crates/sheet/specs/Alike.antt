@@ -1,15 +1,14 @@
 -- Readings that agree line by line agree: where each line that today's reading reaches adds by other kinds and another look-up what it adds today, a
 -- sheet is read as today. By induction over the lines.
-use mathlib.Core.Bool.{Bool, true, false, cond, _&&_}
+use mathlib.Core.Bool.{Bool, true, false, cond}
 use mathlib.Core.List.{List}
 use mathlib.Core.Path.{_≡_, refl, ap}
 use Prim.Native.Nat.{ℕ, zero, suc, _<_}
-use lib.Dec.{leb}
 use lib.ListN.{length}
 use Rattle.model.specs.declared.Edition.{Edition}
 use Rattle.text_lines.specs.Lines.{afterLine, hasLine}
 use Rattle.text_lines.specs.LineLaws.{a-line-is-on-the-sheet}
-use Rattle.sheet.specs.Sheet.{Network, empty, Read, refused, accepted, stepOf, added, readLine, andThen, readLines, finish, readSheet}
+use Rattle.sheet.specs.Sheet.{Network, Read, refused, accepted, stepOf, added, readLine, andThen, readLines, readSheet}
 use Rattle.sheet.specs.Earlier.{Kinds, Lookup, stepBy, readLinesBy, readSheetBy}
 use Rattle.sheet.specs.Causes.{Reached, start, next}
 

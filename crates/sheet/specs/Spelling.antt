@@ -1,16 +1,15 @@
 -- What Card 4 changed in reading (document 02): a sheet on which no two names differ in case alone is read as it was when names were looked up by
 -- their bytes. By induction over the lines: the names that the lines above gave are those of site lines, so a name that is the same as one of
 -- them has its bytes.
-use mathlib.Core.Bool.{Bool, true, false, cond, true≢false, _&&_}
+use mathlib.Core.Bool.{Bool, true, false, true≢false}
 use mathlib.Core.List.{List, [], _∷_}
 use mathlib.Core.Logic.{_⊎_, inl, inr}
 use mathlib.Core.Path.{_≡_, refl, sym, ap, subst, _∙_}
 use Prim.Native.Nat.{ℕ, suc, _+_, _<_}
 use native.Mathlib.Omega.{arith}
-use lib.Dec.{eqb, leb, ltb}
-use lib.ListN.{length, getD, drop}
+use lib.ListN.{length, getD}
 use Rattle.model.specs.declared.Edition.{Edition}
-use Rattle.text_lines.specs.Lines.{lineLength, lineAt}
+use Rattle.text_lines.specs.Lines.{lineAt}
 use Rattle.text_fields.specs.Fields.{same, capitals, SameName, sameName}
 use Rattle.text_fields.specs.FieldLaws.{same-are-equal, equal-are-same, not-same}
 use Rattle.sheet_kinds.specs.LineKinds.{field, IsSite, IsLink, kind}
@@ -18,13 +17,12 @@ use Rattle.sheet_kinds.specs.KindForms.{Tells, a-kind-tells-its-form}
 use Rattle.sheet_kinds.specs.declared.Line.{Line}
 use Rattle.sheet_kinds.specs.declared.Line.the-variants as line
 use Rattle.sheet_names.specs.Names.{nameAt}
-use Rattle.sheet.specs.Sheet.{Network, siteStep, linkStep, headingStep, recordStep, stepOf, readSheet, part, lookup, lookupFrom}
+use Rattle.sheet.specs.Sheet.{Network, recordStep, stepOf, readSheet, part, lookup, lookupFrom}
 use Rattle.sheet.specs.Earlier.{lookupBytes, lookupBytesFrom, recordBy, stepBy, readSheetBy}
 use Rattle.sheet.specs.Alike.{offset, placed, a-sheet-is-read-alike}
 use Rattle.sheet.specs.Causes.{fieldsAt, Reached}
 use Rattle.sheet.specs.CauseLaws.{firstName, secondName, a-site-is-looked-up-by-field-1, a-link-is-looked-up-by-field-1, a-link-is-looked-up-by-field-2}
 use Rattle.sheet.specs.OwnLines.{OwnLine, own-lines}
-use Rattle.sheet.specs.declared.stepping.Step.the-variants.{Refused}
 
 -- ---- names on the lines of a sheet
 

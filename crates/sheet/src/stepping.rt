@@ -121,7 +121,8 @@ fn record_step(
         Line::Site { start, end } => {
             let from = at + start;
             let to = at + end;
-            let found = sheet_names::find(sheet, starts, ends, sites, table, from, to);
+            let name = sheet_names::part(sheet, from, to);
+            let found = sheet_names::find(sheet, starts, ends, sites, table, name);
             site_step(edition, here, sites, found, from, to)
         }
         Line::Link {
@@ -131,16 +132,10 @@ fn record_step(
             end2,
             size,
         } => {
-            let first = sheet_names::find(sheet, starts, ends, sites, table, at + start, at + end);
-            let second = sheet_names::find(
-                sheet,
-                starts,
-                ends,
-                sites,
-                table,
-                at + start2,
-                at + end2,
-            );
+            let one = sheet_names::part(sheet, at + start, at + end);
+            let two = sheet_names::part(sheet, at + start2, at + end2);
+            let first = sheet_names::find(sheet, starts, ends, sites, table, one);
+            let second = sheet_names::find(sheet, starts, ends, sites, table, two);
             link_step(here, labels, first, second, size)
         }
         Line::Fault(number) => Step::Refused { number, line: here },

@@ -2,18 +2,16 @@
 -- By the places of the fields.
 use mathlib.Core.Bool.{Bool, true, false, cond}
 use mathlib.Core.List.{List}
-use mathlib.Core.Path.{_≡_, refl, ap, _∙_}
+use mathlib.Core.Path.{_≡_, ap, _∙_}
 use Prim.Native.Nat.{ℕ, _+_, _-_, _≤_, _<_}
 use native.Mathlib.Nat.{sub-zero}
 use native.Mathlib.Omega.{arith}
-use lib.Dec.{leb}
 use lib.ListN.{length, getD, take, drop}
-use borrow.Author.Tests.{leb-true}
 use Rattle.model.specs.Text.{bytes}
 use Rattle.text_grammar.specs.Grammar.{ends, split}
 use Rattle.text_grammar.specs.SplitLaws.{field-lies, length-of-field, end-of-split}
 use Rattle.text_grammar.specs.declared.Fields.{Fields}
-use Rattle.sheet_kinds.specs.LineKinds.{same, fields, field, isName, value, isHeading, checked, siteForm, linkForm, IsSite, IsLink, siteLine, usableSize, linkOf}
+use Rattle.sheet_kinds.specs.LineKinds.{same, fields, field, isName, isHeading, checked, siteForm, linkForm, IsSite, IsLink, siteLine, usableSize, linkOf}
 use Rattle.sheet_kinds.specs.LineKinds.{sizedLink, linkLine, kindOf, kind}
 use Rattle.sheet_kinds.specs.LineKindLaws.{judged-cases, site-parts, link-parts, capacity-cases}
 use Rattle.sheet_kinds.specs.declared.Line.{Line}
@@ -34,10 +32,10 @@ module _ (l : List ℕ) where
   two = length (field (fields l) 2)
 
   -- where the second and the third field end, the first being one byte
-  second-end : 1 < length (fields l) → length (field (fields l) 0) ≡ 1 → getD (ends 0 (fields l)) 1 0 ≡ 2 + one
+  pub second-end : 1 < length (fields l) → length (field (fields l) 0) ≡ 1 → getD (ends 0 (fields l)) 1 0 ≡ 2 + one
   second-end h e = omega (arith, length-of-field (field-lies 0 l 0 (omega arith)), length-of-field (field-lies 1 l 0 h))
 
-  third-end : 2 < length (fields l) → length (field (fields l) 0) ≡ 1 → getD (ends 0 (fields l)) 2 0 ≡ 3 + one + two
+  pub third-end : 2 < length (fields l) → length (field (fields l) 0) ≡ 1 → getD (ends 0 (fields l)) 2 0 ≡ 3 + one + two
   third-end h e = omega (arith, second-end (omega arith) e, length-of-field (field-lies 2 l 0 h))
 
   -- the second and the third field, by their places

@@ -1,6 +1,6 @@
 -- Lines from before Card 5: a link line has four fields, and its capacity is its size. Document 02, Card 5 ("may carry a fifth field").
 -- A line that is no link line of five fields is what it was: by the count of its fields, and since no digits have the value 0.
-use mathlib.Core.Bool.{Bool, true, false, cond, _&&_}
+use mathlib.Core.Bool.{Bool, true, false, cond}
 use mathlib.Core.List.{List}
 use mathlib.Core.Logic.{_≢_, ⊎-elim}
 use mathlib.Core.Path.{_≡_, refl, sym, _∙_}

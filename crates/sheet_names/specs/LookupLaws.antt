@@ -1,6 +1,6 @@
 -- The look-up of a name: what is found has the same name, and where nothing is found no site has it. By induction over the names.
 use mathlib.Core.Bool.{Bool, true, false, cond, true≢false}
-use mathlib.Core.List.{List, [], _∷_}
+use mathlib.Core.List.{List, [], _∷_, _++_}
 use mathlib.Core.Path.{_≡_, refl, sym, ap, _∙_}
 use Prim.Native.Nat.{ℕ, zero, suc, _+_, _<_}
 use native.Mathlib.Omega.{arith}
@@ -63,3 +63,12 @@ ranges-at starts ends b (suc n) (suc i) l = let here : b + suc i ≡ suc b + i =
 
 pub range-at : (starts ends : List ℕ) (n i : ℕ) → i < n → getD (ranges starts ends 0 n) i (0, 0) ≡ (look starts i, look ends i)
 range-at starts ends n i l = rw zero-add at (ranges-at starts ends 0 n i l)
+
+-- one range more
+pub ranges-more : (starts ends : List ℕ) (b n : ℕ) → ranges starts ends b (n + 1) ≡ ranges starts ends b n ++ ((look starts (b + n), look ends (b + n)) ∷ [])
+unfolding ranges
+ranges-more starts ends b zero = let here : b + 0 ≡ b = omega arith in rw here
+ranges-more starts ends b (suc n) =
+    let here : b + suc n ≡ suc b + n = omega arith in
+    let more : suc n + 1 ≡ suc (n + 1) = omega arith in
+    rw (here, more) (ap (λ r. (look starts b, look ends b) ∷ r) (ranges-more starts ends (suc b) n))

@@ -5,7 +5,7 @@ use mathlib.Core.List.{List, [], _∷_, _++_}
 use mathlib.Core.Logic.{_≢_}
 use mathlib.Core.Path.{_≡_, refl, sym, ap, _∙_}
 use Prim.Native.Nat.{ℕ, _+_, _-_, _*_, _%_, _≤_, _<_}
-use native.Mathlib.Nat.{mod-lt}
+use native.Mathlib.Nat.{mod-lt, zero-add}
 use native.Mathlib.Decide.{decLt}
 use native.Mathlib.Numerals.{add-one}
 use native.Mathlib.Omega.{arith}
@@ -19,8 +19,8 @@ use Rattle.lists.specs.Sums.{same?}
 use Rattle.model.specs.Limits.{SITES}
 use Rattle.text_fields.specs.Fields.{SameName, caseless, lastWord}
 use Rattle.text_fields.specs.Capitals.{length-caseless, caseless-at, same-length, same-names-are-caseless-alike}
-use Rattle.sheet_names.specs.Names.{HASHES, TABLE, part, lookup, nameAt, hashFrom, hash, entered, Newest, Different, Indexes}
-use Rattle.sheet_names.specs.LookupLaws.{Says, lookup-says, first-is-found}
+use Rattle.sheet_names.specs.Names.{HASHES, TABLE, part, lookup, ranges, nameAt, hashFrom, hash, entered, Newest, Different, Indexes}
+use Rattle.sheet_names.specs.LookupLaws.{Says, lookup-says, first-is-found, length-ranges, range-at, ranges-more}
 use Rattle.sheet_names.specs.declared.Found.{Found}
 use Rattle.sheet_names.specs.declared.Found.the-variants.{At, Absent}
 
@@ -188,3 +188,20 @@ module _ {s : List ℕ} {names : List (ℕ × ℕ)} {table : List ℕ} (t : Inde
         newest = λ h l. rw more (newest-after h l);
         older = λ i l. older-after i (omega arith);
       }
+
+-- the first k of n ranges are different names where all are
+front-different : (s starts ends : List ℕ) (n k : ℕ) → k ≤ n → Different s (ranges starts ends 0 n) → Different s (ranges starts ends 0 k)
+front-different s starts ends n k l d j h i b =
+    let all = length-ranges starts ends 0 n in
+    let few = length-ranges starts ends 0 k in
+    rw (range-at starts ends k i (omega arith), range-at starts ends k j (omega arith))
+    (rw (range-at starts ends n i (omega arith), range-at starts ends n j (omega arith)) at (d j (omega arith) i b))
+
+-- the table of the first k of n ranges with the next one entered
+pub next-entered : (s starts ends table : List ℕ) (n k : ℕ) → n ≤ SITES → k < n → Different s (ranges starts ends 0 n) → Indexes s (ranges starts ends 0 k) table
+    → Indexes s (ranges starts ends 0 (k + 1)) (entered table (hash (part s (look starts k, look ends k))) (k + 1))
+next-entered s starts ends table n k room l different t =
+    let r : ℕ × ℕ = (look starts k, look ends k) in
+    let more : ranges starts ends 0 (k + 1) ≡ ranges starts ends 0 k ++ (r ∷ []) = rw zero-add at (ranges-more starts ends 0 k) in
+    let few = length-ranges starts ends 0 k in
+    rw more (rw few at (site-entered t r (omega arith) (rw more at (front-different s starts ends n (k + 1) (omega arith) different))))

@@ -3,7 +3,7 @@ ghost use mathlib.Core.Path.{_≡_};
 ghost use Prim.Native.Nat.{_≤_, min};
 ghost use Rattle.model.specs.Limits.{SITES};
 ghost use Rattle.text_fields.specs.Fields.{caseless};
-ghost use Rattle.sheet_names.specs.Names.{part, IsPart, lookup, ranges, hashFrom, hash, entered, Indexes};
+ghost use Rattle.sheet_names.specs.Names.{part, IsPart, lookup, ranges, hashFrom, hash, entered, Different, Indexes};
 use model::PLACES;
 use model::SITES;
 
@@ -71,21 +71,19 @@ pub fn enter(table: &mut [u16; TABLE], sheet: &[u8], start: usize, end: usize, s
     table[place] = site as u16;
 }
 
-// The number of the site whose name is the same as the part from a start to an end, the names of the sites being ranges of the sheet, by the table:
-// from the newest site with the name's hash back to the oldest. Only the planner's own crates call it.
+// The number of the site whose name is the same as a name, the names of the sites being ranges of the sheet, by the table: from the newest site with the
+// name's hash back to the oldest. Only the planner's own crates call it.
 pub fn find(
     sheet: &[u8],
     starts: &[usize; SITES],
     ends: &[usize; SITES],
     sites: usize,
     table: &[u16; TABLE],
-    start: usize,
-    end: usize,
+    name: &[u8],
 ) -> Found
     requires { ⌜ (sites ≤ SITES) × Indexes (now sheet) (ranges (now starts) (now ends) 0 sites) (now table) ⌝ }
-    ensures { λ r. ⌜ r ≡ lookup (now (sheet .entry)) (ranges (now (starts .entry)) (now (ends .entry)) 0 sites) (part (now (sheet .entry)) (start, end)) ⌝ }
+    ensures { λ r. ⌜ r ≡ lookup (now (sheet .entry)) (ranges (now (starts .entry)) (now (ends .entry)) 0 sites) (now (name .entry)) ⌝ }
 {
-    let name = part(sheet, start, end);
     let mut site = table[hash(name)] as usize;
     while 0 < site {
         let i = site - 1;
@@ -95,4 +93,23 @@ pub fn find(
         site = table[HASHES + site] as usize;
     }
     Found::Absent
+}
+
+// The table of the sites whose names, all different, are ranges of the sheet. Only the planner's own crates call it.
+pub fn index(
+    sheet: &[u8],
+    starts: &[usize; SITES],
+    ends: &[usize; SITES],
+    sites: usize,
+) -> [u16; TABLE]
+    requires { ⌜ (sites ≤ SITES) × Different (now sheet) (ranges (now starts) (now ends) 0 sites) ⌝ }
+    ensures { λ r. ⌜ Indexes (now (sheet .entry)) (ranges (now (starts .entry)) (now (ends .entry)) 0 sites) r ⌝ }
+{
+    let mut table = [0u16; TABLE];
+    let mut i = 0;
+    while i < sites {
+        enter(&mut table, sheet, starts[i], ends[i], i + 1);
+        i += 1;
+    }
+    table
 }

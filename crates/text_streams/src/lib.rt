@@ -1,23 +1,29 @@
-// Inner: only the planner's own programs call it. Standard input and output of a program; what fails is told on standard error in a line that begins
-// with `standard`, by which the script that runs the program knows it.
+// Inner: only the planner's own programs call it. Standard input, files and standard output of a program; what fails is told on standard error in a line that
+// begins with `standard` or `file`, by which the script that runs the program knows it.
 ghost use Rattle.io.specs.Counts.{Counts};
 use libc::STDERR_FILENO;
 use libc::STDIN_FILENO;
 use libc::STDOUT_FILENO;
 
-// What standard input came to: so many bytes, and whether each read went well.
+// What standard input or a file came to: so many bytes, and whether each read went well.
 pub struct Input {
     pub count: usize,
     pub whole: bool,
 }
 
-// Reads standard input once, no bytes at its end; where the read fails, says so.
-fn read_once(buf: &mut [u8]) -> Input
+// Says on standard error what failed, behind a word for its kind, and why. (A write that goes well leaves errno as it is.)
+fn fail(kind: &[u8], what: &[u8]) {
+    io::write_all(STDERR_FILENO, kind);
+    os::fail(what);
+}
+
+// Reads once from a descriptor, no bytes at the end; where the read fails, says so of what is read.
+fn read_once(from: i32, kind: &[u8], what: &[u8], buf: &mut [u8]) -> Input
     ensures { λ r. ⌜ Counts (r .count) (now (buf .exit)) ⌝ }
 {
-    let got = libc::read(STDIN_FILENO, buf);
+    let got = libc::read(from, buf);
     if got < 0 {
-        os::fail(b"standard input");
+        fail(kind, what);
         return Input {
             count: 0,
             whole: false,
@@ -27,13 +33,13 @@ fn read_once(buf: &mut [u8]) -> Input
     Input { count, whole: true }
 }
 
-// Reads standard input until the buffer is full or the input ends; where a read fails, says so.
-pub fn read(buf: &mut [u8]) -> Input
+// Reads from a descriptor until the buffer is full or the input ends; where a read fails, says so of what is read.
+fn read_from(from: i32, kind: &[u8], what: &[u8], buf: &mut [u8]) -> Input
     ensures { λ r. ⌜ Counts (r .count) (now (buf .exit)) ⌝ }
 {
     let mut count = 0;
     while count < buf.len() {
-        let some = read_once(&mut buf[count..]);
+        let some = read_once(from, kind, what, &mut buf[count..]);
         if !some.whole {
             return Input {
                 count,
@@ -47,6 +53,44 @@ pub fn read(buf: &mut [u8]) -> Input
         count += more;
     }
     Input { count, whole: true }
+}
+
+// Reads standard input until the buffer is full or the input ends; where a read fails, says so.
+pub fn read(buf: &mut [u8]) -> Input
+    ensures { λ r. ⌜ Counts (r .count) (now (buf .exit)) ⌝ }
+{
+    read_from(STDIN_FILENO, b"standard ", b"input", buf)
+}
+
+// Nothing is read.
+fn none_of(buf: &[u8]) -> Input
+    ensures { λ r. ⌜ Counts (r .count) (now (buf .entry)) ⌝ }
+{
+    Input {
+        count: io::count(0, buf),
+        whole: false,
+    }
+}
+
+// Reads the file that an argument names until the buffer is full or the file ends; where that fails, says so.
+pub fn read_file(argument: usize, buf: &mut [u8]) -> Input
+    ensures { λ r. ⌜ Counts (r .count) (now (buf .exit)) ⌝ }
+{
+    let mut name = io::buffer();
+    let length = os::arg(argument, &mut name);
+    if os::errno() != 0 {
+        fail(b"file ", b"argument");
+        return none_of(buf);
+    }
+    let path = &name[..length];
+    let file = os::open_read(path);
+    if file < 0 {
+        fail(b"file ", path);
+        return none_of(buf);
+    }
+    let input = read_from(file, b"file ", path, buf);
+    libc::close(file);
+    input
 }
 
 // Writes a text to standard output and tells whether all of it went; where not, says so.
@@ -65,5 +109,15 @@ pub fn refuse(number: u64, line: usize) {
     if write(&text[..length]) {
         let told = report_words::write_words(number, line, &mut text);
         io::write_all(STDERR_FILENO, &text[..told]);
+    }
+}
+
+// Writes the line of a refusal of one of two texts to standard output, and then what it means to standard error.
+pub fn refuse_text(text: u64, number: u64, line: usize) {
+    let mut buf = io::buffer();
+    let length = report_words::write_refusal_of(text, number, line, &mut buf);
+    if write(&buf[..length]) {
+        let told = report_words::write_words_of(text, number, line, &mut buf);
+        io::write_all(STDERR_FILENO, &buf[..told]);
     }
 }

@@ -4,6 +4,8 @@ use Rattle.planner.specs.declared.Outcome.{Outcome}
 use Rattle.planner.specs.declared.Outcome.the-variants.{Report, Refused}
 use Rattle.orders.specs.declared.Outcome.{Outcome as Order}
 use Rattle.orders.specs.declared.Outcome.the-variants as order
+use Rattle.logs.specs.declared.Outcome.{Outcome as Replay}
+use Rattle.logs.specs.declared.Outcome.the-variants as replay
 
 -- the refusal's number times 2 ^ 40, its line times 2 ^ 20, and the report's length. No remainder loses anything, and each can be read off: `Unpacked`.
 unfoldable pub packed : Outcome → ℕ
@@ -15,11 +17,20 @@ unfoldable pub asOutcome : Order → Outcome
 asOutcome (order.Taken n) = Report n
 asOutcome (order.Refused k l) = Refused k l
 
+-- what a replay comes to (02, Card 6): the text times 2 ^ 52, the refusal's number times 2 ^ 40, its line times 2 ^ 20, and the count of lines answered
+unfoldable pub packedReplay : Replay → ℕ
+packedReplay (replay.Answered n) = n % 1048576
+packedReplay (replay.Refused t k l) = t % 4096 * 4503599627370496 + k % 4096 * 1099511627776 + l % 1048576 * 1048576
+
 -- ---- taken apart, as the C header does (c/waderarmoire.h)
 
--- the number: value >> 40
+-- the text: value >> 52
+unfoldable pub unpackedText : ℕ → ℕ
+unpackedText value = value / 4503599627370496
+
+-- the number: (value >> 40) & 0xfff
 unfoldable pub unpackedNumber : ℕ → ℕ
-unpackedNumber value = value / 1099511627776
+unpackedNumber value = value / 1099511627776 % 4096
 
 -- the line: (value >> 20) & 0xfffff
 unfoldable pub unpackedLine : ℕ → ℕ

@@ -4,7 +4,8 @@ ghost use mathlib.Core.Path.{_≡_};
 ghost use Rattle.model.specs.Edition.{edition1};
 ghost use Rattle.planner.specs.Outcome.{planned, plannedWhole};
 ghost use Rattle.orders.specs.Outcome.{orderOf};
-ghost use Rattle.waderarmoire.specs.Packed.{packed, asOutcome};
+ghost use Rattle.logs.specs.Outcome.{replayed};
+ghost use Rattle.waderarmoire.specs.Packed.{packed, asOutcome, packedReplay};
 
 // An outcome as one number: the refusal's number times 2^40, its line times 2^20, and the report's length.
 fn pack(outcome: Outcome) -> u64
@@ -52,4 +53,25 @@ pub extern "C" fn waderarmoire_order(sheet: &[u8], list: &mut [usize]) -> u64
     ensures left { λ r. ⌜ now (list .exit) ≡ orderOf edition1 (now (sheet .entry)) (now (list .entry)) .list ⌝ }
 {
     pack(as_outcome(orders::order(sheet, list)))
+}
+
+// What a replay comes to as one number: the text times 2^52, the refusal's number times 2^40, its line times 2^20, and the count of lines answered.
+fn pack_replay(outcome: logs::Outcome) -> u64
+    ensures { λ r. ⌜ r ≡ packedReplay outcome ⌝ }
+{
+    match outcome {
+        logs::Outcome::Answered { count } => count as u64 % 1048576,
+        logs::Outcome::Refused { text, number, line } => text % 4096 * 4503599627370496
+            + number % 4096 * 1099511627776
+            + line as u64 % 1048576 * 1048576,
+    }
+}
+
+// Replays a booking log over a sheet into the caller's list of answers, as logs::replay does, and tells the outcome as one number.
+#[no_mangle]
+pub extern "C" fn waderarmoire_replay(sheet: &[u8], log: &[u8], answers: &mut [u64]) -> u64
+    ensures told { λ r. ⌜ r ≡ packedReplay (replayed edition1 (now (sheet .entry)) (now (log .entry)) (now (answers .entry)) .outcome) ⌝ }
+    ensures left { λ r. ⌜ now (answers .exit) ≡ replayed edition1 (now (sheet .entry)) (now (log .entry)) (now (answers .entry)) .list ⌝ }
+{
+    pack_replay(logs::replay(sheet, log, answers))
 }

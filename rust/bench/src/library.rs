@@ -25,11 +25,21 @@ pub fn time(libraries: &Libraries, sheet: &[u8]) -> Times {
     let mut buffer = vec![0; REPORT_BYTES];
     let report_bytes = (libraries.proved)(sheet, &mut buffer);
 
-    let mut proved = Timer::new(libraries.proved, sheet, &mut buffer);
-    let mut second = Timer::new(libraries.second, sheet, &mut buffer);
+    let mut other = vec![0; REPORT_BYTES];
+    time_calls(
+        || _ = black_box((libraries.proved)(black_box(sheet), &mut buffer)),
+        || _ = black_box((libraries.second)(black_box(sheet), &mut other)),
+        report_bytes,
+    )
+}
+
+/// Times two calls in turn, of the proved library and of the second.
+pub fn time_calls(proved: impl FnMut(), second: impl FnMut(), report_bytes: usize) -> Times {
+    let mut proved = Timer::new(proved);
+    let mut second = Timer::new(second);
     for _ in 0..ROUNDS {
-        proved.run(sheet, &mut buffer);
-        second.run(sheet, &mut buffer);
+        proved.run();
+        second.run();
     }
     Times {
         proved: median(&mut proved.timings),
@@ -69,39 +79,39 @@ fn of_second(outcome: Outcome) -> usize {
     }
 }
 
-/// One library and its timings.
-struct Timer {
-    plan: Plan,
-    plans: u32,
+/// A call of one library and its timings.
+struct Timer<Call> {
+    call: Call,
+    calls: u32,
     timings: Vec<f64>,
 }
 
-impl Timer {
-    fn new(plan: Plan, sheet: &[u8], buffer: &mut [u8]) -> Self {
+impl<Call: FnMut()> Timer<Call> {
+    fn new(call: Call) -> Self {
         let mut timer = Timer {
-            plan,
-            plans: 1,
+            call,
+            calls: 1,
             timings: Vec::with_capacity(ROUNDS),
         };
-        while timer.elapsed(sheet, buffer) < TIMING {
-            timer.plans *= 2;
+        while timer.elapsed() < TIMING {
+            timer.calls *= 2;
         }
         timer
     }
 
-    fn elapsed(&self, sheet: &[u8], buffer: &mut [u8]) -> Duration {
-        black_box((self.plan)(black_box(sheet), buffer));
+    fn elapsed(&mut self) -> Duration {
+        (self.call)();
         let start = Instant::now();
-        for _ in 0..self.plans {
-            black_box((self.plan)(black_box(sheet), buffer));
+        for _ in 0..self.calls {
+            (self.call)();
         }
         start.elapsed()
     }
 
-    fn run(&mut self, sheet: &[u8], buffer: &mut [u8]) {
-        let elapsed = self.elapsed(sheet, buffer);
+    fn run(&mut self) {
+        let elapsed = self.elapsed();
         self.timings
-            .push(microseconds(elapsed) / f64::from(self.plans));
+            .push(microseconds(elapsed) / f64::from(self.calls));
     }
 }
 

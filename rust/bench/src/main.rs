@@ -1,20 +1,22 @@
 //! Measures the proved planner beside the second one.
 //!
 //! ```text
-//! bench [--program FILE] [--second FILE] [--into FILE]
+//! bench [--program FILE] [--second FILE] [--replay FILE] [--into FILE]
 //! ```
 //!
 //! Prints tables in Markdown, or puts them into a file between the lines `<!-- measured -->` and
 //! `<!-- end -->`.
 
 mod library;
+mod log;
 mod machine;
 mod program;
 
 use library::Libraries;
+use program::Input;
 use sheets::{Layout, Names, Network, Random, SHAPES, Shape, Sizes};
 use std::fmt::Write;
-use std::path::PathBuf;
+use std::path::{Path, PathBuf};
 use std::process::ExitCode;
 
 const SITES: [usize; 5] = [16, 32, 64, 128, 256];
@@ -22,6 +24,8 @@ const SITES: [usize; 5] = [16, 32, 64, 128, 256];
 struct Options {
     program: PathBuf,
     second: PathBuf,
+    replay: PathBuf,
+    second_replay: PathBuf,
     into: Option<PathBuf>,
 }
 
@@ -42,6 +46,8 @@ fn options() -> Result<Options, String> {
     let mut options = Options {
         program: PathBuf::from("target/bin/plan"),
         second: this.with_file_name("second-plan"),
+        replay: PathBuf::from("target/bin/replay"),
+        second_replay: this.with_file_name("second-replay"),
         into: None,
     };
     let mut arguments = std::env::args().skip(1);
@@ -52,6 +58,7 @@ fn options() -> Result<Options, String> {
         match option.as_str() {
             "--program" => options.program = value.into(),
             "--second" => options.second = value.into(),
+            "--replay" => options.replay = value.into(),
             "--into" => options.into = Some(value.into()),
             _ => return Err(format!("unknown option {option}")),
         }
@@ -94,6 +101,7 @@ fn tables(options: &Options) -> Result<String, Box<dyn std::error::Error>> {
     }
     library_tables(&mut text, "in halves", &library::IN_HALVES)?;
     library_tables(&mut text, "in whole circuits", &library::IN_CIRCUITS)?;
+    log::tables(&mut text)?;
     program_table(&mut text, options)?;
     Ok(text)
 }
@@ -151,8 +159,10 @@ fn library_tables(text: &mut String, unit: &str, libraries: &Libraries) -> std::
 }
 
 fn program_table(text: &mut String, options: &Options) -> Result<(), Box<dyn std::error::Error>> {
-    let programs = [options.program.as_path(), options.second.as_path()];
-    if let Some(missing) = programs.iter().find(|program| !program.is_file()) {
+    let planners = [options.program.as_path(), options.second.as_path()];
+    let desks = [options.replay.as_path(), options.second_replay.as_path()];
+    let mut programs = planners.iter().chain(&desks);
+    if let Some(missing) = programs.find(|program| !program.is_file()) {
         return Err(format!("{} is missing", missing.display()).into());
     }
     let two_sites = b"network\t1\nN\ta\nN\tb\nL\ta\tb\t4\n".to_vec();
@@ -165,7 +175,8 @@ fn program_table(text: &mut String, options: &Options) -> Result<(), Box<dyn std
             largest_sheet(Shape::Prufer, 256),
         ),
     ];
-    let file = std::env::temp_dir().join(format!("bench-{}.sheet", std::process::id()));
+    let file = |kind| std::env::temp_dir().join(format!("bench-{}.{kind}", std::process::id()));
+    let [sheet_file, log_file] = ["sheet", "log"].map(file);
 
     writeln!(text, "\n### Programs, from start to end\n")?;
     writeln!(
@@ -174,18 +185,35 @@ fn program_table(text: &mut String, options: &Options) -> Result<(), Box<dyn std
     )?;
     writeln!(text, "|---|---:|---:|---:|---:|---:|")?;
     for (title, sheet) in sheets {
-        std::fs::write(&file, sheet)?;
-        let [proved, second] = program::times(programs, &file)?;
-        let [proved_peak, second_peak] =
-            programs.map(|program| program::peak_memory(program, &file));
-        writeln!(
-            text,
-            "| {title} | {proved:.0} | {second:.0} | {:.2} | {} | {} |",
-            proved / second,
-            proved_peak?,
-            second_peak?
-        )?;
+        std::fs::write(&sheet_file, sheet)?;
+        program_row(text, title, planners, &Input::Sheet(sheet_file.clone()))?;
     }
-    std::fs::remove_file(&file)?;
+    let case = log::largest(Shape::Prufer);
+    std::fs::write(&sheet_file, case.sheet)?;
+    std::fs::write(&log_file, case.log)?;
+    let files = [sheet_file.clone(), log_file.clone()];
+    let title = "the same shape, a log of 4,096 lines";
+    program_row(text, title, desks, &Input::Files(files))?;
+    std::fs::remove_file(&sheet_file)?;
+    std::fs::remove_file(&log_file)?;
+    Ok(())
+}
+
+/// The line of two programs with one input.
+fn program_row(
+    text: &mut String,
+    title: &str,
+    programs: [&Path; 2],
+    input: &Input,
+) -> Result<(), Box<dyn std::error::Error>> {
+    let [proved, second] = program::times(programs, input)?;
+    let [proved_peak, second_peak] = programs.map(|program| program::peak_memory(program, input));
+    writeln!(
+        text,
+        "| {title} | {proved:.0} | {second:.0} | {:.2} | {} | {} |",
+        proved / second,
+        proved_peak?,
+        second_peak?
+    )?;
     Ok(())
 }

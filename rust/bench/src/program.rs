@@ -3,7 +3,7 @@
 use crate::library::{median, microseconds};
 use std::fs::File;
 use std::io::{Result, Write, pipe};
-use std::path::Path;
+use std::path::{Path, PathBuf};
 use std::process::{Command, Stdio};
 use std::thread::sleep;
 use std::time::{Duration, Instant};
@@ -11,33 +11,48 @@ use std::time::{Duration, Instant};
 /// How often each program is run.
 const RUNS: usize = 501;
 
-/// Microseconds from starting each of two programs on a sheet to its end, the median of many
-/// runs in turn.
-pub fn times(programs: [&Path; 2], sheet: &Path) -> Result<[f64; 2]> {
+/// What a program reads.
+pub enum Input {
+    /// One sheet on standard input.
+    Sheet(PathBuf),
+    /// The files of a sheet and a log.
+    Files([PathBuf; 2]),
+}
+
+impl Input {
+    fn command(&self, program: &Path) -> Result<Command> {
+        let mut command = Command::new(program);
+        match self {
+            Input::Sheet(sheet) => command.stdin(File::open(sheet)?),
+            Input::Files(files) => command.args(files).stdin(Stdio::null()),
+        };
+        Ok(command)
+    }
+}
+
+/// Microseconds from starting each of two programs to its end, the median of many runs in turn.
+pub fn times(programs: [&Path; 2], input: &Input) -> Result<[f64; 2]> {
     let mut timings = [Vec::with_capacity(RUNS), Vec::with_capacity(RUNS)];
     for _ in 0..RUNS {
         for (program, timings) in programs.iter().zip(&mut timings) {
-            let input = File::open(sheet)?;
+            let mut command = input.command(program)?;
             let start = Instant::now();
-            Command::new(program)
-                .stdin(input)
-                .stdout(Stdio::null())
-                .status()?;
+            command.stdout(Stdio::null()).status()?;
             timings.push(microseconds(start.elapsed()));
         }
     }
     Ok(timings.map(|mut timings| median(&mut timings)))
 }
 
-/// The most memory a program has used, in KiB, by the time it prints its report on a sheet.
+/// The most memory a program has used, in KiB, by the time it prints its answer.
 ///
 /// Its output goes into a pipe that is full, so that it waits while the memory is looked up.
-pub fn peak_memory(program: &Path, sheet: &Path) -> Result<u64> {
+pub fn peak_memory(program: &Path, input: &Input) -> Result<u64> {
     const PIPE_BYTES: usize = 65_536;
     let (reader, mut writer) = pipe()?;
     writer.write_all(&[0; PIPE_BYTES])?;
-    let mut child = Command::new(program)
-        .stdin(File::open(sheet)?)
+    let mut child = input
+        .command(program)?
         .stdout(writer)
         .stderr(Stdio::null())
         .spawn()?;

@@ -3,6 +3,7 @@
 //! ```text
 //! differential [--sheets N] [--seed N] [--only INDEX] [--keep FILE] [--planted N]
 //!              [--runs N] [--program FILE] [--whole FILE] [--order FILE] [--example FILE]...
+//!              [--logs N] [--log INDEX] [--replay FILE]
 //! ```
 //!
 //! The sheets of the scope document come first, then small sheets with names in either case and with
@@ -13,7 +14,11 @@
 //! them. Orders of work are compared place for place, and some checked against the card's rule. The
 //! first sheet with a difference is kept in a file, and the seed and index that make it again are
 //! printed. With an error planted in the second planner, which needs the feature `planted`, only the
-//! random sheets are compared, to show that they find it.
+//! random sheets are compared, to show that they find it, or the random logs for an error in these.
+//!
+//! Then come booking logs: some with answers written by hand, all small ones over a short list of lines,
+//! random ones, and the programs over files. Answers are compared line by line and checked against the
+//! card.
 
 mod card;
 mod circuits;
@@ -22,6 +27,7 @@ mod damage;
 mod demands;
 mod exact;
 mod inward;
+mod logs;
 mod printed;
 mod programs;
 mod random;
@@ -42,7 +48,10 @@ struct Options {
     keep: PathBuf,
     runs: usize,
     programs: Programs,
-    planted: bool,
+    planted: Option<u64>,
+    logs: u64,
+    only_log: Option<u64>,
+    log_programs: logs::Programs,
 }
 
 /// A sheet on which something is wrong.
@@ -75,7 +84,13 @@ fn options() -> Result<Options, String> {
                 .map(programs::beside_this_program),
             examples: Vec::new(),
         },
-        planted: false,
+        planted: None,
+        logs: 30_000,
+        only_log: None,
+        log_programs: logs::Programs {
+            proved: PathBuf::from("target/bin/replay"),
+            second: programs::beside_this_program("second-replay"),
+        },
     };
     let mut arguments = std::env::args().skip(1);
     while let Some(option) = arguments.next() {
@@ -99,8 +114,11 @@ fn options() -> Result<Options, String> {
             "--example" => options.programs.examples.push(value.into()),
             "--planted" => {
                 plant(number()?)?;
-                options.planted = true;
+                options.planted = Some(number()?);
             }
+            "--logs" => options.logs = number()?,
+            "--log" => options.only_log = Some(number()?),
+            "--replay" => options.log_programs.proved = value.into(),
             _ => return Err(format!("unknown option {option}")),
         }
     }
@@ -128,7 +146,9 @@ fn run(options: &Options) -> ExitCode {
     let start = Instant::now();
     let outcome = if let Some(index) = options.only {
         random::compare_one(options.seed, index, |sheet| keep(sheet, options))
-    } else if options.planted {
+    } else if options.only_log.is_some() || options.planted.is_some_and(is_of_logs) {
+        compare_logs(options)
+    } else if options.planted.is_some() {
         random::compare_all(options.seed, options.sheets)
     } else {
         small::tried_sheets()
@@ -137,6 +157,7 @@ fn run(options: &Options) -> ExitCode {
             .and_then(|()| small::small_trees())
             .and_then(|()| random::compare_all(options.seed, options.sheets))
             .and_then(|()| options.programs.compare(options.seed, options.runs))
+            .and_then(|()| compare_logs(options))
     };
     let Err(failure) = outcome else {
         println!("no difference in {:.1} s", start.elapsed().as_secs_f64());
@@ -150,6 +171,30 @@ fn run(options: &Options) -> ExitCode {
         keep(&sheet, options);
     }
     ExitCode::FAILURE
+}
+
+/// Whether a planted error is one in the replay of logs.
+fn is_of_logs(number: u64) -> bool {
+    number >= second::planted::Error::FirstLinkOnly as u64
+}
+
+/// Compares the planners on booking logs: on a single one, on random ones, or on all.
+fn compare_logs(options: &Options) -> Result<(), Failure> {
+    let seed = options.seed;
+    let compared = if let Some(index) = options.only_log {
+        logs::compare_one(seed, index)
+    } else if options.planted.is_some() {
+        logs::compare_all(seed, options.logs)
+    } else {
+        let runs = options.runs as u64 / 2;
+        logs::small()
+            .and_then(|()| logs::compare_all(seed, options.logs))
+            .and_then(|()| {
+                let programs = &options.log_programs;
+                programs.compare(seed, runs, &options.programs.examples)
+            })
+    };
+    compared.map_err(|different| different.keep(&options.keep))
 }
 
 /// Keeps a sheet in the file for it.

@@ -1,13 +1,13 @@
 //! A second tree circuit planner.
 //!
 //! It reads a network sheet and writes the report headed `plan`, or that headed `whole`, or lists the
-//! sites in the order of work, or tells why the sheet is refused. It was written from the scope
-//! document and the cards alone and shares nothing with the proved planner, so that comparing the
-//! two can find a mistake in either.
+//! sites in the order of work, or replays a booking log over it, or tells why the sheet is refused. It
+//! was written from the scope document and the cards alone and shares nothing with the proved planner,
+//! so that comparing the two can find a mistake in either.
 //!
 //! Every step takes time linear in the sheet, or as good as linear: finding out whether two sites
 //! are joined already, names that collide in their hash table, and the sites that may be taken next,
-//! kept in order, may add a little.
+//! kept in order, may add a little. A line of a log takes time in the length of the path between its sites.
 //!
 //! | module | step |
 //! |---|---|
@@ -23,6 +23,7 @@
 //! | `pairs` | pairs the ends by splitting lists |
 //! | `report` | writes the report |
 //! | `order` | takes the sites in the order of work |
+//! | `replay` | replays a booking log over the network |
 //! | `program` | what the programs do |
 //!
 //! Sites and links are numbered from 0 inside, in the order of their lines. The capacity of a link is
@@ -40,6 +41,7 @@ mod pairs;
 mod pieces;
 pub mod planted;
 pub mod program;
+mod replay;
 mod report;
 mod tree;
 mod trim;
@@ -48,6 +50,7 @@ mod whole;
 use forest::Forest;
 use network::Network;
 use planted::{Error, planted};
+pub use replay::{AMOUNT, LOG_BYTES, LOG_LINES, OPEN_PAIRS, Replayed, replay};
 use report::Shown;
 use tree::RootedTree;
 use trim::Balanced;

@@ -41,7 +41,7 @@ pub struct Network<'sheet> {
 
 /// A fault of one line.
 #[derive(Clone, Copy, PartialEq, Eq)]
-enum Fault {
+pub enum Fault {
     /// The form is wrong; `form` tells how. All faults of form come before the others.
     Form,
     /// The number of another cause.
@@ -87,21 +87,25 @@ impl<'sheet> Network<'sheet> {
 
     /// Reads the whole sheet, or tells its refusal.
     pub fn read(&mut self) -> Result<(), Refusal> {
+        self.read_with(&mut NameTable::new())
+    }
+
+    /// The same with an empty table, which then finds the sites of the sheet.
+    pub fn read_with(&mut self, table: &mut NameTable) -> Result<(), Refusal> {
         if self.sheet.is_empty() || self.sheet.len() > SHEET_BYTES {
             return Err(Refusal { number: 1, line: 0 });
         }
         if !self.sheet.starts_with(HEADING) {
             return Err(Refusal { number: 2, line: 1 });
         }
-        let mut table = NameTable::new();
         let mut joined = JoinedSites::new();
         let mut position = HEADING.len();
         let mut line = 1;
         while position < self.sheet.len() {
             line += 1;
             let read = match load::<2>(self.sheet, position) {
-                [b'N', b'\t'] => self.read_site(position, &mut table),
-                [b'L', b'\t'] => self.read_link(position, &table, &mut joined),
+                [b'N', b'\t'] => self.read_site(position, table),
+                [b'L', b'\t'] => self.read_link(position, table, &mut joined),
                 _ => Err(Fault::Form),
             };
             match read {
@@ -206,6 +210,15 @@ impl<'sheet> Network<'sheet> {
         self.names[usize::from(site)]
     }
 
+    /// The site of a name in either case; but by bytes if the error that does so is planted.
+    #[inline]
+    pub fn site(&self, table: &NameTable, name: Name, by_bytes: Error) -> Option<u8> {
+        match table.find(&self.names, name, by_bytes) {
+            Found::Site(site) => Some(site),
+            Found::Empty(_) => None,
+        }
+    }
+
     /// The links, in the order of their lines.
     pub fn links(&self) -> &[Link] {
         &self.links[..self.link_count]
@@ -242,7 +255,7 @@ impl<'sheet> Network<'sheet> {
 
 /// `COUNT` bytes of the sheet from `position`, zero bytes past its end.
 #[inline(always)]
-fn load<const COUNT: usize>(sheet: &[u8], position: usize) -> [u8; COUNT] {
+pub fn load<const COUNT: usize>(sheet: &[u8], position: usize) -> [u8; COUNT] {
     if let Some(bytes) = sheet.get(position..).and_then(|rest| rest.first_chunk()) {
         *bytes
     } else {
@@ -260,7 +273,7 @@ fn load_tail<const COUNT: usize>(sheet: &[u8], position: usize) -> [u8; COUNT] {
 
 /// Reads a name that `after` follows; returns it and the position past `after`.
 #[inline(always)]
-fn read_name(sheet: &[u8], position: usize, after: u8) -> Result<(Name, usize), Fault> {
+pub fn read_name(sheet: &[u8], position: usize, after: u8) -> Result<(Name, usize), Fault> {
     let bytes = load::<16>(sheet, position);
     let (name, length) = Name::at_start(bytes).ok_or(Fault::Form)?;
     if bytes[length] == after {
@@ -320,7 +333,7 @@ fn is_told_late(fault: Fault) -> bool {
 /// Reads a number; returns it, the byte behind it and the position past that byte. Every number
 /// above the largest capacity may be returned as another such number.
 #[inline(always)]
-fn read_number(sheet: &[u8], position: usize) -> Result<(u32, u8, usize), Fault> {
+pub fn read_number(sheet: &[u8], position: usize) -> Result<(u32, u8, usize), Fault> {
     const EVERY_BYTE: u64 = u64::MAX / 0xff;
     let bytes = load::<8>(sheet, position);
     let word = u64::from_le_bytes(bytes);

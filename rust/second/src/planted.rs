@@ -1,6 +1,6 @@
 //! Errors planted on purpose.
 //!
-//! With the feature `planted` one of thirty-nine errors can be switched on, to show that the comparison
+//! With the feature `planted` one of fifty-five errors can be switched on, to show that the comparison
 //! of the planners finds it. Without the feature none of this reaches the compiled planner.
 
 /// An error that can be planted, numbered from 1.
@@ -84,10 +84,42 @@ pub enum Error {
     PiecesByGiven = 38,
     /// The reserve is passed over.
     ReservePassedOver = 39,
+    /// Of a path the first link alone is looked at for an overfilled one.
+    FirstLinkOnly = 40,
+    /// Loads in halves are held against the capacity in circuits.
+    AgainstCapacity = 41,
+    /// A line that gives up more than is open takes what there is.
+    TakesLess = 42,
+    /// What may be given up is told by the loads of the path.
+    GiveUpByLoad = 43,
+    /// A pair refused for an overfilled link is open with nothing.
+    RefusedOpensPlace = 44,
+    /// A 513th pair is told before an overfilled link.
+    PlaceBeforeLoad = 45,
+    /// 513 pairs may be open together.
+    OnePlaceMore = 46,
+    /// The two orders of a pair are two pairs.
+    OrderedPairs = 47,
+    /// A log is refused for one line with a fault of its own.
+    LogRefused = 48,
+    /// A pair may have joints.
+    JointsAccepted = 49,
+    /// A list that is too short for the answers is told before a log that is too long.
+    ShortAnswersFirst = 50,
+    /// The answers are written, as far as there are places, before the log is refused.
+    AnswersOnRefusal = 51,
+    /// Log lines name sites by bytes.
+    LogByBytes = 52,
+    /// A pair that falls to nothing keeps its place.
+    PlaceKept = 53,
+    /// Names that are not two different ends are told before an amount out of its range.
+    EndsBeforeAmount = 54,
+    /// A last line without byte 10 is left out.
+    UnendedLeftOut = 55,
 }
 
 /// All errors, in the order of their numbers.
-pub const ERRORS: [Error; 39] = [
+pub const ERRORS: [Error; 55] = [
     Error::RoundedHalf,
     Error::HighestRoot,
     Error::UpwardSets,
@@ -127,6 +159,22 @@ pub const ERRORS: [Error; 39] = [
     Error::SetsByGiven,
     Error::PiecesByGiven,
     Error::ReservePassedOver,
+    Error::FirstLinkOnly,
+    Error::AgainstCapacity,
+    Error::TakesLess,
+    Error::GiveUpByLoad,
+    Error::RefusedOpensPlace,
+    Error::PlaceBeforeLoad,
+    Error::OnePlaceMore,
+    Error::OrderedPairs,
+    Error::LogRefused,
+    Error::JointsAccepted,
+    Error::ShortAnswersFirst,
+    Error::AnswersOnRefusal,
+    Error::LogByBytes,
+    Error::PlaceKept,
+    Error::EndsBeforeAmount,
+    Error::UnendedLeftOut,
 ];
 
 #[cfg(feature = "planted")]

@@ -4,8 +4,11 @@
 #![forbid(unsafe_code)]
 
 pub mod cases;
+pub mod ledger;
+pub mod logs;
 pub mod order;
 mod random;
+pub mod replay;
 pub mod reserve;
 mod tree;
 pub mod tried;

@@ -58,6 +58,17 @@
 //! # Ok::<(), waderarmoire::Refusal>(())
 //! ```
 //!
+//! [`replay`] runs a booking log over a sheet: what was opened and given up between two ends, line by
+//! line. A line that would overfill a link gets 15, one that gives up more than is open 14:
+//!
+//! ```
+//! let sheet = b"network\t1\nN\ta\nN\tb\nL\ta\tb\t4\n";
+//! let log = b"+\ta\tb\t8\n+\tb\ta\t1\n-\tb\ta\t9\n-\ta\tb\t8\n";
+//! let mut answers = [0; waderarmoire::LOG_LINES];
+//! assert_eq!(waderarmoire::replay(sheet, log, &mut answers)?, [0, 15, 14, 0]);
+//! # Ok::<(), waderarmoire::ReplayRefusal>(())
+//! ```
+//!
 //! A sheet with a fault is refused with the number of its cause and its line, and says in the
 //! words of the program what is wrong:
 //!
@@ -69,7 +80,7 @@
 //!
 //! # What a call does
 //!
-//! [`plan`], [`whole`] and [`order`] are safe for every sheet and every buffer or list, and every
+//! [`plan`], [`whole`], [`order`] and [`replay`] are safe for every sheet and every buffer or list, and every
 //! call ends. They allocate nothing, keep nothing between calls and have no global state: any number
 //! of threads may call them at once, each with a buffer or list of its own. The caller of this crate
 //! owes nothing more; what the library below asks, pointers that are not null and areas that do not
@@ -86,6 +97,9 @@
 //! `WADERARMOIRE_LIB_DIR`, or else in `target/staticlib` at the root of the repository, where
 //! `rt staticlib waderarmoire` puts it.
 
+mod replay;
+
+pub use replay::{LOG_BYTES, LOG_LINES, ReplayRefusal, replay};
 use std::error::Error;
 use std::fmt;
 

@@ -1,7 +1,6 @@
 -- `capacity_of` meets its contract: the size, then the reserve, then the two against each other.
 use borrow.Author.Needs.{needs}
 use borrow.Author.Tests.{le-leb, lt-leb}
-use native.Mathlib.Omega.{arith}
 use Rattle.sheet_kinds.specs.LineKinds.{capacityOf}
 use Rattle.sheet_kinds.proofs.capacity_of.Statement.{statement}
 use Rattle.sheet_kinds.proofs.capacity_of.Tie as tie

@@ -1,5 +1,4 @@
 -- `usable` meets its contract: a link line has its fourth field.
-use mathlib.Core.Path.{ap}
 use native.Mathlib.Omega.{arith}
 use Rattle.text_fields.specs.Fields.{fields}
 use Rattle.text_grammar.specs.SplitLaws.{count-of-split}

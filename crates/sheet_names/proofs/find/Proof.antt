@@ -7,46 +7,41 @@ use borrow.Author.Needs.{needs}
 use Rattle.lists.specs.Numbers.{look}
 use Rattle.text_fields.specs.Fields.{same, capitals, sameName}
 use Rattle.text_fields.specs.FieldLaws.{same-are-equal, equal-are-same}
-use Rattle.sheet_names.specs.Names.{HASHES, part, ranges, nameAt, hash}
+use Rattle.sheet_names.specs.Names.{HASHES, ranges, nameAt}
 use Rattle.sheet_names.specs.LookupLaws.{length-ranges, range-at}
 use Rattle.sheet_names.specs.TableLaws.{hash-below, Back, back-from, back-to, goes-back, none-there, site-there}
 use Rattle.sheet_names.proofs.find.Statement.{statement}
 use Rattle.sheet_names.proofs.find.Tie as tie
 
 abbrev Inv-loop : tie.InvT-loop
-Inv-loop sheet starts ends sites table start end name site₀ site =
-    (site ≤ sites) × Back sheet (ranges starts ends 0 sites) (part sheet (start, end)) site
+Inv-loop sheet starts ends sites table name site₀ site = (site ≤ sites) × Back sheet (ranges starts ends 0 sites) name site
 
 abbrev μ-loop : tie.MeasureT-loop
-μ-loop sheet starts ends sites table start end name site₀ site = site
+μ-loop sheet starts ends sites table name site₀ site = site
 
--- the hash is that of the name, and a place of the table
-hash-is : (c : tie.After-hash Inv-loop μ-loop) → let a = c .before .before .before .args in
-    c .hash .result ≡ hash (part (a .sheet .now) (a .start, a .end))
-hash-is c = rw (c .before .part .ensures .bytes) at (c .hash .ensures)
-
+-- the hash is a place of the table
 place : (c : tie.After-hash Inv-loop μ-loop) → c .hash .result < HASHES
-place c = let a = c .before .before .before .args in rw (hash-is c) (hash-below (part (a .sheet .now) (a .start, a .end)))
+place c = rw (c .hash .ensures) (hash-below (c .before .before .before .args .name .now))
 
 -- the way back starts at what stands there
 starts-there : (c : tie.After-hash Inv-loop μ-loop) → let a = c .before .before .before .args in let v = look (a .table .now) (c .hash .result) in
-    (v ≤ a .sites) × Back (a .sheet .now) (ranges (a .starts .now) (a .ends .now) 0 (a .sites)) (part (a .sheet .now) (a .start, a .end)) v
+    (v ≤ a .sites) × Back (a .sheet .now) (ranges (a .starts .now) (a .ends .now) 0 (a .sites)) (a .name .now) v
 starts-there c =
     let start = c .before .before .before in
     let a = start .args in
-    let from = back-from (start .pre .1) (part (a .sheet .now) (a .start, a .end)) in
-    rw (hash-is c) (omega (arith, from .within, length-ranges (a .starts .now) (a .ends .now) 0 (a .sites)), from)
+    let from = back-from (start .pre .1) (a .name .now) in
+    rw (c .hash .ensures) (omega (arith, from .within, length-ranges (a .starts .now) (a .ends .now) 0 (a .sites)), from)
 
 -- what the test says: whether the site has the name
 tested : (c : tie.After-same-name Inv-loop μ-loop) → let top = c .before .before .before .before .before in
     let a = top .before .before .before .before .before .args in
     c .same-name .result
-    ≡ sameName (nameAt (a .sheet .now) (ranges (a .starts .now) (a .ends .now) 0 (a .sites)) (top .loop .site - 1)) (part (a .sheet .now) (a .start, a .end))
+    ≡ sameName (nameAt (a .sheet .now) (ranges (a .starts .now) (a .ends .now) 0 (a .sites)) (top .loop .site - 1)) (a .name .now)
 tested c =
     let top = c .before .before .before .before .before in
     let a = top .before .before .before .before .before .args in
     rw (range-at (a .starts .now) (a .ends .now) (a .sites) (top .loop .site - 1) (omega arith))
-    (rw (c .before .part2 .ensures .bytes, top .before .before .before .part .ensures .bytes) at (c .same-name .ensures))
+    (rw (c .before .part .ensures .bytes) at (c .same-name .ensures))
 
 -- the next site is an older one
 next : (c : tie.After-site2 Inv-loop μ-loop) → let top = c .before .before .before .before .before .before .before in
@@ -54,14 +49,13 @@ next : (c : tie.After-site2 Inv-loop μ-loop) → let top = c .before .before .b
 next c =
     let top = c .before .before .before .before .before .before .before in
     let start = top .before .before .before .before .before in
-    goes-back (start .pre .1) (part (start .args .sheet .now) (start .args .start, start .args .end)) (top .loop .site) (omega arith)
-    (top .loop .inv .1 .within)
+    goes-back (start .pre .1) (start .args .name .now) (top .loop .site) (omega arith) (top .loop .inv .1 .within)
 
 returns : tie.Need-returns Inv-loop μ-loop
 returns c =
     let top = c .before .before .before .before .before .before in
     let start = top .before .before .before .before .before in
-    sym (site-there (start .pre .1) (part (start .args .sheet .now) (start .args .start, start .args .end)) (top .loop .site) (omega arith)
+    sym (site-there (start .pre .1) (start .args .name .now) (top .loop .site) (omega arith)
     (top .loop .inv .1 .within) (same-are-equal _ _ (sym (tested (c .before)) ∙ c .if1 .taken)))
 
 loop-again : tie.Need-loop-again Inv-loop μ-loop
@@ -69,7 +63,7 @@ loop-again c =
     let test = c .before in
     let top = c .before .before .before .before .before .before .before in
     let start = top .before .before .before .before .before in
-    let f = part (start .args .sheet .now) (start .args .start, start .args .end) in (
+    let f = start .args .name .now in (
       omega (arith, next c),
       back-to (start .pre .1) f (top .loop .site) (top .loop .inv .1) (omega arith)
           (λ e. true≢false (sym (equal-are-same (capitals f)) ∙ ap (λ g. same g (capitals f)) (sym e) ∙ sym (tested (test .before)) ∙ test .if1 .left)),
@@ -80,7 +74,7 @@ returns-2 c =
     let top = c .before in
     let start = top .before .before .before .before .before in
     let over : top .loop .site ≡ 0 = omega arith in
-    sym (none-there (start .pre .1) (part (start .args .sheet .now) (start .args .start, start .args .end)) (rw over at (top .loop .inv .1)))
+    sym (none-there (start .pre .1) (start .args .name .now) (rw over at (top .loop .inv .1)))
 
 pub find-spec : {M : Type 1} → statement M
 find-spec =
@@ -88,7 +82,6 @@ find-spec =
     (tie.spec
     Inv-loop
     μ-loop
-    (λ c κs. search needs)
     (λ c κs. search needs)
     (λ c. omega (arith, place c))
     (λ c. omega (arith, place c))

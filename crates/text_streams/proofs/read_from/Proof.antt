@@ -1,18 +1,18 @@
--- `read` meets its contract. The loop's invariant: the count is within the buffer, whose length stays. The measure is what is left of the buffer.
+-- `read_from` meets its contract. The loop's invariant: the count is within the buffer, whose length stays. The measure is what is left of the buffer.
 use mathlib.Core.Path.{_≡_, refl, sym, _∙_}
 use Prim.Native.Nat.{_≤_, _-_}
 use native.Mathlib.Omega.{arith}
 use lib.ListN.{length}
 use lib.Seq.{length-take-le}
 use borrow.Author.Needs.{needs}
-use Rattle.text_streams.proofs.read.Statement.{statement}
-use Rattle.text_streams.proofs.read.Tie as tie
+use Rattle.text_streams.proofs.read_from.Statement.{statement}
+use Rattle.text_streams.proofs.read_from.Tie as tie
 
 abbrev Inv-loop : tie.InvT-loop
-Inv-loop buf₀ count₀ buf count = (count ≤ length buf) × (length buf ≡ length buf₀)
+Inv-loop from kind what buf₀ count₀ buf count = (count ≤ length buf) × (length buf ≡ length buf₀)
 
 abbrev μ-loop : tie.MeasureT-loop
-μ-loop buf₀ count₀ buf count = length buf - count
+μ-loop from kind what buf₀ count₀ buf count = length buf - count
 
 loop-holds : tie.Need-loop-holds Inv-loop μ-loop
 loop-holds c = (omega arith, refl)
@@ -64,8 +64,8 @@ same-length-3 c = search needs
 returns-3 : tie.Need-returns-3 Inv-loop μ-loop
 returns-3 c = (omega arith, sym (length-take-le _ _ (omega arith)))
 
-pub read-spec : {M : Type 1} → statement M
-read-spec =
+pub read-from-spec : {M : Type 1} → statement M
+read-from-spec =
     tie.close
     (tie.spec
     Inv-loop

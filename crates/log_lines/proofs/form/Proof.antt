@@ -1,0 +1,12 @@
+-- `form` meets its contract, by the sign.
+use Rattle.log_lines.proofs.form.Statement.{statement}
+use Rattle.log_lines.proofs.form.Tie as tie
+
+returns : tie.Need-returns
+returns c = rw (c .if1 .taken)
+
+returns-2 : tie.Need-returns-2
+returns-2 c = rw (c .if1 .left)
+
+pub form-spec : {M : Type 1} → statement M
+form-spec = tie.close (tie.spec returns returns-2)

@@ -1,0 +1,3 @@
+pub mod LogLines
+pub mod BookingLaws
+pub mod FaultyLogLines

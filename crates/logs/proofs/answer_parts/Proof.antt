@@ -1,0 +1,18 @@
+-- `answer_parts` meets its contract: the front of each list of links is the list of links.
+use mathlib.Core.Path.{sym}
+use lib.Seq.{length-take-le}
+use borrow.Author.Needs.{needs}
+use Rattle.logs.proofs.answer_parts.Statement.{statement}
+use Rattle.logs.proofs.answer_parts.Tie as tie
+
+pub answer-parts-spec : {M : Type 1} → statement M
+answer-parts-spec =
+    tie.close
+    (tie.spec
+    (λ c. let s = c .before .before .before .before .before .before .before in sym (length-take-le (s .args .m) (s .args .one .now) (s .pre .3)))
+    (λ c. let s = c .before .before .before .before .before .before .before .before in sym (length-take-le (s .args .m) (s .args .two .now) (s .pre .4)))
+    (λ c. let s = c .before .before .before .before .before .before .before .before .before in
+    sym (length-take-le (s .args .m) (s .args .capacity .now) (s .pre .5)))
+    (λ c κs. search needs)
+    (λ c. search needs)
+    (λ c. search needs))

@@ -1,0 +1,40 @@
+-- `answer_tree` meets its contract: the table of names, the ends and the table of paths are those of the tree.
+use mathlib.Core.List.{[], _++_}
+use mathlib.Core.Path.{ap, _∙_}
+use native.Mathlib.Omega.{arith}
+use borrow.Author.Needs.{needs}
+use lib.ListN.{length, drop}
+use Rattle.lists.specs.Numbers.{look}
+use Rattle.model.specs.Booking.{answers}
+use Rattle.tree.specs.Offer.{links}
+use Rattle.tree_links.specs.Chains.{offer-placed}
+use Rattle.sheet_names.specs.Names.{ranges}
+use Rattle.logs.specs.Log.{lines, requests}
+use Rattle.logs.proofs.answer_tree.Statement.{statement}
+use Rattle.logs.proofs.answer_tree.Tie as tie
+
+ends-of-requires : tie.Need-ends-of-requires
+ends-of-requires c κs =
+    let s = c .before .before .before .before .before .before .before in
+    (omega (arith, s .pre .0 .few), offer-placed (s .pre .0))
+
+returns : tie.Need-returns
+returns c =
+    let made = c .before .before in
+    let ends = made .before .before .before .before .before .before in
+    let a = ends .before .before .before .before .before .before .before .before .args in
+    let names = ranges (a .starts .now) (a .stops .now) 0 (a .n) in
+    made .answer-lines .ensures
+    ∙ ap (λ t. answers (links (a .one .now) (a .two .now)) (look (a .capacity .now)) [] (requests (a .sheet .now) names t (a .log .now))
+    ++ drop (length (lines (a .log .now))) (a .list .now)) (ends .ends-of .ensures)
+
+pub answer-tree-spec : {M : Type 1} → statement M
+answer-tree-spec =
+    tie.close
+    (tie.spec
+    (λ c κs. search needs)
+    ends-of-requires
+    (λ c κs. search needs)
+    (λ c κs. search needs)
+    (λ c. search needs)
+    returns)

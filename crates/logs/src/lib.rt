@@ -1,0 +1,325 @@
+// A booking log replayed over a sheet (document 02, Card 6): each line gets one answer.
+ghost use mathlib.Core.Path.{_≡_};
+ghost use mathlib.Core.List.{[], _++_};
+ghost use Prim.Native.Nat.{_≤_};
+ghost use lib.ListN.{length, take, drop};
+ghost use Rattle.lists.specs.Numbers.{look};
+ghost use Rattle.model.specs.Limits.{PLACES, SITES};
+ghost use Rattle.model.specs.Edition.{edition1, largest};
+ghost use Rattle.model.specs.Flows.{ends};
+ghost use Rattle.model.specs.Booking.{answers};
+ghost use Rattle.tree.specs.Offer.{links};
+ghost use Rattle.tree.specs.Accepted.{TreeWithin};
+ghost use Rattle.tree_links.specs.Chains.{Placed};
+ghost use Rattle.log_steps.specs.Steps.{Given};
+ghost use Rattle.text_lines.specs.Lines.{lineAt};
+ghost use Rattle.sheet_names.specs.Names.{ranges, Different, Indexes};
+ghost use Rattle.sheet.specs.StepCases.{Labelled};
+ghost use Rattle.planner.specs.Taken.{Listed};
+ghost use Rattle.logs.specs.Log.{lines, lineOf, between, requestAt, requests};
+ghost use Rattle.logs.specs.Outcome.{replayed};
+use log_lines::Line;
+use model::LOGBYTES;
+use model::LOGLINES;
+use model::OPEN;
+use model::PLACES;
+use model::Pair;
+use model::ROWS;
+use model::Request;
+use model::SITES;
+use sheet::Answer;
+use sheet::Lists;
+use sheet_names::Found;
+use sheet_names::TABLE;
+
+// What a replay comes to: so many lines answered, or a refusal with its text (1 the sheet, 2 the log), number and line.
+pub enum Outcome {
+    Answered { count: usize },
+    Refused { text: u64, number: u64, line: usize },
+}
+
+// The number of lines of a log.
+fn count_lines(log: &[u8]) -> usize
+    ensures { λ r. ⌜ r ≡ length (lines (now (log .entry))) ⌝ }
+{
+    let mut at = 0;
+    let mut count = 0;
+    while text_lines::has_line(log, at) {
+        at = text_lines::rest(log, at);
+        count += 1;
+    }
+    count
+}
+
+// What the line at an offset of a log is; one that no byte 10 ends is a fault.
+fn line_of(log: &[u8], line: &[u8], at: usize) -> Line
+    requires { ⌜ (at ≤ length (now log)) × (now line ≡ lineAt (now log) at) ⌝ }
+    ensures { λ r. ⌜ r ≡ lineOf (now (log .entry)) at ⌝ }
+{
+    if at + line.len() >= log.len() {
+        return Line::Fault(2);
+    }
+    log_lines::classify(line)
+}
+
+// An amount asked for between what the look-ups of two names found, by the ends: fault 6 unless they are two different ends.
+fn between(ends: &[u8; PLACES], opens: bool, amount: u64, one: Found, two: Found) -> Request
+    requires { ⌜ Labelled PLACES one × Labelled PLACES two ⌝ }
+    ensures { λ r. ⌜ r ≡ between (look (now (ends .entry))) opens amount one two ⌝ }
+{
+    let Found::At(first) = one else {
+        return Request::Fault(6);
+    };
+    let Found::At(second) = two else {
+        return Request::Fault(6);
+    };
+    if ends[first] != 1 {
+        return Request::Fault(6);
+    }
+    if ends[second] != 1 {
+        return Request::Fault(6);
+    }
+    if first == second {
+        return Request::Fault(6);
+    }
+    let pair = Pair {
+        first,
+        second,
+        amount,
+    };
+    if opens {
+        return Request::Open(pair);
+    }
+    Request::GiveUp(pair)
+}
+
+// What the line at an offset of a log asks, over the names and the ends of a network.
+fn request_at(
+    sheet: &[u8],
+    starts: &[usize; SITES],
+    stops: &[usize; SITES],
+    n: usize,
+    table: &[u16; TABLE],
+    ends: &[u8; PLACES],
+    log: &[u8],
+    line: &[u8],
+    at: usize,
+) -> Request
+    requires { ⌜ (n ≤ SITES) × Indexes (now sheet) (ranges (now starts) (now stops) 0 n) (now table) × (at ≤ length (now log))
+        × (now line ≡ lineAt (now log) at) ⌝ }
+    ensures { λ r. ⌜ r ≡ requestAt (now (sheet .entry)) (ranges (now (starts .entry)) (now (stops .entry)) 0 n) (look (now (ends .entry))) (now (log .entry)) at ⌝ }
+{
+    let kind = line_of(log, line, at);
+    match kind {
+        Line::Fault(number) => Request::Fault(number),
+        Line::Booking {
+            opens,
+            start,
+            end,
+            start2,
+            end2,
+            amount,
+        } => {
+            let first = sheet_names::part(line, start, end);
+            let second = sheet_names::part(line, start2, end2);
+            let one = sheet_names::find(sheet, starts, stops, n, table, first);
+            let two = sheet_names::find(sheet, starts, stops, n, table, second);
+            between(ends, opens, amount, one, two)
+        }
+    }
+}
+
+// The answers to the lines of a log, into the front of a list with a place for each.
+fn answer_lines(
+    sheet: &[u8],
+    starts: &[usize; SITES],
+    stops: &[usize; SITES],
+    n: usize,
+    table: &[u16; TABLE],
+    ends: &[u8; PLACES],
+    one: &[usize],
+    two: &[usize],
+    capacity: &[u64],
+    rows: &[u64; ROWS],
+    log: &[u8],
+    list: &mut [u64],
+)
+    requires { ⌜ Given n (now one) (now two) (now capacity) (now rows) × Indexes (now sheet) (ranges (now starts) (now stops) 0 n) (now table)
+        × (length (lines (now log)) ≤ length (now list)) ⌝ }
+    ensures { λ _. ⌜ now (list .exit) ≡ answers (links (now (one .entry)) (now (two .entry))) (look (now (capacity .entry))) []
+        (requests (now (sheet .entry)) (ranges (now (starts .entry)) (now (stops .entry)) 0 n) (look (now (ends .entry))) (now (log .entry)))
+        ++ drop (length (lines (now (log .entry)))) (now (list .entry)) ⌝ }
+{
+    let mut first = [0usize; OPEN];
+    let mut second = [0usize; OPEN];
+    let mut amount = [0u64; OPEN];
+    let mut load = [0u64; SITES];
+    let mut count = 0;
+    let mut at = 0;
+    let mut i = 0;
+    while text_lines::has_line(log, at) {
+        let line = text_lines::line(log, at);
+        let request = request_at(sheet, starts, stops, n, table, ends, log, line, at);
+        let replied = log_steps::step(
+            n,
+            one,
+            two,
+            capacity,
+            rows,
+            request,
+            count,
+            &mut first,
+            &mut second,
+            &mut amount,
+            &mut load,
+        );
+        count = replied.count;
+        list[i] = replied.answer;
+        at = text_lines::rest(log, at + line.len());
+        i += 1;
+    }
+}
+
+// The ends of a tree of n sites: place v holds 1 where site v is an end, 0 elsewhere.
+fn ends_of(n: usize, one: &[usize], two: &[usize]) -> [u8; PLACES]
+    requires { ⌜ (n ≤ SITES) × Placed (now one) (now two) ⌝ }
+    ensures { λ r. ⌜ look r ≡ look (ends (links (now (one .entry)) (now (two .entry))) n) ⌝ }
+{
+    let chains = tree_links::chain(one, two);
+    let last = chains.last;
+    let before = chains.before;
+    tree_links::ends(n, &last, &before, one, two)
+}
+
+// The answers to the lines of a log over a tree whose sites have different names, into the front of a list with a place for each: the table of names, the
+// ends and the table of paths are made once.
+fn answer_tree(
+    sheet: &[u8],
+    starts: &[usize; SITES],
+    stops: &[usize; SITES],
+    n: usize,
+    one: &[usize],
+    two: &[usize],
+    capacity: &[u64],
+    log: &[u8],
+    list: &mut [u64],
+)
+    requires { ⌜ TreeWithin largest n (now one) (now two) (now capacity) × Different (now sheet) (ranges (now starts) (now stops) 0 n)
+        × (length (lines (now log)) ≤ length (now list)) ⌝ }
+    ensures { λ _. ⌜ now (list .exit) ≡ answers (links (now (one .entry)) (now (two .entry))) (look (now (capacity .entry))) []
+        (requests (now (sheet .entry)) (ranges (now (starts .entry)) (now (stops .entry)) 0 n)
+        (look (ends (links (now (one .entry)) (now (two .entry))) n)) (now (log .entry)))
+        ++ drop (length (lines (now (log .entry)))) (now (list .entry)) ⌝ }
+{
+    let table = sheet_names::index(sheet, starts, stops, n);
+    let ends = ends_of(n, one, two);
+    let rows = log_paths::paths(n, one, two, capacity);
+    answer_lines(
+        sheet,
+        starts,
+        stops,
+        n,
+        &table,
+        &ends,
+        one,
+        two,
+        capacity,
+        &rows,
+        log,
+        list,
+    );
+}
+
+// The same over a tree of m links, each list of links lent as far as there are links.
+fn answer_parts<'a>(
+    sheet: &[u8],
+    starts: &'a [usize; SITES],
+    stops: &'a [usize; SITES],
+    n: usize,
+    m: usize,
+    one: &'a [usize],
+    two: &'a [usize],
+    capacity: &'a [u64],
+    log: &[u8],
+    list: &mut [u64],
+)
+    requires { ⌜ TreeWithin largest n (take m (now one)) (take m (now two)) (take m (now capacity))
+        × Different (now sheet) (ranges (now starts) (now stops) 0 n) × (length (lines (now log)) ≤ length (now list))
+        × (m ≤ length (now one)) × (m ≤ length (now two)) × (m ≤ length (now capacity)) ⌝ }
+    ensures { λ _. ⌜ now (list .exit) ≡ answers (links (take m (now (one .entry))) (take m (now (two .entry)))) (look (take m (now (capacity .entry)))) []
+        (requests (now (sheet .entry)) (ranges (now (starts .entry)) (now (stops .entry)) 0 n)
+        (look (ends (links (take m (now (one .entry))) (take m (now (two .entry)))) n)) (now (log .entry)))
+        ++ drop (length (lines (now (log .entry)))) (now (list .entry)) ⌝ }
+{
+    answer_tree(
+        sheet,
+        starts,
+        stops,
+        n,
+        &one[..m],
+        &two[..m],
+        &capacity[..m],
+        log,
+        list,
+    );
+}
+
+// A log replayed over the network of an accepted sheet.
+fn replay_network(sheet: &[u8], network: Lists, log: &[u8], list: &mut [u64]) -> Outcome
+    requires { ⌜ Listed (now sheet) network ⌝ }
+    ensures told { λ r. ⌜ r ≡ replayed edition1 (now (sheet .entry)) (now (log .entry)) (now (list .entry)) .outcome ⌝ }
+    ensures left { λ r. ⌜ now (list .exit) ≡ replayed edition1 (now (sheet .entry)) (now (log .entry)) (now (list .entry)) .list ⌝ }
+{
+    let refusal = Outcome::Refused {
+        text: 2,
+        number: 1,
+        line: 0,
+    };
+    if log.len() > LOGBYTES {
+        return refusal;
+    }
+    let count = count_lines(log);
+    if count > LOGLINES {
+        return refusal;
+    }
+    if count > list.len() {
+        return Outcome::Refused {
+            text: 2,
+            number: 9,
+            line: 0,
+        };
+    }
+    let n = network.sites;
+    let m = network.links;
+    answer_parts(
+        sheet,
+        &network.start,
+        &network.end,
+        n,
+        m,
+        &network.one,
+        &network.two,
+        &network.capacity,
+        log,
+        list,
+    );
+    Outcome::Answered { count }
+}
+
+// Replays a log over a sheet: writes the answer to each line into the front of a lent list and tells the number of lines; or refuses the sheet, the log, or a
+// list with fewer places than lines, and leaves the list as it was.
+pub fn replay(sheet: &[u8], log: &[u8], answers: &mut [u64]) -> Outcome
+    ensures told { λ r. ⌜ r ≡ replayed edition1 (now (sheet .entry)) (now (log .entry)) (now (answers .entry)) .outcome ⌝ }
+    ensures left { λ r. ⌜ now (answers .exit) ≡ replayed edition1 (now (sheet .entry)) (now (log .entry)) (now (answers .entry)) .list ⌝ }
+{
+    let reading = sheet::read(sheet);
+    let answer = reading.answer;
+    match answer {
+        Answer::Refused { number, line } => Outcome::Refused {
+            text: 1,
+            number,
+            line,
+        },
+        Answer::Accepted => replay_network(sheet, reading.network, log, answers),
+    }
+}

@@ -1,0 +1,5 @@
+pub mod Pairs
+pub mod Answers
+pub mod Requests
+pub mod Logs
+pub mod Examples

@@ -1,0 +1,493 @@
+//! Booking logs: both planners on one log, and what is due of it by the card.
+//!
+//! Every answered log is checked line by line without either planner: its answers are the first causes in
+//! the card's order, and loads, worked out anew from the lines answered with 0, stay within twice the
+//! capacities.
+
+use crate::{Failure, damage};
+use second::{LOG_LINES, REPORT_BYTES, Replayed};
+use sheets::Random;
+use sheets::ledger::{self, is_too_long};
+use sheets::logs::{Case, case, every_small_log};
+use std::cell::Cell;
+use std::path::{Path, PathBuf};
+use std::process::Command;
+use std::sync::Mutex;
+use std::sync::atomic::{AtomicU64, Ordering};
+use std::time::Instant;
+
+/// The length of the lists, above that of any answered log.
+const LIST_PLACES: usize = LOG_LINES + 64;
+/// The threads that compare.
+const THREADS: u64 = 2;
+/// With fewer logs it is left to chance what occurs in them.
+const ENOUGH_FOR_SHARES: u64 = 10_000;
+/// At least one in this many logs must have each answer in one of its lines.
+const LEAST_SHARE: u64 = 100;
+/// All answers that a line can get.
+const ANSWERS: [usize; 10] = [0, 2, 3, 6, 10, 11, 12, 14, 15, 16];
+
+thread_local! {
+    /// The index of the log a thread compares.
+    static CURRENT: Cell<Option<u64>> = const { Cell::new(None) };
+}
+
+/// A sheet and a log on which something is wrong.
+pub struct Different {
+    sheet: Vec<u8>,
+    log: Vec<u8>,
+    what: String,
+}
+
+impl Different {
+    /// Keeps the log beside the file for the sheet.
+    pub fn keep(self, sheet_file: &Path) -> Failure {
+        let file = sheet_file.with_extension("log");
+        let kept = match std::fs::write(&file, &self.log) {
+            Ok(()) => format!("the log is kept in {}", file.display()),
+            Err(error) => format!("the log cannot be kept: {error}"),
+        };
+        Failure {
+            sheet: Some(self.sheet),
+            index: None,
+            what: format!("{}\n{kept}", self.what),
+        }
+    }
+}
+
+/// The lists of the two planners, which hold a pattern throughout before every replay.
+struct Lists {
+    pattern: Vec<u64>,
+    proved: Vec<u64>,
+    second: Vec<u64>,
+}
+
+fn proved_replay(sheet: &[u8], log: &[u8], answers: &mut [u64]) -> Replayed {
+    match waderarmoire::replay(sheet, log, answers) {
+        Ok(answers) => Replayed::Answered {
+            count: answers.len(),
+        },
+        Err(waderarmoire::ReplayRefusal { text, number, line }) => {
+            Replayed::Refused { text, number, line }
+        }
+    }
+}
+
+/// How many answers there are.
+fn count_of(outcome: Replayed) -> usize {
+    match outcome {
+        Replayed::Answered { count } => count,
+        Replayed::Refused { .. } => 0,
+    }
+}
+
+impl Lists {
+    fn new() -> Self {
+        // No place of the pattern is an answer.
+        let pattern: Vec<u64> = (0..LIST_PLACES as u64).map(|it| u64::MAX - it).collect();
+        Lists {
+            proved: pattern.clone(),
+            second: pattern.clone(),
+            pattern,
+        }
+    }
+
+    /// Lets both planners replay a log with the first `places` of their lists, and compares what they
+    /// answer, place by place. No place past the answers may change, behind those that are lent too.
+    fn replay(
+        &mut self,
+        sheet: &[u8],
+        log: &[u8],
+        places: usize,
+    ) -> Result<(Replayed, &[u64]), String> {
+        let proved = proved_replay(sheet, log, &mut self.proved[..places]);
+        let second = second::replay(sheet, log, &mut self.second[..places]);
+        if proved != second {
+            return Err(format!(
+                "list of {places}: the proved planner answers {proved:?}, the second {second:?}"
+            ));
+        }
+        let count = count_of(second);
+        let past = &self.pattern[count..];
+        if self.proved[count..] != *past || self.second[count..] != *past {
+            return Err(format!(
+                "list of {places}: what is past the answers is changed, with {second:?}"
+            ));
+        }
+        self.proved[..count]
+            .iter()
+            .zip(&self.second)
+            .zip(1..)
+            .find(|((proved, second), _)| proved != second)
+            .map_or(Ok(()), |((proved, second), line)| {
+                Err(format!(
+                    "line {line}: the proved planner answers {proved}, the second {second}"
+                ))
+            })?;
+        self.proved[..count].copy_from_slice(&self.pattern[..count]);
+        Ok((second, &self.second[..count]))
+    }
+
+    /// Puts the pattern back where the last answers were.
+    fn clear(&mut self, count: usize) {
+        self.second[..count].copy_from_slice(&self.pattern[..count]);
+    }
+}
+
+/// What occurred in the logs.
+#[derive(Default)]
+struct Tally {
+    /// How many logs have a line with each answer.
+    logs: [u64; 17],
+    lines: u64,
+    /// How many logs were refused: for the sheet, for their length, for the list.
+    refused: [u64; 3],
+    /// How many logs had 511, and 512, pairs open.
+    crowded: [u64; 2],
+}
+
+impl Tally {
+    fn add(&mut self, other: &Tally) {
+        let counts = |tally: &Tally| [&tally.logs[..], &tally.refused, &tally.crowded].concat();
+        let own = self.logs.iter_mut().chain(&mut self.refused);
+        for (count, more) in own.chain(&mut self.crowded).zip(counts(other)) {
+            *count += more;
+        }
+        self.lines += other.lines;
+    }
+
+    fn see(&mut self, answers: &[u64], most_open: usize) {
+        let mut occurs = [0; 17];
+        for &answer in answers {
+            occurs[answer as usize] = 1;
+        }
+        for (count, occurs) in self.logs.iter_mut().zip(occurs) {
+            *count += occurs;
+        }
+        self.lines += answers.len() as u64;
+        for (count, least) in self.crowded.iter_mut().zip([511, 512]) {
+            *count += u64::from(most_open >= least);
+        }
+    }
+
+    /// Whether each answer and each refusal occurred in enough of so many logs.
+    fn has_shares(&self, count: u64) -> bool {
+        let least = count / LEAST_SHARE;
+        let answers = ANSWERS.map(|answer| self.logs[answer]);
+        let counts = answers.iter().chain(&self.crowded);
+        counts
+            .chain([&self.refused[0], &self.refused[2]])
+            .all(|&logs| logs >= least)
+            && self.refused[1] >= least / 4
+    }
+}
+
+/// Compares the planners on a log over a sheet that is accepted, with a list of so many places, and
+/// checks the answers against the card.
+fn compare(lists: &mut Lists, case: &Case, places: usize, tally: &mut Tally) -> Result<(), String> {
+    let count = ledger::lines(&case.log).count();
+    let (outcome, answers) = lists.replay(&case.sheet, &case.log, places)?;
+    let refused = |number| Replayed::Refused {
+        text: 2,
+        number,
+        line: 0,
+    };
+    let due = if is_too_long(&case.log) {
+        tally.refused[1] += 1;
+        refused(1)
+    } else if places < count {
+        tally.refused[2] += 1;
+        refused(9)
+    } else {
+        let most_open = ledger::check(&case.network, &case.log, answers)
+            .map_err(|what| format!("both planners: {what}"))?;
+        tally.see(answers, most_open);
+        Replayed::Answered { count }
+    };
+    lists.clear(count_of(outcome));
+    if outcome != due {
+        return Err(format!(
+            "list of {places}: both planners answer {outcome:?} where {due:?} is due"
+        ));
+    }
+    Ok(())
+}
+
+/// Compares the planners on a log over a damaged sheet, which is refused as [`second::plan`] does.
+fn compare_damaged(
+    lists: &mut Lists,
+    sheet: &[u8],
+    log: &[u8],
+    places: usize,
+    tally: &mut Tally,
+) -> Result<(), String> {
+    let (outcome, _) = lists.replay(sheet, log, places)?;
+    lists.clear(count_of(outcome));
+    let second::Outcome::Refused { number, line } = second::plan(sheet, &mut [0; REPORT_BYTES])
+    else {
+        return Ok(());
+    };
+    tally.refused[0] += 1;
+    let text = 1;
+    let due = Replayed::Refused { text, number, line };
+    if outcome != due {
+        return Err(format!(
+            "both planners answer {outcome:?} where {due:?} is due"
+        ));
+    }
+    Ok(())
+}
+
+/// Compares the planners on one random log, with lists of some lengths.
+fn compare_random(
+    lists: &mut Lists,
+    case: &Case,
+    random: &mut Random,
+    tally: &mut Tally,
+) -> Result<(), String> {
+    let count = ledger::lines(&case.log).count().min(LOG_LINES + 8);
+    let longer = random.between(count, LIST_PLACES);
+    let enough = *random.pick(&[count, count + 1, count + 2, longer]);
+    compare(lists, case, enough, tally)?;
+    if count > 0 && random.once_in(3) {
+        let shorter = random.below(count);
+        let places = [0, shorter, count - 1, count.saturating_sub(2)];
+        compare(lists, case, *random.pick(&places), tally)?;
+    }
+    if count < 64 && random.once_in(16) {
+        for places in count.saturating_sub(4)..=count + 4 {
+            compare(lists, case, places, tally)?;
+        }
+    }
+    if random.once_in(8) {
+        let sheet = damage::damaged(random).sheet;
+        compare_damaged(lists, &sheet, &case.log, longer, tally)?;
+        compare_damaged(lists, &sheet, &case.log, random.below(3), tally)?;
+    }
+    Ok(())
+}
+
+/// Both planners on the logs with answers written by hand, and on all small logs.
+pub fn small() -> Result<(), Different> {
+    let mut lists = Lists::new();
+    for tried in &sheets::replay::TRIED {
+        let (sheet, log) = (tried.sheet(), tried.log());
+        for places in [LIST_PLACES, tried.answers.len()] {
+            let is_right = match lists.replay(&sheet, &log, places) {
+                Ok((_, answers)) => answers == tried.answers,
+                Err(_) => false,
+            };
+            lists.clear(LIST_PLACES);
+            if !is_right {
+                let what = format!("{}: the answers are others", tried.title);
+                return Err(Different { sheet, log, what });
+            }
+        }
+    }
+    let mut tally = Tally::default();
+    let count = every_small_log(3, |case| {
+        let places = ledger::lines(&case.log).count();
+        let mut compared = compare(&mut lists, case, places, &mut tally);
+        if places > 0 {
+            compared = compared.and_then(|()| compare(&mut lists, case, places - 1, &mut tally));
+        }
+        compared.map_err(|what| different(case, what))
+    })?;
+    println!(
+        "logs: {} with answers written by hand; {count} of at most 3 lines, every answer and every load \
+         by the card",
+        sheets::replay::TRIED.len()
+    );
+    Ok(())
+}
+
+fn different(case: &Case, what: String) -> Different {
+    Different {
+        sheet: case.sheet.clone(),
+        log: case.log.clone(),
+        what,
+    }
+}
+
+/// Compares the planners on one log of a seed.
+pub fn compare_one(seed: u64, index: u64) -> Result<(), Different> {
+    compare_index(&mut Lists::new(), seed, index, &mut Tally::default())
+}
+
+fn compare_index(
+    lists: &mut Lists,
+    seed: u64,
+    index: u64,
+    tally: &mut Tally,
+) -> Result<(), Different> {
+    let (case, mut random) = case(seed, index);
+    compare_random(lists, &case, &mut random, tally).map_err(|what| {
+        let again = format!("made again by: --seed {seed} --log {index}");
+        different(
+            &case,
+            format!("log {index} of seed {seed}: {what}\n{again}"),
+        )
+    })
+}
+
+/// Compares the planners on the first `count` logs of a seed.
+pub fn compare_all(seed: u64, count: u64) -> Result<(), Different> {
+    let start = Instant::now();
+    tell_log_on_panic(seed);
+    // The lowest log with a difference.
+    let lowest = AtomicU64::new(count);
+    let found: Mutex<Vec<(u64, Different)>> = Mutex::new(Vec::new());
+    let tally = Mutex::new(Tally::default());
+    let work = |first: u64| {
+        let mut lists = Lists::new();
+        let mut own = Tally::default();
+        let mut index = first;
+        while index < lowest.load(Ordering::Relaxed) {
+            CURRENT.set(Some(index));
+            if let Err(different) = compare_index(&mut lists, seed, index, &mut own) {
+                lowest.fetch_min(index, Ordering::Relaxed);
+                let mut found = found.lock().expect("no thread panics");
+                found.push((index, different));
+            }
+            index += THREADS;
+        }
+        tally.lock().expect("no thread panics").add(&own);
+    };
+    std::thread::scope(|scope| {
+        for first in 0..THREADS {
+            scope.spawn(move || work(first));
+        }
+    });
+    let found = found.into_inner().expect("no thread panics");
+    if let Some((_, different)) = found.into_iter().min_by_key(|(index, _)| *index) {
+        return Err(different);
+    }
+    let tally = tally.into_inner().expect("no thread panics");
+    println!(
+        "random logs: {count} of seed {seed} in {:.1} s, {} lines",
+        start.elapsed().as_secs_f64(),
+        tally.lines
+    );
+    println!(
+        "  logs with a line answered {ANSWERS:?}: {:?}",
+        ANSWERS.map(|answer| tally.logs[answer])
+    );
+    println!(
+        "  511 pairs open, 512: {:?}; refused for the sheet, their length, the list: {:?}",
+        tally.crowded, tally.refused
+    );
+    if count >= ENOUGH_FOR_SHARES && !tally.has_shares(count) {
+        return Err(Different {
+            sheet: Vec::new(),
+            log: Vec::new(),
+            what: "too few logs had one of the answers".to_string(),
+        });
+    }
+    Ok(())
+}
+
+/// Lets a panic tell the log it comes from.
+fn tell_log_on_panic(seed: u64) {
+    let usual = std::panic::take_hook();
+    std::panic::set_hook(Box::new(move |panic| {
+        usual(panic);
+        if let Some(index) = CURRENT.get() {
+            eprintln!("made again by: --seed {seed} --log {index}");
+        }
+    }));
+}
+
+/// The programs that replay a log, given the files of a sheet and a log.
+pub struct Programs {
+    pub proved: PathBuf,
+    pub second: PathBuf,
+}
+
+impl Programs {
+    /// Compares what the programs print on `count` logs, and the examples on some.
+    pub fn compare(&self, seed: u64, count: u64, examples: &[PathBuf]) -> Result<(), Different> {
+        let folder = std::env::temp_dir();
+        let file = |name: &str| folder.join(format!("log-{}.{name}", std::process::id()));
+        let files = [file("sheet"), file("log")];
+        for index in 0..count {
+            let (mut case, mut random) = case(seed, index);
+            if random.once_in(6) {
+                case.sheet = damage::damaged(&mut random).sheet;
+            }
+            let examples = if index % 5 == 0 { examples } else { &[] };
+            self.compare_one(&case, &files, examples)
+                .map_err(|what| different(&case, what))?;
+        }
+        for file in &files {
+            _ = std::fs::remove_file(file);
+        }
+        println!(
+            "programs: {count} logs, {} of them with {} examples",
+            count.div_ceil(5),
+            examples.len()
+        );
+        Ok(())
+    }
+
+    fn compare_one(
+        &self,
+        case: &Case,
+        files: &[PathBuf; 2],
+        examples: &[PathBuf],
+    ) -> Result<(), String> {
+        for (file, text) in files.iter().zip([&case.sheet, &case.log]) {
+            std::fs::write(file, text).map_err(|error| format!("{}: {error}", file.display()))?;
+        }
+        let mut answers = [0; LOG_LINES];
+        let outcome = second::replay(&case.sheet, &case.log, &mut answers);
+        let due = match outcome {
+            Replayed::Answered { count } => {
+                let mut lines: Vec<_> = answers[..count].iter().map(u64::to_string).collect();
+                lines.push(String::new());
+                lines.join("\n")
+            }
+            Replayed::Refused { text, number, line } => {
+                format!("refused\t{text}\t{number}\t{line}\n")
+            }
+        };
+        let said = usize::from(matches!(outcome, Replayed::Refused { .. }));
+        run(&self.proved, &[], files, &due, said)?;
+        run(&self.second, &[], files, &due, 0)?;
+        for example in examples {
+            run(example, &["replay"], files, &due, 0)?;
+        }
+        Ok(())
+    }
+}
+
+/// Runs a program on the two files and compares what it prints, and how many lines it says on standard
+/// error.
+fn run(
+    program: &Path,
+    words: &[&str],
+    files: &[PathBuf],
+    due: &str,
+    said: usize,
+) -> Result<(), String> {
+    let told = |what: &str| format!("{}: {what}", program.display());
+    let output = Command::new(program)
+        .args(words)
+        .args(files)
+        .output()
+        .map_err(|error| told(&error.to_string()))?;
+    if output.status.code().is_none() {
+        return Err(told(&output.status.to_string()));
+    }
+    if output.stdout != due.as_bytes() {
+        let start: String = String::from_utf8_lossy(&output.stdout)
+            .chars()
+            .take(60)
+            .collect();
+        return Err(told(&format!("prints {start:?}…, which is not due")));
+    }
+    let words = String::from_utf8_lossy(&output.stderr);
+    if words.lines().count() != said || words.ends_with('\n') != (said > 0) {
+        return Err(told(&format!("says {words:?}")));
+    }
+    Ok(())
+}

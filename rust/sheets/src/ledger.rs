@@ -1,0 +1,309 @@
+//! What is due of a booking log, by the words of its card.
+//!
+//! Slow and plain, and with nothing of a planner: a link lies on the path between two sites if
+//! they are no longer joined without it.
+
+use crate::{Network, SIZE};
+use std::collections::{BTreeMap, HashMap};
+
+/// The longest log that is replayed, in bytes.
+pub const LOG_BYTES: usize = 65_536;
+/// The most lines a log may have.
+pub const LOG_LINES: usize = 4_096;
+/// The most pairs that may be open together.
+pub const OPEN_PAIRS: usize = 512;
+/// The largest amount of a line, in halves.
+pub const AMOUNT: u64 = 2 * SIZE as u64;
+
+/// The lines of a log, their bytes 10 left off, each with whether it has one.
+pub fn lines(log: &[u8]) -> impl Iterator<Item = (&[u8], bool)> {
+    log.split_inclusive(|&byte| byte == b'\n')
+        .map(|line| match line.strip_suffix(b"\n") {
+            Some(line) => (line, true),
+            None => (line, false),
+        })
+}
+
+/// Whether a log is refused as a whole, whatever its lines are.
+#[must_use]
+pub fn is_too_long(log: &[u8]) -> bool {
+    log.len() > LOG_BYTES || lines(log).count() > LOG_LINES
+}
+
+/// What a line answered with 0 moves.
+#[derive(Clone, Copy, Debug, PartialEq, Eq)]
+pub struct Move {
+    /// Whether it opens the amount, or gives it up.
+    pub opens: bool,
+    /// The two sites, numbered from 0, the lower one first.
+    pub sites: [usize; 2],
+    /// The amount.
+    pub halves: u64,
+}
+
+/// What is open over a network.
+#[derive(Clone)]
+pub struct Ledger {
+    /// The site of each name in capitals.
+    sites: HashMap<Vec<u8>, usize>,
+    /// For each link and each site whether the site is joined with the first site of the link without it.
+    sides: Vec<Vec<bool>>,
+    is_end: Vec<bool>,
+    /// The usable size of each link.
+    capacity: Vec<u32>,
+    /// What the lines answered with 0 moved.
+    moves: Vec<Move>,
+    open: BTreeMap<[usize; 2], u64>,
+    loads: Vec<u64>,
+}
+
+impl Ledger {
+    /// Nothing is open.
+    #[must_use]
+    pub fn new(network: &Network) -> Self {
+        let names = network.names.iter().map(|name| name.to_ascii_uppercase());
+        let sites = 0..network.names.len();
+        let degree = |site| {
+            network
+                .links
+                .iter()
+                .flatten()
+                .filter(move |&&it| it == site)
+        };
+        Ledger {
+            sites: names.zip(sites.clone()).collect(),
+            sides: sides(network),
+            is_end: sites.map(|site| degree(site).count() == 1).collect(),
+            capacity: network.usable_sizes(),
+            moves: Vec::new(),
+            open: BTreeMap::new(),
+            loads: vec![0; network.links.len()],
+        }
+    }
+
+    /// The answer due to the next line, which moves what it asks if it gets 0.
+    pub fn answer(&mut self, line: &[u8], is_ended: bool) -> u64 {
+        match self.cause(line, is_ended) {
+            Err(number) => number,
+            Ok(made) => {
+                self.make(made);
+                0
+            }
+        }
+    }
+
+    /// The first cause against a line, in the order of the card, or what it moves.
+    fn cause(&self, line: &[u8], is_ended: bool) -> Result<Move, u64> {
+        let fields: Vec<&[u8]> = line.split(|&byte| byte == b'\t').collect();
+        if !is_ended || !(fields[0] == b"+" || fields[0] == b"-") {
+            return Err(2);
+        }
+        let [letter, first, second, amount] = fields[..] else {
+            return Err(10);
+        };
+        if !is_name(first) || !is_name(second) {
+            return Err(11);
+        }
+        if !is_number(amount) {
+            return Err(12);
+        }
+        // A number that is too long to be read is too large.
+        let text = String::from_utf8_lossy(amount);
+        let halves = text.parse().unwrap_or(u64::MAX);
+        if !(1..=AMOUNT).contains(&halves) {
+            return Err(3);
+        }
+        let site = |name: &[u8]| self.sites.get(&name.to_ascii_uppercase()).copied();
+        let mut sites = match (site(first), site(second)) {
+            (Some(one), Some(other)) if one != other => [one, other],
+            _ => return Err(6),
+        };
+        if !sites.iter().all(|&site| self.is_end[site]) {
+            return Err(6);
+        }
+        sites.sort_unstable();
+        let opens = letter == b"+";
+        if !opens && self.open(sites) < halves {
+            return Err(14);
+        }
+        if opens && self.room(sites) < halves {
+            return Err(15);
+        }
+        if opens && self.open(sites) == 0 && self.open.len() == OPEN_PAIRS {
+            return Err(16);
+        }
+        Ok(Move {
+            opens,
+            sites,
+            halves,
+        })
+    }
+
+    fn make(&mut self, made: Move) {
+        let path: Vec<usize> = self.path(made.sites).collect();
+        let moved = |amount: u64| {
+            if made.opens {
+                amount + made.halves
+            } else {
+                amount - made.halves
+            }
+        };
+        for link in path {
+            self.loads[link] = moved(self.loads[link]);
+        }
+        match moved(self.open(made.sites)) {
+            0 => self.open.remove(&made.sites),
+            left => self.open.insert(made.sites, left),
+        };
+        self.moves.push(made);
+    }
+
+    /// What a pair, the lower site first, has open.
+    #[must_use]
+    pub fn open(&self, sites: [usize; 2]) -> u64 {
+        self.open.get(&sites).copied().unwrap_or(0)
+    }
+
+    /// The open pairs, the lower site first, in ascending order.
+    #[must_use]
+    pub fn open_pairs(&self) -> impl ExactSizeIterator<Item = [usize; 2]> {
+        self.open.keys().copied()
+    }
+
+    /// The links without which two sites are not joined.
+    pub fn path(&self, [one, other]: [usize; 2]) -> impl Iterator<Item = usize> {
+        (0..self.loads.len()).filter(move |&link| self.sides[link][one] != self.sides[link][other])
+    }
+
+    /// What a link carries, in halves.
+    #[must_use]
+    pub fn load(&self, link: usize) -> u64 {
+        self.loads[link]
+    }
+
+    /// What a link may carry: twice its capacity.
+    #[must_use]
+    pub fn most(&self, link: usize) -> u64 {
+        2 * u64::from(self.capacity[link])
+    }
+
+    /// What may still be opened between two different sites, as far as the links of their path let
+    /// it through.
+    #[must_use]
+    pub fn room(&self, sites: [usize; 2]) -> u64 {
+        let rooms = self
+            .path(sites)
+            .map(|link| self.most(link) - self.load(link));
+        rooms.min().unwrap_or(0)
+    }
+
+    /// Whether a site is an end: has just one link.
+    #[must_use]
+    pub fn is_end(&self, site: usize) -> bool {
+        self.is_end[site]
+    }
+
+    /// Works out anew, from all lines answered with 0, what each pair has open and each link carries,
+    /// and checks it against the card.
+    ///
+    /// # Errors
+    ///
+    /// What does not hold.
+    pub fn check_anew(&self) -> Result<(), String> {
+        let mut open: BTreeMap<[usize; 2], i128> = BTreeMap::new();
+        let mut loads = vec![0_i128; self.loads.len()];
+        for made in &self.moves {
+            let halves = i128::from(made.halves);
+            let halves = if made.opens { halves } else { -halves };
+            *open.entry(made.sites).or_default() += halves;
+            for link in self.path(made.sites) {
+                loads[link] += halves;
+            }
+        }
+        if open.values().any(|&halves| halves < 0) {
+            return Err("more is given up than was open".to_string());
+        }
+        open.retain(|_, halves| *halves > 0);
+        let same = |pair: (&[usize; 2], &i128)| {
+            self.open.get(pair.0).map(|&it| it.into()) == Some(*pair.1)
+        };
+        if open.len() > OPEN_PAIRS || open.len() != self.open.len() || !open.iter().all(same) {
+            return Err("the open pairs are others, or too many".to_string());
+        }
+        for (link, load) in loads.iter().enumerate() {
+            if *load != self.load(link).into() || *load < 0 || *load > self.most(link).into() {
+                return Err(format!("link {link}, counted from 0, carries {load}"));
+            }
+        }
+        Ok(())
+    }
+}
+
+/// Without each link the sites that are still joined with its first site.
+fn sides(network: &Network) -> Vec<Vec<bool>> {
+    let mut neighbours: Vec<Vec<(usize, usize)>> = vec![Vec::new(); network.names.len()];
+    for (link, &[one, other]) in network.links.iter().enumerate() {
+        neighbours[one].push((link, other));
+        neighbours[other].push((link, one));
+    }
+    let side = |(without, link): (usize, &[usize; 2])| {
+        let mut is_joined = vec![false; network.names.len()];
+        let mut reached = vec![link[0]];
+        while let Some(site) = reached.pop() {
+            is_joined[site] = true;
+            let next = neighbours[site].iter();
+            let next = next.filter(|&&(link, site)| link != without && !is_joined[site]);
+            reached.extend(next.map(|&(_, site)| site));
+        }
+        is_joined
+    };
+    network.links.iter().enumerate().map(side).collect()
+}
+
+fn is_name(field: &[u8]) -> bool {
+    (1..=12).contains(&field.len()) && field.iter().all(u8::is_ascii_alphanumeric)
+}
+
+fn is_number(field: &[u8]) -> bool {
+    let is_decimal = !field.is_empty() && field.iter().all(u8::is_ascii_digit);
+    is_decimal && (field == b"0" || field[0] != b'0')
+}
+
+/// How often loads are worked out anew: after every line of a log with so few lines, after some lines of
+/// a longer one.
+const FEW_LINES: usize = 48;
+
+/// Checks the answers to the lines of a log line by line. Returns how many pairs were open at most.
+///
+/// # Errors
+///
+/// What does not hold, with the line.
+pub fn check(network: &Network, log: &[u8], answers: &[u64]) -> Result<usize, String> {
+    let mut ledger = Ledger::new(network);
+    let mut most_open = 0;
+    let count = lines(log).count();
+    if count != answers.len() {
+        return Err(format!("{} answers to {count} lines", answers.len()));
+    }
+    for ((place, (line, is_ended)), answer) in lines(log).enumerate().zip(answers) {
+        let told = |what: String| format!("line {}: {what}", place + 1);
+        let due = ledger.answer(line, is_ended);
+        if *answer != due {
+            return Err(told(format!("the answer is {answer} where {due} is due")));
+        }
+        most_open = most_open.max(ledger.open.len());
+        if count <= FEW_LINES || place % 256 == 255 || place + 1 == count {
+            ledger.check_anew().map_err(told)?;
+        }
+    }
+    Ok(most_open)
+}
+
+/// The answers due to the lines of a log.
+#[must_use]
+pub fn due(network: &Network, log: &[u8]) -> Vec<u64> {
+    let mut ledger = Ledger::new(network);
+    lines(log)
+        .map(|(line, is_ended)| ledger.answer(line, is_ended))
+        .collect()
+}

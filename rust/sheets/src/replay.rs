@@ -1,0 +1,122 @@
+//! Sheets and booking logs with the answers written out by hand.
+
+use crate::tried::tabbed;
+
+/// A sheet, a log, and the answers to its lines.
+pub struct Tried {
+    /// What the log is.
+    pub title: &'static str,
+    sheet: &'static str,
+    log: &'static str,
+    /// The answers.
+    pub answers: &'static [u64],
+}
+
+impl Tried {
+    /// The sheet.
+    #[must_use]
+    pub fn sheet(&self) -> Vec<u8> {
+        tabbed(self.sheet)
+    }
+
+    /// The log.
+    #[must_use]
+    pub fn log(&self) -> Vec<u8> {
+        tabbed(self.log)
+    }
+}
+
+const STAR: &str = "network 1\nN hub\nN a\nN b\nN c\nL hub a 5\nL hub b 1\nL hub c 1\n";
+const TWO: &str = "network 1\nN a\nN b\nL a b 1000000\n";
+const PATH: &str = "network 1\nN a\nN h\nN k\nN b\nN c\nL a h 7\nL h k 3\nL k b 5\nL k c 5\n";
+
+/// The logs.
+pub const TRIED: [Tried; 14] = [
+    Tried {
+        title: "no lines",
+        sheet: STAR,
+        log: "",
+        answers: &[],
+    },
+    Tried {
+        title: "a link filled to twice its size and emptied",
+        sheet: STAR,
+        log: "+ a b 2\n+ a b 1\n- a b 2\n+ a b 3\n+ a b 2\n",
+        answers: &[0, 15, 0, 15, 0],
+    },
+    Tried {
+        title: "two pairs over one link",
+        sheet: STAR,
+        log: "+ a b 1\n+ c b 1\n+ a b 1\n+ a c 1\n- b c 1\n+ a b 1\n",
+        answers: &[0, 0, 15, 0, 0, 0],
+    },
+    Tried {
+        title: "names in either order and either case",
+        sheet: STAR,
+        log: "+ A b 1\n+ B a 1\n+ b a 1\n- a B 2\n- a b 1\n",
+        answers: &[0, 0, 15, 0, 14],
+    },
+    Tried {
+        title: "only what the pair itself has open is given up",
+        sheet: STAR,
+        log: "+ a b 1\n+ a c 1\n- a b 2\n- b c 1\n- a b 1\n- a b 1\n- a c 1\n",
+        answers: &[0, 0, 14, 14, 0, 14, 0],
+    },
+    Tried {
+        title: "an inner link is the smallest",
+        sheet: PATH,
+        log: "+ a b 7\n+ a b 6\n+ a c 1\n+ b c 4\n+ b c 1\n- a b 1\n+ a c 1\n",
+        answers: &[15, 0, 15, 0, 15, 0, 0],
+    },
+    Tried {
+        title: "amounts at their borders",
+        sheet: TWO,
+        log: "+ a b 2000001\n+ a b 2000000\n- a b 0\n- a b 2000001\n- a b 1\n- a b 1999999\n+ a b 0\n\
+              + a b 18446744073709551617\n- a b 1\n",
+        answers: &[3, 0, 3, 3, 0, 0, 3, 3, 14],
+    },
+    Tried {
+        title: "names that are not two different ends",
+        sheet: STAR,
+        log: "+ a hub 1\n+ a a 1\n+ a A 1\n- a d 1\n+ hub b 1\n+ d e 1\n",
+        answers: &[6, 6, 6, 6, 6, 6],
+    },
+    Tried {
+        title: "faults of form",
+        sheet: STAR,
+        log: "* a b 1\n\n++ a b 1\n+ a b\n+ a b 1 1\n+\n-\n+ a-b c 1\n+ a  1\n+ a abcdefghijklm 1\n\
+              + a b 01\n+ a b \n+ a b 00\n+ a b 1x\n+ a b 1",
+        answers: &[2, 2, 2, 10, 10, 10, 10, 11, 11, 11, 12, 12, 12, 12, 2],
+    },
+    Tried {
+        title: "faults of form before others, and these in their order",
+        sheet: STAR,
+        log: "* a-b\n+ a-b c\n+ a- hub 01\n+ a hub 01\n+ a hub 0\n+ a hub 9\n+ a d 2000001\n\
+              - a hub 9\n- a b 9\n+ a b 9\n",
+        answers: &[2, 10, 11, 12, 3, 6, 3, 6, 14, 15],
+    },
+    Tried {
+        title: "a log that is a single unended line",
+        sheet: TWO,
+        log: "+ a b 1",
+        answers: &[2],
+    },
+    Tried {
+        title: "an empty last line",
+        sheet: TWO,
+        log: "+ a b 1\n\n- a b 1\n\n",
+        answers: &[0, 2, 0, 2],
+    },
+    Tried {
+        title: "links with reserves",
+        sheet: "network 1\nN a\nN b\nN c\nN h\nL a h 5 3\nL b h 3 0\nL h c 4 4\n",
+        log: "+ a b 5\n+ a b 4\n+ b a 1\n+ b c 1\n- a b 4\n",
+        answers: &[15, 0, 15, 15, 0],
+    },
+    Tried {
+        title: "links of size 0",
+        sheet: "network 1\nN a\nN b\nN c\nN h\nL a h 0\nL b h 3\nL h c 3\n",
+        log: "+ a b 1\n- a b 1\n+ b c 6\n+ b c 1\n+ a c 1\n",
+        answers: &[15, 14, 0, 15, 15],
+    },
+];
