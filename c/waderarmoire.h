@@ -89,7 +89,7 @@ uint64_t waderarmoire_order(const uint8_t *sheet, size_t sheet_len, size_t *list
  *   3  amount 0 or above 2,000,000
  *   6  the names are not those of two different ends (a-z read as A-Z)
  *  14  of "-": less than that is open between them
- *  15  of "+": a link on the path would carry more than twice its size
+ *  15  of "+": a link on the path would carry more than twice its usable size
  *  16  of "+": 512 other pairs are open
  *
  * The caller owes the same for sheet, log and answers, the last of which is written. On success the
