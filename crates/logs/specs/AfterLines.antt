@@ -1,5 +1,6 @@
--- What holds after every line of a log over an accepted sheet, and what the answer to each line is, also as lent back: the facts of `theory_log` about the requests of its lines.
--- Document 02, Card 6 ("After every line each link's load is what the answered-0 lines opened over it less what they gave up, and never above twice its size").
+-- What holds after every line of a log over an accepted sheet, and what the answer to each line is, also as lent back: the facts of `theory_log` about the
+-- requests of its lines. Document 02, Card 6 ("After every line each link's load is what the answered-0 lines opened over it less what they gave up, and never
+-- above twice its usable size").
 use mathlib.Core.List.{List, [], _∷_, map}
 use mathlib.Core.Logic.{_↔_, _≢_}
 use mathlib.Core.Path.{_≡_, refl, ap, _∙_}

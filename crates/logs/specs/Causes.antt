@@ -1,5 +1,5 @@
--- Why a line of a log gets a number, in the order of document 02, Card 6: form faults, 3, 6, then for `-` 14, for `+` 15, then 16. Each number just for its cause,
--- and 0 just where no cause applies. By the line, the look-ups of its names, and what is open.
+-- Why a line of a log gets a number, in the order of document 02, Card 6: form faults, 3, 6, then for `-` 14, for `+` 15, then 16. Each number just for its
+-- cause, and 0 just where no cause applies. By the line, the look-ups of its names, and what is open.
 use mathlib.Core.Bool.{Bool, true, false}
 use mathlib.Core.List.{List}
 use mathlib.Core.Logic.{_⊎_, inl, inr, ⊎-elim, _↔_, _≢_}
@@ -125,7 +125,8 @@ module _ (s : List ℕ) (names : List (ℕ × ℕ)) (t : ℕ → ℕ) (ls : Link
   a-cause-makes-its-number (malformed {k} h f) = rw (ended-line log at h, a-log-line-is-a-fault-just-for-its-cause (lineAt log at) k .1 f)
   a-cause-makes-its-number (not-two-ends k none) = ap (answer ls c es) (asked-of-none k none)
   a-cause-makes-its-number (less-open {a} {b} k z h) = ap (answer ls c es) (asked-between k z) ∙ says-14 ls c es (meant a b) h
-  a-cause-makes-its-number (overfilling {a} {b} k z o) = ap (answer ls c es) (asked-between k z) ∙ says-15 ls c es (meant a b) (overfilled-by ls c es (meant a b) o)
+  a-cause-makes-its-number (overfilling {a} {b} k z o) =
+      ap (answer ls c es) (asked-between k z) ∙ says-15 ls c es (meant a b) (overfilled-by ls c es (meant a b) o)
   a-cause-makes-its-number (no-place {a} {b} k z d w) =
       ap (answer ls c es) (asked-between k z) ∙ answered-16-exactly-where-nothing-is-overfilled-and-there-is-no-place ls c es (meant a b) .1 (d, w)
 

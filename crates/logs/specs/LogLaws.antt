@@ -134,7 +134,8 @@ module _ (s : List ℕ) (names : List (ℕ × ℕ)) (t : ℕ → ℕ) where
   unfolding requestBy
   line-is-asked l (Booking opens a e b f x) (k, q) =
       let amount : x ≡ value (field (fields l) 3) = cc in
-      between-is-asked (length names) t opens x (omega (arith, k .some)) (omega (arith, k .limited)) _ _ (found-is-a-site s _ names) (found-is-a-site s _ names)
+      between-is-asked (length names) t opens x (omega (arith, k .some)) (omega (arith, k .limited)) _ _ (found-is-a-site s _ names)
+      (found-is-a-site s _ names)
   line-is-asked l (Fault k) h = tt
 
   pub a-request-can-be-asked : (log : List ℕ) (at : ℕ) → Asked (length names) (requestAt s names t log at)

@@ -46,8 +46,8 @@ pub record Short (log : List ℕ) : Type 0 where
   pub bytes : length log ≤ LOGBYTES
   pub few : length (lines log) ≤ LOGLINES
 
--- what the replay of a log over the sheet s, into the lent list l, comes to: the sheet is refused for a cause of its own; or it has none, and the log has too many
--- bytes or lines; or the list has fewer places than the log has lines; or every line is answered
+-- what the replay of a log over the sheet s, into the lent list l, comes to: the sheet is refused for a cause of its own; or it has none, and the log has
+-- too many bytes or lines; or the list has fewer places than the log has lines; or every line is answered
 pub data ReplayTold (ed : Edition) (s log l : List ℕ) : Type 0 where
   faulty-sheet : (k line : ℕ) → Refusal ed s k line → SheetNumber k → IsRefused 1 k line l (replayed ed s log l) → ReplayTold ed s log l
   long-log : (net : Network) → Sheet ed s net → (LOGBYTES < length log) ⊎ (LOGLINES < length (lines log)) → IsRefused 2 1 0 l (replayed ed s log l)
@@ -65,10 +65,12 @@ module _ (ed : Edition) (s log l : List ℕ) where
     unfolding replayed replayRead replayOver
     over-short-log g h = cases (decLe (length (lines log)) (length l))
         (λ k. all-answered net sheet (record { bytes = g; few = h }) k
-        (rw (e, le-leb _ _ g, le-leb _ _ h, le-leb _ _ k) (record { text-told = refl; number-told = refl; line-told = refl; count-told = refl; list-filled = refl })))
+        (rw (e, le-leb _ _ g, le-leb _ _ h, le-leb _ _ k)
+        (record { text-told = refl; number-told = refl; line-told = refl; count-told = refl; list-filled = refl })))
         (λ k. let i : length l < length (lines log) = omega arith in
         few-places net sheet (record { bytes = g; few = h }) i
-        (rw (e, le-leb _ _ g, le-leb _ _ h, lt-leb _ _ i) (record { text-told = refl; number-told = refl; line-told = refl; count-told = refl; list-kept = refl })))
+        (rw (e, le-leb _ _ g, le-leb _ _ h, lt-leb _ _ i)
+        (record { text-told = refl; number-told = refl; line-told = refl; count-told = refl; list-kept = refl })))
 
     over-log : ReplayTold ed s log l
     unfolding replayed replayRead replayOver

@@ -107,7 +107,8 @@ fn request_at(
 ) -> Request
     requires { ⌜ (n ≤ SITES) × Indexes (now sheet) (ranges (now starts) (now stops) 0 n) (now table) × (at ≤ length (now log))
         × (now line ≡ lineAt (now log) at) ⌝ }
-    ensures { λ r. ⌜ r ≡ requestAt (now (sheet .entry)) (ranges (now (starts .entry)) (now (stops .entry)) 0 n) (look (now (ends .entry))) (now (log .entry)) at ⌝ }
+    ensures { λ r. ⌜ r ≡ requestAt (now (sheet .entry)) (ranges (now (starts .entry)) (now (stops .entry)) 0 n) (look (now (ends .entry)))
+        (now (log .entry)) at ⌝ }
 {
     let kind = line_of(log, line, at);
     match kind {

@@ -14,7 +14,8 @@ use Rattle.model.specs.Pairing.{lowestInner, pairs, lowerFirst, before, insert,
 use Rattle.text_lines.specs.Lines.{lineLength, lineAt, afterLine, hasLine}
 use Rattle.sheet_kinds.specs.LineKinds.{same, push, fields, all, isName, isNumber, valueFrom, isHeading, checkedFields, checked, faultOf, judged}
 use Rattle.sheet_kinds.specs.LineKinds.{sizeOf, capacityOf, siteLine as sheetSite, sizedLink, linkLine as sheetLink, kindOf, kind}
-use Rattle.sheet.specs.Sheet.{capitals, lookupFrom, siteStep, linkStep, headingStep, recordStep, stepOf, readLine, andThen, readLines, allJoined, finish, readSheet}
+use Rattle.sheet.specs.Sheet.{capitals, lookupFrom, siteStep, linkStep, headingStep, recordStep, stepOf, readLine, andThen, readLines, allJoined}
+use Rattle.sheet.specs.Sheet.{finish, readSheet}
 use Rattle.report.specs.Report.{digits, decimal, line, lines, oddLine, wholeOf, ownerName, headRecord, linkRecord, linkLine, siteRecord, siteLine, cutRecord}
 use Rattle.report.specs.Report.{cutLine, pairLine, reportOf, wholeReport}
 use Rattle.planner.specs.Outcome.{deliver, planRead, plannedBy}
@@ -28,7 +29,8 @@ unfolding plannedFor expected plannedBy planRead deliver ℕ-discrete decLe decL
     highest onWay ownerAt newTop leastAt take takeAll topLoad coming giveAt giveAll linkLoad above intervals loading wholeLoad wholeOwner wholeLoads put
     takeHalves dropHalves halves give match joins between children gather alone settle walk pairsFrom lowestInner pairs lowerFirst before insert ordered
     pairList lineLength lineAt afterLine hasLine same push fields all isName isNumber valueFrom isHeading checkedFields checked faultOf judged
-    sizeOf capacityOf sheetSite sizedLink sheetLink kindOf kind capitals lookupFrom siteStep linkStep headingStep recordStep stepOf readLine andThen readLines allJoined
-    finish readSheet digits decimal line lines oddLine wholeOf ownerName headRecord linkRecord linkLine siteRecord siteLine cutRecord cutLine pairLine
+    sizeOf capacityOf sheetSite sizedLink sheetLink kindOf kind capitals lookupFrom siteStep linkStep headingStep recordStep stepOf readLine andThen
+    readLines allJoined finish readSheet digits decimal line lines oddLine
+    wholeOf ownerName headRecord linkRecord linkLine siteRecord siteLine cutRecord cutLine pairLine
     reportOf wholeReport
 sheets-in-whole-circuits = refl

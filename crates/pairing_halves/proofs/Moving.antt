@@ -71,7 +71,8 @@ module _ {a : List ℕ} {f : Place} {e : ℕ} (p : Lies a f e) (l : f .at < e) w
 
   cut-ends : cut ≡ ending a e (flat (rest a f e))
   cut-ends =
-      let here : e - length (flat (rest a f e)) ≡ f .at = omega (arith, ap length cut-slice, length-slice (f .at) e cut (omega (arith, p .stands .inside, cut-long))) in
+      let here : e - length (flat (rest a f e)) ≡ f .at
+      = omega (arith, ap length cut-slice, length-slice (f .at) e cut (omega (arith, p .stands .inside, cut-long))) in
       rw (here, ← cut-slice)
       (parts cut (f .at) e (omega arith)
       ∙ rw (take-set-le (f .at) a (f .at + 1) still (omega arith), drop-set-lt e a (f .at + 1) still (omega (arith, front-room (p .stands) l))))

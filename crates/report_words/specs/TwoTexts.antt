@@ -24,7 +24,8 @@ sheetWord l = pick l 0 [] (bytes "the sheet, ")
 -- a log with more bytes or lines than it may have (number 1)
 unfoldable pub logLong : List ℕ
 logLong =
-    bytes "the log: more than " ++ ((grouped LOGBYTES ++ bytes " ") ++ (bytes "bytes, or than " ++ ((grouped LOGLINES ++ bytes " ") ++ (bytes "lines" ++ (10 ∷ [])))))
+    bytes "the log: more than " ++ ((grouped LOGBYTES ++ bytes " ")
+    ++ (bytes "bytes, or than " ++ ((grouped LOGLINES ++ bytes " ") ++ (bytes "lines" ++ (10 ∷ [])))))
 
 -- why a log is refused as a whole: 1, or 9
 unfoldable pub logWords : ℕ → List ℕ

@@ -24,7 +24,8 @@ use Rattle.sheet_names.specs.declared.Found.{Found}
 use Rattle.sheet_names.specs.declared.Found.the-variants.{At, Absent}
 use Rattle.sheet.specs.Sheet.{Network, accepted, part, lookup, siteBy, siteStep, linkStep, headingStep, recordStep, stepOf, added, readLine, readSheet}
 use Rattle.sheet.specs.Causes.{Named, fieldsAt, Reached, start, next}
-use Rattle.sheet.specs.CauseLaws.{Finds, finds, firstName, a-site-is-looked-up-by-field-1, a-link-is-looked-up-by-field-1, a-link-is-looked-up-by-field-2}
+use Rattle.sheet.specs.CauseLaws.{Finds, finds, firstName, a-site-is-looked-up-by-field-1}
+use Rattle.sheet.specs.CauseLaws.{a-link-is-looked-up-by-field-1, a-link-is-looked-up-by-field-2}
 use Rattle.sheet.specs.RefusalLaws.{an-accepted-sheet-is-read-to-its-end}
 use Rattle.sheet.specs.declared.stepping.Step.{Step}
 use Rattle.sheet.specs.declared.stepping.Step.the-variants.{Nothing, Site, Link, Refused}
@@ -198,7 +199,8 @@ module _ (ed : Edition) (s : List ℕ) where
   OwnLinks ls cs = (length cs ≡ length ls) × ((j : ℕ) → j < length ls → OwnLinkLine ed s j (getD ls j (0, 0)) (look cs j))
 
   -- one link more, with its capacity
-  with-one-more : (ls : Links) (cs : List ℕ) → OwnLinks ls cs → (l : ℕ × ℕ) (c : ℕ) → OwnLinkLine ed s (length ls) l c → OwnLinks (ls ++ (l ∷ [])) (cs ++ (c ∷ []))
+  with-one-more : (ls : Links) (cs : List ℕ) → OwnLinks ls cs → (l : ℕ × ℕ) (c : ℕ) → OwnLinkLine ed s (length ls) l c
+      → OwnLinks (ls ++ (l ∷ [])) (cs ++ (c ∷ []))
   with-one-more ls cs own l c new = (
     omega (arith, own .0, length-append ls (l ∷ []), length-append cs (c ∷ [])),
     λ j b. same? j (length ls)

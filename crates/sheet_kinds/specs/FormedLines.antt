@@ -11,8 +11,8 @@ use Rattle.model.specs.Text.{bytes}
 use Rattle.text_grammar.specs.Grammar.{ends, split}
 use Rattle.text_grammar.specs.SplitLaws.{field-lies, length-of-field, end-of-split}
 use Rattle.text_grammar.specs.declared.Fields.{Fields}
-use Rattle.sheet_kinds.specs.LineKinds.{same, fields, field, isName, isHeading, checked, siteForm, linkForm, IsSite, IsLink, siteLine, usableSize, linkOf}
-use Rattle.sheet_kinds.specs.LineKinds.{sizedLink, linkLine, kindOf, kind}
+use Rattle.sheet_kinds.specs.LineKinds.{same, fields, field, isName, isHeading, checked, siteForm, linkForm, IsSite, IsLink, siteLine}
+use Rattle.sheet_kinds.specs.LineKinds.{usableSize, linkOf, sizedLink, linkLine, kindOf, kind}
 use Rattle.sheet_kinds.specs.LineKindLaws.{judged-cases, site-parts, link-parts, capacity-cases}
 use Rattle.sheet_kinds.specs.declared.Line.{Line}
 use Rattle.sheet_kinds.specs.declared.Line.the-variants.{Heading, Site, Link, Fault}

@@ -45,7 +45,8 @@ module _ (s f : List ℕ) where
   first-is-found [] k i l e d = absurd (omega arith)
   first-is-found (r ∷ rs) k zero l e d = rw (e, equal-are-same (capitals f)) (ap At (omega arith))
   first-is-found (r ∷ rs) k (suc i) l e d =
-      rw (not-same (capitals (part s r)) (capitals f) (d 0 (omega arith))) (first-is-found rs (suc k) i (omega arith) e (λ j b. d (suc j) (omega arith)) ∙ ap At (omega arith))
+      rw (not-same (capitals (part s r)) (capitals f) (d 0 (omega arith)))
+      (first-is-found rs (suc k) i (omega arith) e (λ j b. d (suc j) (omega arith)) ∙ ap At (omega arith))
 
 -- ---- names in two lists
 

@@ -198,7 +198,8 @@ front-different s starts ends n k l d j h i b =
     (rw (range-at starts ends n i (omega arith), range-at starts ends n j (omega arith)) at (d j (omega arith) i b))
 
 -- the table of the first k of n ranges with the next one entered
-pub next-entered : (s starts ends table : List ℕ) (n k : ℕ) → n ≤ SITES → k < n → Different s (ranges starts ends 0 n) → Indexes s (ranges starts ends 0 k) table
+pub next-entered : (s starts ends table : List ℕ) (n k : ℕ) → n ≤ SITES → k < n → Different s (ranges starts ends 0 n)
+    → Indexes s (ranges starts ends 0 k) table
     → Indexes s (ranges starts ends 0 (k + 1)) (entered table (hash (part s (look starts k, look ends k))) (k + 1))
 next-entered s starts ends table n k room l different t =
     let r : ℕ × ℕ = (look starts k, look ends k) in

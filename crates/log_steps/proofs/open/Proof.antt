@@ -14,7 +14,9 @@ overfills-requires c κs =
     measured (s .0) (s .2) (s .1) (path .result) (path .ensures)
 
 find-requires : tie.Need-find-requires
-find-requires c κs = c .before .before .before .before .before .before .before .before .pre .2 .holds .pairs .few
+find-requires c κs =
+    let s = c .before .before .before .before .before .before .before .before in
+    s .pre .2 .holds .pairs .few
 
 returns : tie.Need-returns
 returns c =

@@ -26,7 +26,9 @@ here : (c : tie.Then1 Inv-loop μ-loop) → let top = c .before .before in hasLi
 here c = sym (c .before .has-line .ensures) ∙ c .if1 .taken
 
 later : (c : tie.After-rest Inv-loop μ-loop) → c .before .before .before .loop .at < c .rest .result
-later c = let top = c .before .before .before in rw (c .rest .ensures) (after-line-is-later (top .before .before .args .log .now) (top .loop .at) (here (c .before)))
+later c =
+    let top = c .before .before .before in
+    rw (c .rest .ensures) (after-line-is-later (top .before .before .args .log .now) (top .loop .at) (here (c .before)))
 
 add-count : tie.Need-add-count Inv-loop μ-loop
 add-count c =

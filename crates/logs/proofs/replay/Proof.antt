@@ -10,13 +10,15 @@ replay-network-requires : tie.Need-replay-network-requires
 replay-network-requires c κs =
     let read = c .before .before .before in
     rw (← (read .read .ensures)) at
-    (accepted-is-listed (read .before .before .before .before .args .sheet .now) (sym (ap (λ x. x .answer) (read .read .ensures)) ∙ c .before .enum-told .given .1))
+    (accepted-is-listed (read .before .before .before .before .args .sheet .now)
+    (sym (ap (λ x. x .answer) (read .read .ensures)) ∙ c .before .enum-told .given .1))
 
 returns : tie.Need-returns
 returns c =
     let read = c .before .before .before in
     let a = read .before .before .before .before .args in
-    let e = refused-is-told (a .sheet .now) (a .log .now) (a .answers .now) _ _ (sym (ap (λ x. x .answer) (read .read .ensures)) ∙ c .before .answer .given .1) in
+    let e = refused-is-told (a .sheet .now) (a .log .now) (a .answers .now) _ _
+    (sym (ap (λ x. x .answer) (read .read .ensures)) ∙ c .before .answer .given .1) in
     (sym (ap (λ p. p .outcome) e), sym (ap (λ p. p .list) e))
 
 pub replay-spec : {M : Type 1} → statement M

@@ -35,7 +35,8 @@ returns-3 c =
     (sym (ap (λ p. p .outcome) e), sym (ap (λ p. p .list) e))
 
 -- there is a place for each line
-places : (c : tie.Else3) → let s = c .before .before .before .before .before .before .before in length (lines (s .args .log .now)) ≤ length (s .args .list .now)
+places : (c : tie.Else3) → let s = c .before .before .before .before .before .before .before in
+    length (lines (s .args .log .now)) ≤ length (s .args .list .now)
 places c = rw (c .before .before .count-lines .ensures) at (c .if3 .left)
 
 answer-parts-requires : tie.Need-answer-parts-requires
