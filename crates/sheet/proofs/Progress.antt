@@ -17,7 +17,7 @@ use Rattle.tree_labels.specs.LabelPlaces.{whole-sites}
 use Rattle.text_lines.specs.Lines.{afterLine}
 use Rattle.sheet_names.specs.Names.{TABLE, part, ranges, hash, entered, Indexes}
 use Rattle.sheet_names.specs.TableLaws.{no-sites, site-entered}
-use Rattle.sheet.specs.Sheet.{Network, empty, refused, accepted, stepOf, added, readLine, readLines, andThen, finish}
+use Rattle.sheet.specs.Sheet.{Network, empty, withSite, withLink, refused, accepted, stepOf, added, readLine, readLines, andThen, finish}
 use Rattle.sheet.specs.Reading.{padded, lists, reading}
 use Rattle.sheet.specs.Sound.{Sound, Accepts, none-is-sound, a-line-keeps-sound, links-are-few}
 use Rattle.sheet.specs.ReadLaws.{lines-end, lines-step}
@@ -38,10 +38,11 @@ placed f rs r h =
     ∙ ap (padded SITES) (sym (map-append f rs (r ∷ [])))
 
 -- the lists with one site more, and with one link more
-abbrev withSite : Lists → ℕ → ℕ → Lists
-withSite net a b = record {
+abbrev siteStored : Lists → ℕ → ℕ → ℕ → Lists
+siteStored net a b m = record {
   start = set (net .start) (net .sites) a;
   end = set (net .end) (net .sites) b;
+  mark = set (net .mark) (net .sites) m;
   one = net .one;
   two = net .two;
   capacity = net .capacity;
@@ -49,10 +50,11 @@ withSite net a b = record {
   links = net .links;
 }
 
-abbrev withLink : Lists → ℕ → ℕ → ℕ → Lists
-withLink net a b size = record {
+abbrev linkStored : Lists → ℕ → ℕ → ℕ → Lists
+linkStored net a b size = record {
   start = net .start;
   end = net .end;
+  mark = net .mark;
   one = set (net .one) (net .links) a;
   two = set (net .two) (net .links) b;
   capacity = set (net .capacity) (net .links) size;
@@ -61,12 +63,12 @@ withLink net a b size = record {
 }
 
 -- the lists hold the network of the lines before the line at an offset, the table its names, and the lines from there on decide
-pub record Progress (ed : Edition) (s : List ℕ) (net : Lists) (table marks : List ℕ) (at number : ℕ) : Type 0 where
+pub record Progress (ed : Edition) (s : List ℕ) (net : Lists) (table tags : List ℕ) (at number : ℕ) : Type 0 where
   pub fits : ed .sites ≤ SITES
   pub read : Network
   pub lists-are : net ≡ lists read
   pub indexed : Indexes s (read .names) table
-  pub labels-are : marks ≡ labels PLACES (reverse (read .links))
+  pub labels-are : tags ≡ labels PLACES (reverse (read .links))
   pub sound : Sound ed s read
   pub on-sheet : at ≤ length s
   pub numbered : number ≤ at + 1
@@ -85,7 +87,7 @@ start ed h s = record {
   rest = rw sub-zero;
 }
 
-module _ {ed : Edition} {s table marks : List ℕ} {net : Lists} {at number : ℕ} (P : Progress ed s net table marks at number) where
+module _ {ed : Edition} {s table tags : List ℕ} {net : Lists} {at number : ℕ} (P : Progress ed s net table tags at number) where
   -- how many sites and links there are, and that the lists have their places
   sites-are : net .sites ≡ length (P .read .names)
   unfolding lists
@@ -95,7 +97,7 @@ module _ {ed : Edition} {s table marks : List ℕ} {net : Lists} {at number : �
   unfolding lists
   links-are = ap (λ n. n .links) (P .lists-are)
 
-  pub lengths : (length marks ≡ PLACES) × (net .sites ≤ SITES)
+  pub lengths : (length tags ≡ PLACES) × (net .sites ≤ SITES)
   lengths = (ap length (P .labels-are) ∙ length-labels PLACES (reverse (P .read .links)), omega (arith, sites-are, P .sound .few, P .fits))
 
   -- the names of the lists, of which the table is
@@ -107,7 +109,7 @@ module _ {ed : Edition} {s table marks : List ℕ} {net : Lists} {at number : �
   table-is = rw ranges-are (P .indexed)
 
   -- the network that the lists and the labels hold
-  pub held : Held (net .start) (net .end) (net .sites) marks (P .read)
+  pub held : Held (net .start) (net .end) (net .sites) tags (P .read)
   held = record { names = ranges-are; labels-are = P .labels-are }
 
   module _ (w : Step) (h : at < length s) (e : w ≡ stepOf ed s (P .read) number at) where
@@ -140,23 +142,26 @@ module _ {ed : Edition} {s table marks : List ℕ} {net : Lists} {at number : �
         }
 
     -- a heading leaves the lists as they are
-    pub by-heading : w ≡ step.Nothing → Progress ed s net table marks (afterLine s at) (number + 1)
-    by-heading q = on (P .read) (ap (added (P .read)) q) net (P .lists-are) table (P .indexed) marks (P .labels-are)
+    pub by-heading : w ≡ step.Nothing → Progress ed s net table tags (afterLine s at) (number + 1)
+    by-heading q = on (P .read) (ap (added (P .read)) q) net (P .lists-are) table (P .indexed) tags (P .labels-are)
 
     -- a site takes the next place of the names
-    pub site-fits : (a b : ℕ) → w ≡ step.Site a b → net .sites < SITES
-    site-fits a b q = omega (arith, sites-are, sound-next _ (ap (added (P .read)) q) .few, length-append (P .read .names) ((a, b) ∷ []))
+    pub site-fits : (a b m : ℕ) → w ≡ step.Site a b m → net .sites < SITES
+    site-fits a b m q = omega (arith, sites-are, sound-next _ (ap (added (P .read)) q) .few, length-append (P .read .names) ((a, b) ∷ []))
 
-    pub by-site : (a b : ℕ) → w ≡ step.Site a b → (entries : List ℕ) → entries ≡ entered table (hash (part s (a, b))) (net .sites + 1)
-        → Progress ed s (withSite net a b) entries marks (afterLine s at) (number + 1)
+    pub by-site : (a b m : ℕ) → w ≡ step.Site a b m → (entries : List ℕ) → entries ≡ entered table (hash (part s (a, b))) (net .sites + 1)
+        → Progress ed s (siteStored net a b m) entries tags (afterLine s at) (number + 1)
     unfolding lists
-    by-site a b q entries e =
+    by-site a b m q entries e =
         let names = P .read .names in
-        let room : length names < SITES = omega (arith, sites-are, site-fits a b q) in
-        on (record { names = names ++ ((a, b) ∷ []); links = P .read .links; capacities = P .read .capacities }) (ap (added (P .read)) q) _
-        (rw (P .lists-are, placed (λ r. r .0) names (a, b) room, placed (λ r. r .1) names (a, b) room, length-append names ((a, b) ∷ [])))
+        let ms = P .read .marks in
+        let room : length names < SITES = omega (arith, sites-are, site-fits a b m q) in
+        let marked : set (padded SITES ms) (length names) m ≡ padded SITES (ms ++ (m ∷ []))
+        = rw (← (P .sound .marks)) (padded-more SITES ms m (omega (arith, P .sound .marks))) in
+        on (withSite (P .read) (a, b) m) (ap (added (P .read)) q) _
+        (rw (P .lists-are, placed (λ r. r .0) names (a, b) room, placed (λ r. r .1) names (a, b) room, marked, length-append names ((a, b) ∷ [])))
         entries (rw (e, sites-are) (site-entered (P .indexed) (a, b) room (sound-next _ (ap (added (P .read)) q) .different)))
-        marks (P .labels-are)
+        tags (P .labels-are)
 
     -- a link takes the next place of the links, and joins its sites
     link-behind : (a b : ℕ) → reverse (P .read .links ++ ((a, b) ∷ [])) ≡ (a, b) ∷ reverse (P .read .links)
@@ -172,8 +177,8 @@ module _ {ed : Edition} {s table marks : List ℕ} {net : Lists} {at number : �
         let few = P .sound .few in
         omega (arith, links-are, links-are-few (P .sound) (omega arith))
 
-    pub by-link : (a b size : ℕ) → w ≡ step.Link a b size → (joined : List ℕ) → joined ≡ linked (take (net .sites + 1) marks) a b
-        → Progress ed s (withLink net a b size) table (joined ++ drop (net .sites + 1) marks) (afterLine s at) (number + 1)
+    pub by-link : (a b size : ℕ) → w ≡ step.Link a b size → (joined : List ℕ) → joined ≡ linked (take (net .sites + 1) tags) a b
+        → Progress ed s (linkStored net a b size) table (joined ++ drop (net .sites + 1) tags) (afterLine s at) (number + 1)
     unfolding lists
     by-link a b size q joined e =
         let ls = P .read .links in
@@ -183,11 +188,11 @@ module _ {ed : Edition} {s table marks : List ℕ} {net : Lists} {at number : �
         let room : length ls < SITES = omega (arith, links-are) in
         let sized : set (padded SITES cs) (length ls) size ≡ padded SITES (cs ++ (size ∷ []))
         = rw (← (P .sound .capacities)) (padded-more SITES cs size (omega (arith, P .sound .capacities))) in
-        on (record { names = P .read .names; links = ls ++ ((a, b) ∷ []); capacities = cs ++ (size ∷ []) }) (ap (added (P .read)) q) _
+        on (withLink (P .read) (a, b) size) (ap (added (P .read)) q) _
         (rw (P .lists-are, placed (λ l. l .0) ls (a, b) room, placed (λ l. l .1) ls (a, b) room, sized, length-append ls ((a, b) ∷ [])))
         table (P .indexed)
-        (joined ++ drop (net .sites + 1) marks)
-        (ap (λ j. j ++ drop (net .sites + 1) marks) e ∙ ap₂ (λ k m. linked (take (k + 1) m) a b ++ drop (k + 1) m) sites-are (P .labels-are)
+        (joined ++ drop (net .sites + 1) tags)
+        (ap (λ j. j ++ drop (net .sites + 1) tags) e ∙ ap₂ (λ k m. linked (take (k + 1) m) a b ++ drop (k + 1) m) sites-are (P .labels-are)
         ∙ linked-at-the-sites PLACES (length (P .read .names)) (reverse ls) (P .sound .ends) (omega (arith, P .sound .few, P .fits)) a b (are-sites .0)
         (are-sites .1)
         ∙ labels-join PLACES a b (reverse ls) (fits .1) (fits .2) ∙ ap (labels PLACES) (sym (link-behind a b)))
@@ -204,22 +209,22 @@ module _ {ed : Edition} {s table marks : List ℕ} {net : Lists} {at number : �
     unfolding andThen
     finished = rw (P .rest, lines-end ed s (length s - at) number at (P .read) h)
 
-    all-joined : finish (P .read) ≡ cond (whole marks (net .sites)) (accepted (P .read)) (refused 8 0)
+    all-joined : finish (P .read) ≡ cond (whole tags (net .sites)) (accepted (P .read)) (refused 8 0)
     unfolding finish
     all-joined =
         rw (
-          whole-sites marks (net .sites) (omega (arith, lengths)),
+          whole-sites tags (net .sites) (omega (arith, lengths)),
           alike-tells (P .read .links) PLACES 1 (length (P .read .names)) (omega arith) (omega (arith, P .sound .few)),
           ← (P .labels-are),
           ← sites-are,
         )
 
     -- under two sites, or not all joined
-    pub by-parts : whole marks (net .sites) ≡ false → andThen (readLines ed s (length s) 1 0 empty) finish ≡ refused 8 0
+    pub by-parts : whole tags (net .sites) ≡ false → andThen (readLines ed s (length s) 1 0 empty) finish ≡ refused 8 0
     by-parts e = finished ∙ all-joined ∙ rw e
 
     -- else the network is that of the lists
-    pub by-acceptance : whole marks (net .sites) ≡ true
+    pub by-acceptance : whole tags (net .sites) ≡ true
         → reading (andThen (readLines ed s (length s) 1 0 empty) finish) ≡ record { answer = Accepted; network = net }
     unfolding reading
     by-acceptance e = rw (finished, all-joined, e, ← (P .lists-are))

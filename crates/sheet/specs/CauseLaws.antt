@@ -15,7 +15,7 @@ use Rattle.lists.specs.Sums.{same?, cases, contradiction}
 use Rattle.theory_trees.specs.Labels.{joined-iff}
 use Rattle.text_lines.specs.Lines.{lineLength, lineAt}
 use Rattle.text_lines.specs.LineLaws.{length-of-line}
-use Rattle.sheet_kinds.specs.LineKinds.{field, IsSite, IsLink, kind}
+use Rattle.sheet_kinds.specs.LineKinds.{field, mark, IsSite, IsLink, kind}
 use Rattle.sheet_kinds.specs.FaultyLines as faulty
 use Rattle.sheet_kinds.specs.FormedLines.{site-is-formed, link-is-formed}
 use Rattle.sheet_kinds.specs.KindForms.{LinkWithin, Tells, a-kind-tells-its-form, a-heading-by-its-form, no-heading-by-its-form, a-site-by-its-form}
@@ -79,7 +79,7 @@ module _ (s : List ℕ) (at : ℕ) where
   -- the part of the sheet that is looked up is that field
   pub a-site-is-looked-up-by-field-1 : IsSite (fieldsAt s at) → part s firstName ≡ field (fieldsAt s at) 1
   a-site-is-looked-up-by-field-1 h =
-      let f = site-is-formed (lineAt s at) 0 h in
+      let f = site-is-formed (lineAt s at) 0 h 0 (omega arith) in
       part-of-line s at _ _ (f .0) (f .1) ∙ site-name-is-field-1 (lineAt s at) h
 
   pub a-link-is-looked-up-by-field-1 : IsLink (fieldsAt s at) → part s firstName ≡ field (fieldsAt s at) 1
@@ -98,7 +98,7 @@ module _ (ed : Edition) (s : List ℕ) (net : Network) (k at : ℕ) where
   -- a refusal is at its line and has its cause
   abbrev Right : Step → Type 0
   Right Nothing = Unit {0}
-  Right (Site a e) = Unit {0}
+  Right (Site a e m) = Unit {0}
   Right (Link a b size) = Unit {0}
   Right (Refused n m) = (m ≡ k) × Cause ed s net k at n
 
@@ -110,11 +110,12 @@ module _ (ed : Edition) (s : List ℕ) (net : Network) (k at : ℕ) where
   two = field (fieldsAt s at) 2
 
   module _ (h : Ended s at) (d : k ≢ 1) where
-    site-right : IsSite (fieldsAt s at) → (r : ℕ × ℕ) → part s r ≡ one → Right (siteStep ed k (length (net .names)) r (lookup s (net .names) (part s r)))
+    site-right : IsSite (fieldsAt s at) → (r : ℕ × ℕ) (m : ℕ) → part s r ≡ one
+        → Right (siteStep ed k (length (net .names)) r m (lookup s (net .names) (part s r)))
     unfolding siteStep
-    site-right is r at-one = rw at-one (by (leb (ed .sites) (length (net .names))) refl (lookup s (net .names) one) (finds s one (net .names)))
+    site-right is r m at-one = rw at-one (by (leb (ed .sites) (length (net .names))) refl (lookup s (net .names) one) (finds s one (net .names)))
       where
-        by : (t : Bool) → leb (ed .sites) (length (net .names)) ≡ t → (w : Found) → Finds s (net .names) one w → Right (cond t (Refused 4 k) (siteBy k r w))
+        by : (t : Bool) → leb (ed .sites) (length (net .names)) ≡ t → (w : Found) → Finds s (net .names) one w → Right (cond t (Refused 4 k) (siteBy k r m w))
         by true q w f = (refl, too-many h d is (leb-true _ _ q))
         by false q (At v) f = (refl, given h d is (leb-false _ _ q) v f)
         by false q Absent f = tt
@@ -145,9 +146,9 @@ module _ (ed : Edition) (s : List ℕ) (net : Network) (k at : ℕ) where
     record-right : (w : Line) → kind (ed .size) (lineAt s at) ≡ w → Tells (ed .size) (lineAt s at) w → Right (recordStep ed s net k at w)
     unfolding recordStep
     record-right line.Heading is form = (refl, second-heading h d form)
-    record-right (line.Site a e) is form =
+    record-right (line.Site a e m) is form =
         subst (λ w. Right (recordStep ed s net k at w)) (sym (form .2))
-        (site-right (form .1) (firstName s at) (a-site-is-looked-up-by-field-1 s at (form .1)))
+        (site-right (form .1) (firstName s at) (mark (fieldsAt s at)) (a-site-is-looked-up-by-field-1 s at (form .1)))
     record-right (line.Link a e b f size) is form =
         let g = form .1 .link in
         subst (λ w. Right (recordStep ed s net k at w)) (sym (form .2))
@@ -157,7 +158,7 @@ module _ (ed : Edition) (s : List ℕ) (net : Network) (k at : ℕ) where
   heading-right : Ended s at → k ≡ 1 → (w : Line) → Tells (ed .size) (lineAt s at) w → Right (headingStep w)
   unfolding headingStep
   heading-right h e line.Heading form = tt
-  heading-right h e (line.Site a b) form = (sym e, no-heading h e (form .0))
+  heading-right h e (line.Site a b m) form = (sym e, no-heading h e (form .0))
   heading-right h e (line.Link a b c d size) form = (sym e, no-heading h e (form .0))
   heading-right h e (line.Fault n) form = (sym e, no-heading h e form)
 
@@ -181,7 +182,7 @@ module _ (ed : Edition) (s : List ℕ) (net : Network) (k at : ℕ) where
     where
       by : (w : Step) → Right w → added net w ≡ refused n m → (m ≡ k) × Cause ed s net k at n
       by Nothing h e = contradiction cc
-      by (Site a b) h e = contradiction cc
+      by (Site a b m) h e = contradiction cc
       by (Link a b size) h e = contradiction cc
       by (Refused i j) h e = let same : i ≡ n = cc in let here : j ≡ m = cc in (sym here ∙ h .0, rw (← same) (h .1))
 
@@ -191,7 +192,7 @@ module _ (ed : Edition) (s : List ℕ) (net : Network) (k at : ℕ) where
   other-first-line : (w : Line) → w ≢ line.Heading → headingStep w ≡ Refused 2 1
   unfolding headingStep
   other-first-line line.Heading d = absurd (d refl)
-  other-first-line (line.Site a e) d = refl
+  other-first-line (line.Site a e m) d = refl
   other-first-line (line.Link a e b f size) d = refl
   other-first-line (line.Fault n) d = refl
 

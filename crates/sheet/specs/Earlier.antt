@@ -1,4 +1,4 @@
--- Reading by other kinds of lines and another look-up of names: what the sentences of document 02 about what was before are said with (Cards 1, 4 and 5).
+-- Reading by other kinds of lines and another look-up of names: what the sentences of document 02 about what was before are said with (Cards 1, 4, 5 and 7).
 -- Today's reading is the one by `kind` and `lookup`.
 use mathlib.Core.Bool.{cond, _&&_}
 use mathlib.Core.List.{List, [], _∷_}
@@ -11,6 +11,7 @@ use Rattle.text_fields.specs.Fields.{same}
 use Rattle.text_lines.specs.Lines.{lineLength, lineAt, afterLine, hasLine}
 pub use Rattle.sheet_kinds.specs.LineKinds.{kind}
 unfoldable pub use Rattle.sheet_kinds.specs.Numbering.{kindBy, faultBefore}
+pub use Rattle.sheet_kinds.specs.Unmarked.{kindUnmarked}
 pub use Rattle.sheet_kinds.specs.Unreserved.{kindUnreserved}
 use Rattle.sheet_kinds.specs.declared.Line.{Line}
 use Rattle.sheet_kinds.specs.declared.Line.the-variants as line
@@ -44,7 +45,7 @@ lookupBytes s names f = lookupBytesFrom s names 1 f
 module _ (find : Lookup) (ed : Edition) (s : List ℕ) (net : Network) (k at : ℕ) where
   unfoldable pub recordBy : Line → Step
   recordBy line.Heading = Refused 2 k
-  recordBy (line.Site a e) = siteStep ed k (length (net .names)) (at + a, at + e) (find s (net .names) (part s (at + a, at + e)))
+  recordBy (line.Site a e m) = siteStep ed k (length (net .names)) (at + a, at + e) m (find s (net .names) (part s (at + a, at + e)))
   recordBy (line.Link a e b f size) =
       linkStep k (net .links) size (find s (net .names) (part s (at + a, at + e))) (find s (net .names) (part s (at + b, at + f)))
   recordBy (line.Fault n) = Refused n k
@@ -53,7 +54,7 @@ pub record-by-the-look-up : (ed : Edition) (s : List ℕ) (net : Network) (k at 
     → recordBy lookup ed s net k at w ≡ recordStep ed s net k at w
 unfolding recordBy recordStep
 record-by-the-look-up ed s net k at line.Heading = refl
-record-by-the-look-up ed s net k at (line.Site a e) = refl
+record-by-the-look-up ed s net k at (line.Site a e m) = refl
 record-by-the-look-up ed s net k at (line.Link a e b f size) = refl
 record-by-the-look-up ed s net k at (line.Fault n) = refl
 

@@ -14,9 +14,9 @@ labels n ls = map (label ls) (upfrom 0 n)
 
 -- the list of labels of links, each link joining its sites after those before it
 abbrev pub LabelsOf : Links → List ℕ → Type 0
-LabelsOf ls marks = marks ≡ labels PLACES (reverse ls)
+LabelsOf ls tags = tags ≡ labels PLACES (reverse ls)
 
 -- the lists hold the names of a network, and the labels of its links
-pub record Held (starts ends : List ℕ) (sites : ℕ) (marks : List ℕ) (net : Network) : Type 0 where
+pub record Held (starts ends : List ℕ) (sites : ℕ) (tags : List ℕ) (net : Network) : Type 0 where
   pub names : ranges starts ends 0 sites ≡ net .names
-  pub labels-are : LabelsOf (net .links) marks
+  pub labels-are : LabelsOf (net .links) tags

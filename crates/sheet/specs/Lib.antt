@@ -16,5 +16,6 @@ pub mod NameLaws
 pub mod Earlier
 pub mod Alike
 pub mod Renumbered
+pub mod Marks
 pub mod Reserves
 pub mod Spelling

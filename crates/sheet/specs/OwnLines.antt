@@ -1,9 +1,9 @@
--- The name of a site stands on its own `N` line (document 01: "comes back as the bytes of its own `N` line"), and a link with its usable size on its own
--- `L` line (02, Card 5). By induction over the lines that are read: a line adds a name just where it is a site, and then the range of its field 1, and a
--- link just where it is one.
+-- The name of a site stands on its own `N` line (document 01: "comes back as the bytes of its own `N` line"), or on its own `T` line, which marks it (02,
+-- Card 7), and a link with its usable size on its own `L` line (02, Card 5). By induction over the lines that are read: a line adds a name just where it is
+-- a site, and then the range of its field 1 and its mark, and a link just where it is one.
 use mathlib.Core.Bool.{Bool, true, false, cond}
 use mathlib.Core.List.{List, [], _∷_, _++_}
-use mathlib.Core.Logic.{_⊎_, inl, inr, ⊎-elim}
+use mathlib.Core.Logic.{_↔_}
 use mathlib.Core.Path.{_≡_, refl, sym, ap, subst}
 use Prim.Native.Nat.{ℕ, _+_, _<_}
 use native.Mathlib.Omega.{arith}
@@ -12,17 +12,19 @@ use lib.ListN.{length, getD, drop, length-append, List·getD-append}
 use lib.Seq.{getD-append-seam}
 use Rattle.lists.specs.Numbers.{look}
 use Rattle.lists.specs.Sums.{same?, contradiction}
-use Rattle.model.specs.Flows.{Links, joined}
+use Rattle.model.specs.Flows.{joined}
+use Rattle.model.specs.Text.{bytes}
 use Rattle.model.specs.declared.Edition.{Edition}
 use Rattle.text_lines.specs.Lines.{lineLength, lineAt}
-use Rattle.sheet_kinds.specs.LineKinds.{field, usableSize, IsSite, kind}
+use Rattle.sheet_kinds.specs.LineKinds.{field, mark, usableSize, IsSite, kind}
+use Rattle.sheet_kinds.specs.LineKindLaws.{a-mark-tells-its-letter, no-mark-tells-its-letter}
 use Rattle.sheet_kinds.specs.KindForms.{LinkWithin, Tells, a-kind-tells-its-form}
 use Rattle.sheet_kinds.specs.declared.Line.{Line}
 use Rattle.sheet_kinds.specs.declared.Line.the-variants as line
-use Rattle.sheet_names.specs.Lists.{one-more}
 use Rattle.sheet_names.specs.declared.Found.{Found}
 use Rattle.sheet_names.specs.declared.Found.the-variants.{At, Absent}
-use Rattle.sheet.specs.Sheet.{Network, accepted, part, lookup, siteBy, siteStep, linkStep, headingStep, recordStep, stepOf, added, readLine, readSheet}
+use Rattle.sheet.specs.Sheet.{Network, withSite, withLink, accepted, part, lookup, siteBy, siteStep, linkStep, headingStep, recordStep, stepOf}
+use Rattle.sheet.specs.Sheet.{added, readLine, readSheet}
 use Rattle.sheet.specs.Causes.{Named, fieldsAt, Reached, start, next}
 use Rattle.sheet.specs.CauseLaws.{Finds, finds, firstName, a-site-is-looked-up-by-field-1}
 use Rattle.sheet.specs.CauseLaws.{a-link-is-looked-up-by-field-1, a-link-is-looked-up-by-field-2}
@@ -30,8 +32,8 @@ use Rattle.sheet.specs.RefusalLaws.{an-accepted-sheet-is-read-to-its-end
 use Rattle.sheet.specs.declared.stepping.Step.{Step}
 use Rattle.sheet.specs.declared.stepping.Step.the-variants.{Nothing, Site, Link, Refused}
 
--- a line of a sheet, read after n sites, is a site line, and r is the range of its field 1
-pub record OwnLine (ed : Edition) (s : List ℕ) (n : ℕ) (r : ℕ × ℕ) : Type 0 where
+-- a line of a sheet, read after n sites, is a site line, r is the range of its field 1, and m is its mark
+pub record OwnLine (ed : Edition) (s : List ℕ) (n : ℕ) (r : ℕ × ℕ) (m : ℕ) : Type 0 where
   pub number : ℕ
   pub offset : ℕ
   pub above : Network
@@ -40,6 +42,7 @@ pub record OwnLine (ed : Edition) (s : List ℕ) (n : ℕ) (r : ℕ × ℕ) : Ty
   pub is-site : IsSite (fieldsAt s offset)
   pub range : r ≡ firstName s offset
   pub name : part s r ≡ field (fieldsAt s offset) 1
+  pub marked : m ≡ mark (fieldsAt s offset)
 
 -- the line at an offset is a link line, its names are those of the sites a and b among names given above, and c is its usable size
 pub record IsLinkLine (ed : Edition) (s : List ℕ) (names : List (ℕ × ℕ)) (at a b c : ℕ) : Type 0 where
@@ -63,18 +66,18 @@ module _ (ed : Edition) (s : List ℕ) (net : Network) (k at : ℕ) where
   -- a step that adds a site is that of a site line, and one that adds a link is that of a link line
   abbrev Adds : Step → Type 0
   Adds Nothing = Unit {0}
-  Adds (Site a e) = IsSite (fieldsAt s at) × ((a, e) ≡ firstName s at)
+  Adds (Site a e m) = IsSite (fieldsAt s at) × ((a, e) ≡ firstName s at) × (m ≡ mark (fieldsAt s at))
   Adds (Link a b c) = IsLinkLine ed s (net .names) at a b c
   Adds (Refused n m) = Unit {0}
 
-  site-adds : IsSite (fieldsAt s at) → (w : Found) → Adds (siteStep ed k (length (net .names)) (firstName s at) w)
+  site-adds : IsSite (fieldsAt s at) → (w : Found) → Adds (siteStep ed k (length (net .names)) (firstName s at) (mark (fieldsAt s at)) w)
   unfolding siteStep
   site-adds is = by (leb (ed .sites) (length (net .names)))
     where
-      by : (t : Bool) (w : Found) → Adds (cond t (Refused 4 k) (siteBy k (firstName s at) w))
+      by : (t : Bool) (w : Found) → Adds (cond t (Refused 4 k) (siteBy k (firstName s at) (mark (fieldsAt s at)) w))
       by true w = tt
       by false (At v) = tt
-      by false Absent = (is, refl)
+      by false Absent = (is, refl, refl)
 
   link-adds : LinkWithin (ed .size) (lineAt s at) → let one = field (fieldsAt s at) 1 in let two = field (fieldsAt s at) 2 in
       Adds (linkStep k (net .links) (usableSize (fieldsAt s at)) (lookup s (net .names) one) (lookup s (net .names) two))
@@ -101,14 +104,14 @@ module _ (ed : Edition) (s : List ℕ) (net : Network) (k at : ℕ) where
   heading-adds : (w : Line) → Adds (headingStep w)
   unfolding headingStep
   heading-adds line.Heading = tt
-  heading-adds (line.Site a e) = tt
+  heading-adds (line.Site a e m) = tt
   heading-adds (line.Link a e b f size) = tt
   heading-adds (line.Fault n) = tt
 
   record-adds : (w : Line) → Tells (ed .size) (lineAt s at) w → Adds (recordStep ed s net k at w)
   unfolding recordStep
   record-adds line.Heading form = tt
-  record-adds (line.Site a e) form = subst (λ w. Adds (recordStep ed s net k at w)) (sym (form .2)) (site-adds (form .1) _)
+  record-adds (line.Site a e m) form = subst (λ w. Adds (recordStep ed s net k at w)) (sym (form .2)) (site-adds (form .1) _)
   record-adds (line.Link a e b f size) form =
       let is = form .1 .link in
       subst (λ w. Adds (recordStep ed s net k at w)) (sym (form .2))
@@ -125,21 +128,23 @@ module _ (ed : Edition) (s : List ℕ) (net : Network) (k at : ℕ) where
       by true true w form = heading-adds w
       by true false w form = record-adds w form
 
-  -- a line that is read adds no name, or that of its site
-  line-names : (after : Network) → readLine ed s net k at ≡ accepted after
-      → (after .names ≡ net .names) ⊎ (IsSite (fieldsAt s at) × (after .names ≡ net .names ++ (firstName s at ∷ [])))
+  -- a line that is read adds no site, or its own, with its name and its mark
+  pub data SitesAfter (after : Network) : Type 0 where
+    as-they-stood : after .names ≡ net .names → after .marks ≡ net .marks → SitesAfter after
+    one-site-more : IsSite (fieldsAt s at) → after .names ≡ net .names ++ (firstName s at ∷ [])
+        → after .marks ≡ net .marks ++ (mark (fieldsAt s at) ∷ []) → SitesAfter after
+
+  line-sites : (after : Network) → readLine ed s net k at ≡ accepted after → SitesAfter after
   unfolding readLine
-  line-names after = by (stepOf ed s net k at) step-adds
+  line-sites after = by (stepOf ed s net k at) step-adds
     where
-      by : (w : Step) → Adds w → added net w ≡ accepted after
-          → (after .names ≡ net .names) ⊎ (IsSite (fieldsAt s at) × (after .names ≡ net .names ++ (firstName s at ∷ [])))
-      by Nothing h e = let same : after ≡ net = cc in inl (ap (λ (n : Network). n .names) same)
-      by (Site a b) h e =
-          let same : after ≡ record { names = net .names ++ ((a, b) ∷ []); links = net .links; capacities = net .capacities } = cc in
-          inr (h .0, rw (← (h .1)) (ap (λ (n : Network). n .names) same))
-      by (Link a b size) h e =
-          let same : after ≡ record { names = net .names; links = net .links ++ ((a, b) ∷ []); capacities = net .capacities ++ (size ∷ []) } = cc in
-          inl (ap (λ (n : Network). n .names) same)
+      by : (w : Step) → Adds w → added net w ≡ accepted after → SitesAfter after
+      by Nothing h e = let same : after ≡ net = cc in
+          as-they-stood (ap (λ (n : Network). n .names) same) (ap (λ (n : Network). n .marks) same)
+      by (Site a b m) h e = let same : after ≡ withSite net (a, b) m = cc in
+          one-site-more (h .0) (rw (← (h .1)) (ap (λ (n : Network). n .names) same)) (rw (← (h .2)) (ap (λ (n : Network). n .marks) same))
+      by (Link a b size) h e = let same : after ≡ withLink net (a, b) size = cc in
+          as-they-stood (ap (λ (n : Network). n .names) same) (ap (λ (n : Network). n .marks) same)
       by (Refused n m) h e = contradiction cc
 
   -- and no link, or its own, with its usable size
@@ -155,28 +160,34 @@ module _ (ed : Edition) (s : List ℕ) (net : Network) (k at : ℕ) where
       by : (w : Step) → Adds w → added net w ≡ accepted after → LinksAfter after
       by Nothing h e = let same : after ≡ net = cc in
           as-they-were (ap (λ (n : Network). n .links) same) (ap (λ (n : Network). n .capacities) same)
-      by (Site a b) h e =
-          let same : after ≡ record { names = net .names ++ ((a, b) ∷ []); links = net .links; capacities = net .capacities } = cc in
+      by (Site a b m) h e = let same : after ≡ withSite net (a, b) m = cc in
           as-they-were (ap (λ (n : Network). n .links) same) (ap (λ (n : Network). n .capacities) same)
-      by (Link a b c) h e =
-          let same : after ≡ record { names = net .names; links = net .links ++ ((a, b) ∷ []); capacities = net .capacities ++ (c ∷ []) } = cc in
+      by (Link a b c) h e = let same : after ≡ withLink net (a, b) c = cc in
           one-link-more a b c h (ap (λ (n : Network). n .links) same) (ap (λ (n : Network). n .capacities) same)
       by (Refused n m) h e = contradiction cc
 
 -- ---- the lines
 
-module _ (ed : Edition) (s : List ℕ) where
-  abbrev pub Own : List (ℕ × ℕ) → Type 0
-  Own names = (i : ℕ) → i < length names → OwnLine ed s i (getD names i (0, 0))
+-- as many numbers as elements, and what holds of each element with the number at its place
+abbrev Each : (ℕ → ℕ × ℕ → ℕ → Type 0) → List (ℕ × ℕ) → List ℕ → Type 0
+Each P l cs = (length cs ≡ length l) × ((i : ℕ) → i < length l → P i (getD l i (0, 0)) (look cs i))
 
-  pub own-lines : {k at : ℕ} {net : Network} → Reached ed s k at net → Own (net .names)
-  own-lines start = λ i l. absurd (omega arith)
-  own-lines (next {k = k} {at = at} {net = net} {after = after} r h e) = ⊎-elim
-      (λ same. rw same (own-lines r))
-      (λ more. rw (more .1) (one-more (OwnLine ed s) (net .names) (firstName s at) (0, 0) (own-lines r) (own (more .0))))
-      (line-names ed s net k at after e)
+with-one-more : (P : ℕ → ℕ × ℕ → ℕ → Type 0) (l : List (ℕ × ℕ)) (cs : List ℕ) → Each P l cs → (a : ℕ × ℕ) (c : ℕ) → P (length l) a c
+    → Each P (l ++ (a ∷ [])) (cs ++ (c ∷ []))
+with-one-more P l cs own a c new = (
+  omega (arith, own .0, length-append l (a ∷ []), length-append cs (c ∷ [])),
+  λ j b. same? j (length l)
+      (λ e. rw (e, getD-append-seam l a [] (0, 0), ← (own .0), getD-append-seam cs c [] 0) (rw (own .0) new))
+      (λ d. let low : j < length l = omega (arith, length-append l (a ∷ [])) in
+      rw (List·getD-append l (a ∷ []) (0, 0) j low, List·getD-append cs (c ∷ []) 0 j (omega (arith, own .0))) (own .1 j low)),
+)
+
+module _ (ed : Edition) (s : List ℕ) where
+  pub own-lines : {k at : ℕ} {net : Network} → Reached ed s k at net → Each (OwnLine ed s) (net .names) (net .marks)
+  own-lines start = (refl, λ i l. absurd (omega arith))
+  own-lines (next {k = k} {at = at} {net = net} {after = after} r h e) = by (own-lines r) (line-sites ed s net k at after e)
     where
-      own : IsSite (fieldsAt s at) → OwnLine ed s (length (net .names)) (firstName s at)
+      own : IsSite (fieldsAt s at) → OwnLine ed s (length (net .names)) (firstName s at) (mark (fieldsAt s at))
       own is = record {
         number = k;
         offset = at;
@@ -186,37 +197,37 @@ module _ (ed : Edition) (s : List ℕ) where
         is-site = is;
         range = refl;
         name = a-site-is-looked-up-by-field-1 s at is;
+        marked = refl;
       }
 
-  -- the name of each site of an accepted sheet stands on its own `N` line
+      by : Each (OwnLine ed s) (net .names) (net .marks) → SitesAfter ed s net k at after → Each (OwnLine ed s) (after .names) (after .marks)
+      by lines (as-they-stood p q) = rw (p, q) lines
+      by lines (one-site-more is p q) = rw (p, q) (with-one-more (OwnLine ed s) (net .names) (net .marks) lines (firstName s at) _ (own is))
+
+  -- the name of each site of an accepted sheet stands on its own `N` or `T` line
   pub a-name-stands-on-its-own-line : (net : Network) → readSheet ed s ≡ accepted net → (i : ℕ) → i < length (net .names)
-      → OwnLine ed s i (getD (net .names) i (0, 0))
-  a-name-stands-on-its-own-line net e = own-lines (an-accepted-sheet-is-read-to-its-end ed s net e .2)
+      → OwnLine ed s i (getD (net .names) i (0, 0)) (look (net .marks) i)
+  a-name-stands-on-its-own-line net e = own-lines (an-accepted-sheet-is-read-to-its-end ed s net e .2) .1
+
+  -- a site of an accepted sheet is marked just where its own line has the letter `T`, and else the letter is `N` (02, Card 7)
+  pub a-site-is-marked-just-by-its-letter : (net : Network) (e : readSheet ed s ≡ accepted net) (i : ℕ) (l : i < length (net .names))
+      → let fs = fieldsAt s (a-name-stands-on-its-own-line net e i l .offset) in
+      ((look (net .marks) i ≡ 1) ↔ (field fs 0 ≡ bytes "T")) × ((look (net .marks) i ≡ 0) ↔ (field fs 0 ≡ bytes "N"))
+  a-site-is-marked-just-by-its-letter net e i l =
+      let own = a-name-stands-on-its-own-line net e i l in
+      rw (own .marked) (a-mark-tells-its-letter (fieldsAt s (own .offset)), no-mark-tells-its-letter (fieldsAt s (own .offset)) (own .is-site))
 
   -- ---- links
 
-  abbrev OwnLinks : Links → List ℕ → Type 0
-  OwnLinks ls cs = (length cs ≡ length ls) × ((j : ℕ) → j < length ls → OwnLinkLine ed s j (getD ls j (0, 0)) (look cs j))
-
-  -- one link more, with its capacity
-  with-one-more : (ls : Links) (cs : List ℕ) → OwnLinks ls cs → (l : ℕ × ℕ) (c : ℕ) → OwnLinkLine ed s (length ls) l c
-      → OwnLinks (ls ++ (l ∷ [])) (cs ++ (c ∷ []))
-  with-one-more ls cs own l c new = (
-    omega (arith, own .0, length-append ls (l ∷ []), length-append cs (c ∷ [])),
-    λ j b. same? j (length ls)
-        (λ e. rw (e, getD-append-seam ls l [] (0, 0), ← (own .0), getD-append-seam cs c [] 0) (rw (own .0) new))
-        (λ d. let low : j < length ls = omega (arith, length-append ls (l ∷ [])) in
-        rw (List·getD-append ls (l ∷ []) (0, 0) j low, List·getD-append cs (c ∷ []) 0 j (omega (arith, own .0))) (own .1 j low)),
-  )
-
-  own-links : {k at : ℕ} {net : Network} → Reached ed s k at net → OwnLinks (net .links) (net .capacities)
+  own-links : {k at : ℕ} {net : Network} → Reached ed s k at net → Each (OwnLinkLine ed s) (net .links) (net .capacities)
   own-links start = (refl, λ j l. absurd (omega arith))
   own-links (next {k = k} {at = at} {net = net} {after = after} r h e) = by (own-links r) (line-links ed s net k at after e)
     where
-      by : OwnLinks (net .links) (net .capacities) → LinksAfter ed s net k at after → OwnLinks (after .links) (after .capacities)
+      by : Each (OwnLinkLine ed s) (net .links) (net .capacities) → LinksAfter ed s net k at after
+          → Each (OwnLinkLine ed s) (after .links) (after .capacities)
       by own (as-they-were p q) = rw (p, q) own
       by own (one-link-more a b c line p q) =
-          rw (p, q) (with-one-more (net .links) (net .capacities) own (a, b) c
+          rw (p, q) (with-one-more (OwnLinkLine ed s) (net .links) (net .capacities) own (a, b) c
           (record { number = k; offset = at; above = net; reached = r; links = refl; line = line }))
 
   -- each link of an accepted sheet stands on its own `L` line, and its capacity is the usable size there

@@ -18,6 +18,7 @@ unfoldable pub lists : Network → Lists
 lists net = record {
   start = padded SITES (map (λ r. r .0) (net .names));
   end = padded SITES (map (λ r. r .1) (net .names));
+  mark = padded SITES (net .marks);
   one = padded SITES (map (λ l. l .0) (net .links));
   two = padded SITES (map (λ l. l .1) (net .links));
   capacity = padded SITES (net .capacities);

@@ -30,17 +30,17 @@ readBefore (accepted net) = accepted net
 
 abbrev stepBefore : Step → Step
 stepBefore Nothing = Nothing
-stepBefore (Site a e) = Site a e
+stepBefore (Site a e m) = Site a e m
 stepBefore (Link a b size) = Link a b size
 stepBefore (Refused n k) = Refused (numberBefore n) k
 
 -- ---- a step
 
-site-stays : (ed : Edition) (k n : ℕ) (r : ℕ × ℕ) (w : Found) → stepBefore (siteStep ed k n r w) ≡ siteStep ed k n r w
+site-stays : (ed : Edition) (k n : ℕ) (r : ℕ × ℕ) (m : ℕ) (w : Found) → stepBefore (siteStep ed k n r m w) ≡ siteStep ed k n r m w
 unfolding siteStep numberBefore
-site-stays ed k n r w = by (leb (ed .sites) n) w
+site-stays ed k n r m w = by (leb (ed .sites) n) w
   where
-    by : (t : Bool) (w : Found) → stepBefore (cond t (Refused 4 k) (siteBy k r w)) ≡ cond t (Refused 4 k) (siteBy k r w)
+    by : (t : Bool) (w : Found) → stepBefore (cond t (Refused 4 k) (siteBy k r m w)) ≡ cond t (Refused 4 k) (siteBy k r m w)
     by true w = refl
     by false (At v) = refl
     by false Absent = refl
@@ -59,7 +59,7 @@ module _ (k : ℕ) (net : Network) (size : ℕ) where
 heading-before : (w : Line) → headingStep (lineBefore w) ≡ stepBefore (headingStep w)
 unfolding headingStep numberBefore
 heading-before line.Heading = refl
-heading-before (line.Site a e) = refl
+heading-before (line.Site a e m) = refl
 heading-before (line.Link a e b f size) = refl
 heading-before (line.Fault n) = refl
 
@@ -68,7 +68,7 @@ module _ (ed : Edition) (s : List ℕ) where
     record-before : (w : Line) → recordStep ed s net k at (lineBefore w) ≡ stepBefore (recordStep ed s net k at w)
     unfolding recordStep numberBefore
     record-before line.Heading = refl
-    record-before (line.Site a e) = sym (site-stays ed k (length (net .names)) _ (lookup s (net .names) (part s (at + a, at + e))))
+    record-before (line.Site a e m) = sym (site-stays ed k (length (net .names)) _ m (lookup s (net .names) (part s (at + a, at + e))))
     record-before (line.Link a e b f size) = sym (link-stays k net size _ _)
     record-before (line.Fault n) = refl
 
@@ -88,7 +88,7 @@ module _ (ed : Edition) (s : List ℕ) where
 
   added-before : (net : Network) (w : Step) → added net (stepBefore w) ≡ readBefore (added net w)
   added-before net Nothing = refl
-  added-before net (Site a e) = refl
+  added-before net (Site a e m) = refl
   added-before net (Link a b size) = refl
   added-before net (Refused n k) = refl
 

@@ -1,11 +1,11 @@
 -- The network sheet: from its bytes to the network and the names, or to the number and line of its refusal.
--- Document 01, "The network sheet". What a line by itself is stands in `LineKinds`.
+-- Document 01, "The network sheet"; 02, Card 7 (marks). What a line by itself is stands in `LineKinds`.
 use mathlib.Core.Bool.{Bool, true, cond, _&&_}
 use mathlib.Core.List.{List, [], _∷_, _++_}
 use Prim.Native.Nat.{ℕ, zero, suc, _+_}
 use lib.Dec.{eqb, leb, ltb}
 use lib.ListN.{length, getD, drop}
-use Rattle.model.specs.Flows.{Links, sites, joined}
+use Rattle.model.specs.Flows.{Links, sites, ends, joined}
 use Rattle.model.specs.declared.Edition.{Edition}
 use Rattle.text_lines.specs.Lines.{lineLength, lineAt, afterLine, hasLine}
 use Rattle.sheet_kinds.specs.LineKinds.{kind}
@@ -22,14 +22,34 @@ unfoldable pub use Rattle.text_fields.specs.Fields.{capitals}
 
 -- ---- the network read so far
 
--- the names as ranges of the sheet, in the order of the site lines; the links and their capacities in the order of the link lines
+-- the names as ranges of the sheet and the marks (1 marked, 0 not), in the order of the site lines; the links and their capacities in the order of the
+-- link lines
 pub record Network : Type 0 where
   pub names : List (ℕ × ℕ)
+  pub marks : List ℕ
   pub links : Links
   pub capacities : List ℕ
 
 abbrev pub empty : Network
-empty = record { names = []; links = []; capacities = [] }
+empty = record { names = []; marks = []; links = []; capacities = [] }
+
+-- one site more, with its mark
+abbrev pub withSite : Network → ℕ × ℕ → ℕ → Network
+withSite net r mark = record {
+  names = net .names ++ (r ∷ []);
+  marks = net .marks ++ (mark ∷ []);
+  links = net .links;
+  capacities = net .capacities;
+}
+
+-- one link more, with its capacity
+abbrev pub withLink : Network → ℕ × ℕ → ℕ → Network
+withLink net l capacity = record {
+  names = net .names;
+  marks = net .marks;
+  links = net .links ++ (l ∷ []);
+  capacities = net .capacities ++ (capacity ∷ []);
+}
 
 -- what reading comes to: refused with number and line, or the network
 pub data Read : Type 0 where
@@ -38,14 +58,14 @@ pub data Read : Type 0 where
 
 -- ---- what a line adds to the network read so far: the line at offset `at`, with number k
 
--- a site line, by what the look-up of its name found: 5 where the name is given
-abbrev pub siteBy : ℕ → ℕ × ℕ → Found → Step
-siteBy k r (At v) = Refused 5 k
-siteBy k r Absent = Site (r .0) (r .1)
+-- a site line, marked or not, by what the look-up of its name found: 5 where the name is given
+abbrev pub siteBy : ℕ → ℕ × ℕ → ℕ → Found → Step
+siteBy k r mark (At v) = Refused 5 k
+siteBy k r mark Absent = Site (r .0) (r .1) mark
 
 -- a site line after n sites: 4 where they are as many as the edition allows, then 5
-unfoldable pub siteStep : Edition → ℕ → ℕ → ℕ × ℕ → Found → Step
-siteStep ed k n r found = cond (leb (ed .sites) n) (Refused 4 k) (siteBy k r found)
+unfoldable pub siteStep : Edition → ℕ → ℕ → ℕ × ℕ → ℕ → Found → Step
+siteStep ed k n r mark found = cond (leb (ed .sites) n) (Refused 4 k) (siteBy k r mark found)
 
 -- a link line, by what the look-ups of its names found: 6 where one is not given above, then 7 where its sites are joined by links above, or are one site
 unfoldable pub linkStep : ℕ → Links → ℕ → Found → Found → Step
@@ -56,14 +76,14 @@ linkStep k ls size (At a) (At b) = cond (eqb (joined ls a b) 1) (Refused 7 k) (L
 -- line 1 is the heading
 unfoldable pub headingStep : Line → Step
 headingStep line.Heading = Nothing
-headingStep (line.Site a e) = Refused 2 1
+headingStep (line.Site a e m) = Refused 2 1
 headingStep (line.Link a e b f size) = Refused 2 1
 headingStep (line.Fault n) = Refused 2 1
 
 -- a later line is a site or a link
 unfoldable pub recordStep : Edition → List ℕ → Network → ℕ → ℕ → Line → Step
 recordStep ed s net k at line.Heading = Refused 2 k
-recordStep ed s net k at (line.Site a e) = siteStep ed k (length (net .names)) (at + a, at + e) (lookup s (net .names) (part s (at + a, at + e)))
+recordStep ed s net k at (line.Site a e m) = siteStep ed k (length (net .names)) (at + a, at + e) m (lookup s (net .names) (part s (at + a, at + e)))
 recordStep ed s net k at (line.Link a e b f size) =
     linkStep k (net .links) size (lookup s (net .names) (part s (at + a, at + e))) (lookup s (net .names) (part s (at + b, at + f)))
 recordStep ed s net k at (line.Fault n) = Refused n k
@@ -79,8 +99,8 @@ stepOf ed s net k at =
 -- the network with what a line adds, or its refusal
 abbrev pub added : Network → Step → Read
 added net Nothing = accepted net
-added net (Site a e) = accepted (record { names = net .names ++ ((a, e) ∷ []); links = net .links; capacities = net .capacities })
-added net (Link a b size) = accepted (record { names = net .names; links = net .links ++ ((a, b) ∷ []); capacities = net .capacities ++ (size ∷ []) })
+added net (Site a e m) = accepted (withSite net (a, e) m)
+added net (Link a b size) = accepted (withLink net (a, b) size)
 added net (Refused n k) = refused n k
 
 -- a line read
@@ -118,9 +138,16 @@ unfoldable pub readSheet : Edition → List ℕ → Read
 readSheet ed s =
     cond (leb 1 (length s) && leb (length s) (ed .bytes)) (andThen (readLines ed s (length s) 1 0 empty) finish) (refused 1 0)
 
+-- ---- its ends
+
+-- the list of the ends of a network: place v holds 1 where site v has just one link or is marked (01: end; 02, Card 7)
+abbrev pub endsOf : Network → List ℕ
+endsOf net = ends (net .links) (length (net .names)) (net .marks)
+
 -- ---- names by number
 
--- the range of the name of site k (01: the bytes of its own `N` line); an empty one for a number without a site, or over a sheet that is refused
+-- the range of the name of site k (01: the bytes of its own `N` line; 02, Card 7: or `T` line); an empty one for a number without a site, or over a sheet
+-- that is refused
 unfoldable pub rangeIn : ℕ → Read → ℕ × ℕ
 rangeIn k (refused n l) = (0, 0)
 rangeIn zero (accepted net) = (0, 0)

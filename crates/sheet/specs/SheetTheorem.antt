@@ -23,13 +23,15 @@ use Rattle.sheet.specs.Causes.{Refusal}
 use Rattle.sheet.specs.RefusalLaws.{all-joined, a-refused-sheet-has-its-cause, a-cause-refuses-its-sheet}
 use Rattle.sheet.specs.Sound.{IsNameRange, Sound, Accepts, none-is-sound, goes-on, lines-keep-sound}
 
--- what an accepted sheet gives: a tree of sites within the limit, a capacity within the limit for each link, and names of which no two are the
--- same, each a range of the sheet
+-- what an accepted sheet gives: a tree of sites within the limit, a capacity within the limit for each link, and for each site a mark of 0 or 1 and a
+-- name, of which no two are the same, each a range of the sheet
 pub record IsNetwork (ed : Edition) (s : List ℕ) (net : Network) : Type 0 where
   pub tree : Tree (net .links) (length (net .names))
   pub few : length (net .names) ≤ ed .sites
   pub capacities : length (net .capacities) ≡ length (net .links)
   pub sizes : (j : ℕ) → j < length (net .capacities) → look (net .capacities) j ≤ ed .size
+  pub marks : length (net .marks) ≡ length (net .names)
+  pub marked : (i : ℕ) → i < length (net .marks) → look (net .marks) i ≤ 1
   pub names : (i : ℕ) → i < length (net .names) → IsNameRange s (getD (net .names) i (0, 0))
   pub different : (j : ℕ) → j < length (net .names) → (i : ℕ) → i < j → ¬ (SameName (nameAt s (net .names) i) (nameAt s (net .names) j))
 
@@ -57,6 +59,8 @@ finish-gives-a-network ed s net sound = by (leb 2 (length (net .names)) && allJo
           few = sound .few;
           capacities = sound .capacities;
           sizes = sound .sizes;
+          marks = sound .marks;
+          marked = sound .marked;
           names = sound .names;
           different = sound .different;
         }

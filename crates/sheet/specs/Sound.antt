@@ -29,7 +29,7 @@ use Rattle.sheet_names.specs.LookupLaws.{Says, lookup-says}
 use Rattle.sheet_names.specs.declared.Found.{Found}
 use Rattle.sheet_names.specs.declared.Found.the-variants.{At, Absent}
 use Rattle.sheet.specs.Sheet.{Network, empty, Read, refused, accepted, part, lookup, siteBy, siteStep, linkStep, headingStep, recordStep, stepOf, added}
-use Rattle.sheet.specs.Sheet.{readLine, andThen, readLines}
+use Rattle.sheet.specs.Sheet.{withSite, withLink, readLine, andThen, readLines}
 use Rattle.sheet.specs.declared.stepping.Step.the-variants.{Link, Refused}
 
 -- a range of the sheet that holds a name
@@ -38,12 +38,14 @@ pub record IsNameRange (s : List ℕ) (r : ℕ × ℕ) : Type 0 where
   pub end : r .1 ≤ length s
   pub name : isName (part s r) ≡ true
 
--- the network read so far: sites within the limit and with different names, capacities within the limit, and links between sites that
--- those above did not join
+-- the network read so far: sites within the limit, with different names and a mark of 0 or 1 each, capacities within the limit, and links between sites
+-- that those above did not join
 pub record Sound (ed : Edition) (s : List ℕ) (net : Network) : Type 0 where
   pub few : length (net .names) ≤ ed .sites
   pub names : (i : ℕ) → i < length (net .names) → IsNameRange s (getD (net .names) i (0, 0))
   pub different : (j : ℕ) → j < length (net .names) → (i : ℕ) → i < j → ¬ (SameName (nameAt s (net .names) i) (nameAt s (net .names) j))
+  pub marks : length (net .marks) ≡ length (net .names)
+  pub marked : (i : ℕ) → i < length (net .marks) → look (net .marks) i ≤ 1
   pub ends : Ends (reverse (net .links)) (length (net .names))
   pub fresh : Fresh (reverse (net .links))
   pub capacities : length (net .capacities) ≡ length (net .links)
@@ -77,14 +79,16 @@ line-name s at a e b p q h = record {
 
 module _ (ed : Edition) (s : List ℕ) (net : Network) (k : ℕ) (sound : Sound ed s net) where
   -- the line is a site of a new name
-  new-site : (r : ℕ × ℕ) → IsNameRange s r → length (net .names) < ed .sites → Says s (net .names) 1 (part s r) Absent
-      → Sound ed s (record { names = net .names ++ (r ∷ []); links = net .links; capacities = net .capacities })
-  new-site r named few new = record {
+  new-site : (r : ℕ × ℕ) → IsNameRange s r → (mark : ℕ) → mark ≤ 1 → length (net .names) < ed .sites → Says s (net .names) 1 (part s r) Absent
+      → Sound ed s (withSite net r mark)
+  new-site r named mark small few new = record {
     few = omega (arith, length-append (net .names) (r ∷ []));
     names = one-more (λ i q. IsNameRange s q) (net .names) r (0, 0) (sound .names) named;
     different = one-more (λ j q. (i : ℕ) → i < j → ¬ (SameName (nameAt s (net .names ++ (r ∷ [])) i) (part s q))) (net .names) r (0, 0)
         (λ j l i b. rw (List·getD-append (net .names) (r ∷ []) (0, 0) i (omega arith)) (sound .different j l i b))
         (λ i b. rw (List·getD-append (net .names) (r ∷ []) (0, 0) i b) (new i b));
+    marks = omega (arith, sound .marks, length-append (net .names) (r ∷ []), length-append (net .marks) (mark ∷ []));
+    marked = one-more (λ i m. m ≤ 1) (net .marks) mark 0 (sound .marked) small;
     ends = λ j l. omega (arith, sound .ends j l, length-append (net .names) (r ∷ []));
     fresh = sound .fresh;
     capacities = sound .capacities;
@@ -99,26 +103,29 @@ module _ (ed : Edition) (s : List ℕ) (net : Network) (k : ℕ) (sound : Sound 
   -- the line is a link between sites that were not joined
   new-link : (a b size : ℕ) → Site (length (net .names)) a → Site (length (net .names)) b → label (reverse (net .links)) a ≢ label (reverse (net .links)) b
       → size ≤ ed .size
-      → Sound ed s (record { names = net .names; links = net .links ++ ((a, b) ∷ []); capacities = net .capacities ++ (size ∷ []) })
+      → Sound ed s (withLink net (a, b) size)
   new-link a b size p q d h = record {
     few = sound .few;
     names = sound .names;
     different = sound .different;
+    marks = sound .marks;
+    marked = sound .marked;
     ends = rw (reverseAux-append (net .links) ((a, b) ∷ []) []) (ends-more p q (reverse (net .links)) (sound .ends));
     fresh = rw (reverseAux-append (net .links) ((a, b) ∷ []) []) (d, sound .fresh);
     capacities = omega (arith, sound .capacities, length-append (net .links) ((a, b) ∷ []), length-append (net .capacities) (size ∷ []));
     sizes = one-more (λ i c. c ≤ ed .size) (net .capacities) size 0 (sound .sizes) h;
   }
 
-  site-line : (r : ℕ × ℕ) → IsNameRange s r → Accepts (Sound ed s) (added net (siteStep ed k (length (net .names)) r (lookup s (net .names) (part s r))))
+  site-line : (r : ℕ × ℕ) → IsNameRange s r → (mark : ℕ) → mark ≤ 1
+      → Accepts (Sound ed s) (added net (siteStep ed k (length (net .names)) r mark (lookup s (net .names) (part s r))))
   unfolding siteStep
-  site-line r named = by (leb (ed .sites) (length (net .names))) refl (lookup s (net .names) (part s r)) (lookup-says s (part s r) (net .names) 1)
+  site-line r named mark small = by (leb (ed .sites) (length (net .names))) refl (lookup s (net .names) (part s r)) (lookup-says s (part s r) (net .names) 1)
     where
       by : (t : Bool) → leb (ed .sites) (length (net .names)) ≡ t → (w : Found) → Says s (net .names) 1 (part s r) w
-          → Accepts (Sound ed s) (added net (cond t (Refused 4 k) (siteBy k r w)))
+          → Accepts (Sound ed s) (added net (cond t (Refused 4 k) (siteBy k r mark w)))
       by true e w h = tt
       by false e (At v) h = tt
-      by false e Absent h = new-site r named (leb-false _ _ e) h
+      by false e Absent h = new-site r named mark small (leb-false _ _ e) h
 
   link-line : (r q : ℕ × ℕ) (size : ℕ) → size ≤ ed .size
       → Accepts (Sound ed s) (added net (linkStep k (net .links) size (lookup s (net .names) (part s r)) (lookup s (net .names) (part s q))))
@@ -146,13 +153,13 @@ module _ (ed : Edition) (s : List ℕ) (net : Network) (k : ℕ) (sound : Sound 
     where
       heading : (w : Line) → Accepts (Sound ed s) (added net (headingStep w))
       heading line.Heading = sound
-      heading (line.Site a e) = tt
+      heading (line.Site a e m) = tt
       heading (line.Link a e c f size) = tt
       heading (line.Fault n) = tt
 
       later : (w : Line) → Formed (ed .size) (lineAt s at) w → Accepts (Sound ed s) (added net (recordStep ed s net k at w))
       later line.Heading h = tt
-      later (line.Site a e) h = site-line (at + a, at + e) (line-name s at a e b (h .0) (h .1) (h .2))
+      later (line.Site a e m) h = site-line (at + a, at + e) (line-name s at a e b (h .0) (h .1) (h .2)) m (h .3)
       later (line.Link a e c f size) h = link-line (at + a, at + e) (at + c, at + f) size (h .4)
       later (line.Fault n) h = tt
 
@@ -169,6 +176,8 @@ none-is-sound ed s = record {
   few = omega arith;
   names = λ i l. absurd (omega arith);
   different = λ j l. absurd (omega arith);
+  marks = refl;
+  marked = λ i l. absurd (omega arith);
   ends = λ j l. absurd (omega arith);
   fresh = tt;
   capacities = refl;

@@ -9,6 +9,7 @@ use Prim.Native.Nat.{ℕ, suc, _+_, _<_}
 use native.Mathlib.Omega.{arith}
 use lib.ListN.{length, getD}
 use Rattle.model.specs.declared.Edition.{Edition}
+use Rattle.lists.specs.Numbers.{look}
 use Rattle.text_lines.specs.Lines.{lineAt}
 use Rattle.text_fields.specs.Fields.{same, capitals, SameName, sameName}
 use Rattle.text_fields.specs.FieldLaws.{same-are-equal, equal-are-same, not-same}
@@ -64,8 +65,8 @@ module _ (ed : Edition) (s : List ℕ) (alike : SpeltAlike s) where
         → nameAt s (net .names) i ≡ f
     given-alike f on i l = alike (nameAt s (net .names) i) f own on
       where
-        line : OwnLine ed s i (getD (net .names) i (0, 0))
-        line = own-lines ed s r i l
+        line : OwnLine ed s i (getD (net .names) i (0, 0)) (look (net .marks) i)
+        line = own-lines ed s r .1 i l
 
         own : SiteName s (nameAt s (net .names) i)
         own =
@@ -88,10 +89,10 @@ module _ (ed : Edition) (s : List ℕ) (alike : SpeltAlike s) where
           record { above = p .0; is-link = rw (← (p .2)) is; name = inr (rw (← (p .2)) (a-link-is-looked-up-by-field-2 s at is)) },
         )
 
-    site-alike : IsSite (fieldsAt s at) → let w = line.Site 2 (2 + length (field (fieldsAt s at) 1)) in
+    site-alike : IsSite (fieldsAt s at) → (m : ℕ) → let w = line.Site 2 (2 + length (field (fieldsAt s at) 1)) m in
         recordBy lookupBytes ed s net k at w ≡ recordStep ed s net k at w
     unfolding recordBy recordStep
-    site-alike is = rw (found-alike (firstName s at) (inl (site-name is)))
+    site-alike is m = rw (found-alike (firstName s at) (inl (site-name is)))
 
     link-alike : IsLink (fieldsAt s at) → (size : ℕ) → let one = length (field (fieldsAt s at) 1) in
         let w = line.Link 2 (2 + one) (3 + one) (3 + one + length (field (fieldsAt s at) 2)) size in
@@ -104,8 +105,8 @@ module _ (ed : Edition) (s : List ℕ) (alike : SpeltAlike s) where
     record-alike : (w : Line) → Tells (ed .size) (lineAt s at) w → recordBy lookupBytes ed s net k at w ≡ recordStep ed s net k at w
     unfolding recordBy recordStep
     record-alike line.Heading form = refl
-    record-alike (line.Site a e) form =
-        subst (λ w. recordBy lookupBytes ed s net k at w ≡ recordStep ed s net k at w) (sym (form .2)) (site-alike (form .1))
+    record-alike (line.Site a e m) form =
+        subst (λ w. recordBy lookupBytes ed s net k at w ≡ recordStep ed s net k at w) (sym (form .2)) (site-alike (form .1) _)
     record-alike (line.Link a e b f size) form =
         subst (λ w. recordBy lookupBytes ed s net k at w ≡ recordStep ed s net k at w) (sym (form .2)) (link-alike (form .1 .link) _)
     record-alike (line.Fault n) form = refl

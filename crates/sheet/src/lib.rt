@@ -21,11 +21,12 @@ pub enum Answer {
     Refused { number: u64, line: usize },
 }
 
-// The network of a sheet: for each site the range of its name on the sheet, for each link its two sites and its capacity, each in the
-// order of the sheet, with zeros behind them; and how many sites and links there are.
+// The network of a sheet: for each site the range of its name on the sheet and its mark (1 marked, 0 not), for each link its two sites and its capacity,
+// each in the order of the sheet, with zeros behind them; and how many sites and links there are.
 pub struct Lists {
     pub start: [usize; SITES],
     pub end: [usize; SITES],
+    pub mark: [u8; SITES],
     pub one: [usize; SITES],
     pub two: [usize; SITES],
     pub capacity: [u64; SITES],
@@ -46,6 +47,7 @@ fn nothing() -> Lists
     Lists {
         start: [0; SITES],
         end: [0; SITES],
+        mark: [0; SITES],
         one: [0; SITES],
         two: [0; SITES],
         capacity: [0; SITES],
@@ -95,10 +97,11 @@ fn read_lines(sheet: &[u8], edition: Edition) -> Reading
                 return refusal(n, line);
             }
             Step::Nothing => {}
-            Step::Site { start, end } => {
+            Step::Site { start, end, mark } => {
                 let i = net.sites;
                 net.start[i] = start;
                 net.end[i] = end;
+                net.mark[i] = mark;
                 net.sites = i + 1;
                 sheet_names::enter(&mut table, sheet, start, end, i + 1);
             }
@@ -143,7 +146,7 @@ pub fn read(sheet: &[u8]) -> Reading
     read_sheet(sheet, Edition::first())
 }
 
-// The name of a site, by its number: the bytes of its own `N` line, that very part of the sheet; an empty part for a number without a site, or
+// The name of a site, by its number: the bytes of its own `N` or `T` line, that very part of the sheet; an empty part for a number without a site, or
 // over a sheet that is refused.
 pub fn name(sheet: &[u8], site: usize) -> &[u8]
     ensures { λ r. ⌜ IsPart (sheet .entry) (nameRange edition1 (now (sheet .entry)) site) r ⌝ }

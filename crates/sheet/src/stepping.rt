@@ -20,12 +20,12 @@ use sheet_names::TABLE;
 // What a line adds to the network, or its refusal: the number and the line.
 pub enum Step {
     Nothing,
-    Site { start: usize, end: usize },
+    Site { start: usize, end: usize, mark: u8 },
     Link { one: usize, two: usize, size: u64 },
     Refused { number: u64, line: usize },
 }
 
-// What a site line adds, its name being the part from a start to an end, by what the look-up of the name found.
+// What a site line adds, its name being the part from a start to an end, with its mark, by what the look-up of the name found.
 fn site_step(
     edition: Edition,
     here: usize,
@@ -33,8 +33,9 @@ fn site_step(
     found: Found,
     start: usize,
     end: usize,
+    mark: u8,
 ) -> Step
-    ensures { λ r. ⌜ r ≡ siteStep edition here sites (start, end) found ⌝ }
+    ensures { λ r. ⌜ r ≡ siteStep edition here sites (start, end) mark found ⌝ }
 {
     if sites >= edition.sites {
         return Step::Refused {
@@ -47,7 +48,7 @@ fn site_step(
             number: 5,
             line: here,
         },
-        Found::Absent => Step::Site { start, end },
+        Found::Absent => Step::Site { start, end, mark },
     }
 }
 
@@ -83,7 +84,11 @@ fn heading_step(line: Line) -> Step
 {
     match line {
         Line::Heading => Step::Nothing,
-        Line::Site { start: _, end: _ } => Step::Refused { number: 2, line: 1 },
+        Line::Site {
+            start: _,
+            end: _,
+            mark: _,
+        } => Step::Refused { number: 2, line: 1 },
         Line::Link {
             start: _,
             end: _,
@@ -118,12 +123,12 @@ fn record_step(
             number: 2,
             line: here,
         },
-        Line::Site { start, end } => {
+        Line::Site { start, end, mark } => {
             let from = at + start;
             let to = at + end;
             let name = sheet_names::part(sheet, from, to);
             let found = sheet_names::find(sheet, starts, ends, sites, table, name);
-            site_step(edition, here, sites, found, from, to)
+            site_step(edition, here, sites, found, from, to, mark)
         }
         Line::Link {
             start,

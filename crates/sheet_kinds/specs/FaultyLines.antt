@@ -1,8 +1,8 @@
 -- When a line is a fault, each number just for its cause: 2 no known letter, 10 wrong number of fields, 11 bad name, 12 badly written number, in this order;
--- then 3, a link whose size or reserve is above the limit; then 13, a link whose reserve is above its size. Document 02, Cards 1 and 5.
+-- then 3, a link whose size or reserve is above the limit; then 13, a link whose reserve is above its size. Document 02, Cards 1, 5 and 7.
 -- By the first field: the letter chooses the form, and no heading has such a letter.
 use mathlib.Core.Bool.{Bool, true, false, cond, false≢true, and-false}
-use mathlib.Core.List.{List}
+use mathlib.Core.List.{List, [], _∷_}
 use mathlib.Core.Logic.{_⊎_, inl, inr, _↔_, _≢_}
 use mathlib.Core.Path.{_≡_, refl, sym, subst, _∙_}
 use Prim.Native.Nat.{ℕ, _≤_, _<_}
@@ -15,8 +15,8 @@ use Rattle.text_grammar.specs.declared.Check.the-variants as check
 pub use Rattle.text_grammar.specs.Grammar.{WrongCount, BadName, BadNumber}
 use Rattle.text_grammar.specs.FormLaws.{another-letter}
 use Rattle.text_grammar.specs.RuleLaws as rule
-use Rattle.sheet_kinds.specs.LineKinds.{same, fields, field, isHeading, checked, faultOf, siteForm, linkForm, IsLink, judged, siteLine}
-use Rattle.sheet_kinds.specs.LineKinds.{size, reserve, linkOf, sizedLink, linkLine, kindOf, kind}
+use Rattle.sheet_kinds.specs.LineKinds.{same, fields, field, isHeading, checked, faultOf, siteForm, plainForm, markedForm, linkForm, IsLink, judged}
+use Rattle.sheet_kinds.specs.LineKinds.{siteLine, size, reserve, linkOf, sizedLink, linkLine, kindOf, kind}
 use Rattle.sheet_kinds.specs.LineKindLaws.{same-are-equal, equal-are-same, judged-cases, link-parts, capacity-cases, above-is-3, above-the-size-is-13}
 use Rattle.sheet_kinds.specs.declared.Line.{Line}
 use Rattle.sheet_kinds.specs.declared.Line.the-variants.{Heading, Site, Link, Fault}
@@ -27,11 +27,12 @@ use Rattle.sheet_kinds.specs.declared.Line.the-variants.{Heading, Site, 
 pub record NoLetter (l : List ℕ) : Type 0 where
   pub no-heading : isHeading (fields l) ≡ false
   pub no-site : field (fields l) 0 ≢ bytes "N"
+  pub no-marked-site : field (fields l) 0 ≢ bytes "T"
   pub no-link : field (fields l) 0 ≢ bytes "L"
 
--- the letter is that of a site or of a link, and a rule of that form is broken
+-- the letter is that of a site, marked or not, or of a link, and a rule of that form is broken
 abbrev pub Broken : (Form → List (List ℕ) → Type 0) → List ℕ → Type 0
-Broken Rule l = Rule siteForm (fields l) ⊎ Rule linkForm (fields l)
+Broken Rule l = (Rule plainForm (fields l) ⊎ Rule markedForm (fields l)) ⊎ Rule linkForm (fields l)
 
 -- the line is a link whose size or reserve is above the limit (01: size above 1,000,000; 02, Card 5: a reserve above 1,000,000)
 pub record TooLarge (most : ℕ) (l : List ℕ) : Type 0 where
@@ -61,14 +62,22 @@ module _ (most : ℕ) (l : List ℕ) where
   unfolding isHeading same
   site-is-no-heading e = rw (e, and-false)
 
+  pub marked-site-is-no-heading : field (fields l) 0 ≡ bytes "T" → isHeading (fields l) ≡ false
+  unfolding isHeading same
+  marked-site-is-no-heading e = rw (e, and-false)
+
   pub link-is-no-heading : field (fields l) 0 ≡ bytes "L" → isHeading (fields l) ≡ false
   unfolding isHeading same
   link-is-no-heading e = rw (e, and-false)
 
-  -- a line that starts with `N` is judged as a site, and one that starts with `L` as a link
-  pub kind-of-N : field (fields l) 0 ≡ bytes "N" → kind most l ≡ siteLine (fields l)
+  -- a line that starts with `N` is judged as a site, one that starts with `T` as a marked site, and one that starts with `L` as a link
+  pub kind-of-N : field (fields l) 0 ≡ bytes "N" → kind most l ≡ siteLine 78 0 (fields l)
   unfolding kind kindOf same
   kind-of-N e = rw (site-is-no-heading e, e)
+
+  pub kind-of-T : field (fields l) 0 ≡ bytes "T" → kind most l ≡ siteLine 84 1 (fields l)
+  unfolding kind kindOf same
+  kind-of-T e = rw (marked-site-is-no-heading e, e)
 
   pub kind-of-L : field (fields l) 0 ≡ bytes "L" → kind most l ≡ linkLine most (fields l)
   unfolding kind kindOf same
@@ -78,7 +87,7 @@ module _ (most : ℕ) (l : List ℕ) where
 
   abbrev Right : Line → Type 0
   Right Heading = Unit {0}
-  Right (Site a e) = Unit {0}
+  Right (Site a e m) = Unit {0}
   Right (Link a e b f size) = Unit {0}
   Right (Fault n) = LineFault most l n
 
@@ -98,34 +107,49 @@ module _ (most : ℕ) (l : List ℕ) where
   link-right e check.Name h d = bad-name (inr h)
   link-right e check.Number h d = bad-number (inr h)
 
-  site-right : isHeading (fields l) ≡ false → same (field (fields l) 0) (bytes "L") ≡ false → (c : Check) → rule.Tells siteForm (fields l) c
-      → c ≢ check.Formed → LineFault most l (faultOf c)
-  unfolding faultOf
-  site-right other e check.Formed h d = absurd (d refl)
-  site-right other e check.Letter h d =
-      no-letter (record { no-heading = other; no-site = h; no-link = λ z. false≢true (sym e ∙ rw z (equal-are-same (bytes "L"))) })
-  site-right other e check.Count h d = wrong-count (inl h)
-  site-right other e check.Name h d = bad-name (inl h)
-  site-right other e check.Number h d = bad-number (inl h)
+  -- a field that is found to be no letter is not that letter
+  another : (letter : List ℕ) → same (field (fields l) 0) letter ≡ false → field (fields l) 0 ≢ letter
+  another letter e z = false≢true (sym e ∙ rw z (equal-are-same letter))
+
+  site-right : (letter mark : ℕ) → (field (fields l) 0 ≢ letter ∷ [] → NoLetter l)
+      → ((Rule : Form → List (List ℕ) → Type 0) → Rule (siteForm letter) (fields l) → Broken Rule l) → Right (siteLine letter mark (fields l))
+  unfolding siteLine faultOf
+  site-right letter mark none broken = judged-cases Right (checked (siteForm letter) (fields l)) _ (λ g. tt)
+      (by (checked (siteForm letter) (fields l)) (rule.a-finding-tells-its-rule (siteForm letter) (fields l)))
+    where
+      by : (c : Check) → rule.Tells (siteForm letter) (fields l) c → c ≢ check.Formed → LineFault most l (faultOf c)
+      by check.Formed h d = absurd (d refl)
+      by check.Letter h d = no-letter (none h)
+      by check.Count h d = wrong-count (broken WrongCount h)
+      by check.Name h d = bad-name (broken BadName h)
+      by check.Number h d = bad-number (broken BadNumber h)
 
   right : Right (kind most l)
-  unfolding kind kindOf siteLine linkLine
-  right = by (isHeading (fields l)) refl (same (field (fields l) 0) (bytes "L")) refl
+  unfolding kind kindOf linkLine
+  right = by (isHeading (fields l)) refl (same (field (fields l) 0) (bytes "L")) refl (same (field (fields l) 0) (bytes "T")) refl
     where
       by : (t : Bool) → isHeading (fields l) ≡ t → (u : Bool) → same (field (fields l) 0) (bytes "L") ≡ u
-          → Right (cond t Heading (cond u (linkLine most (fields l)) (siteLine (fields l))))
-      by true other u e = tt
-      by false other true e = judged-cases Right (checked linkForm (fields l)) _ sized-right
+          → (v : Bool) → same (field (fields l) 0) (bytes "T") ≡ v → let fs = fields l in
+          Right (cond t Heading (cond u (linkLine most fs) (cond v (siteLine 84 1 fs) (siteLine 78 0 fs))))
+      by true other u e v f = tt
+      by false other true e v f = judged-cases Right (checked linkForm (fields l)) _ sized-right
           (link-right e (checked linkForm (fields l)) (rule.a-finding-tells-its-rule linkForm (fields l)))
-      by false other false e = judged-cases Right (checked siteForm (fields l)) _ (λ g. tt)
-          (site-right other e (checked siteForm (fields l)) (rule.a-finding-tells-its-rule siteForm (fields l)))
+      by false other false e true f = site-right 84 1 (λ d. absurd (d (same-are-equal _ _ f))) (λ Rule h. inl (inr h))
+      by false other false e false f = site-right 78 0
+          (λ d. record { no-heading = other; no-site = d; no-marked-site = another (bytes "T") f; no-link = another (bytes "L") e })
+          (λ Rule h. inl (inl h))
 
   -- ---- a cause makes its fault
 
-  site-fault : (c : Check) (n : ℕ) → field (fields l) 0 ≡ bytes "N" → checked siteForm (fields l) ≡ c → ((w : Line) → judged c w ≡ Fault n)
+  site-fault : (c : Check) (n : ℕ) → field (fields l) 0 ≡ bytes "N" → checked plainForm (fields l) ≡ c → ((w : Line) → judged c w ≡ Fault n)
       → kind most l ≡ Fault n
   unfolding siteLine
   site-fault c n e is f = kind-of-N e ∙ rw is (f _)
+
+  marked-fault : (c : Check) (n : ℕ) → field (fields l) 0 ≡ bytes "T" → checked markedForm (fields l) ≡ c → ((w : Line) → judged c w ≡ Fault n)
+      → kind most l ≡ Fault n
+  unfolding siteLine
+  marked-fault c n e is f = kind-of-T e ∙ rw is (f _)
 
   link-fault : (c : Check) (n : ℕ) → field (fields l) 0 ≡ bytes "L" → checked linkForm (fields l) ≡ c → ((w : Line) → judged c w ≡ Fault n)
       → kind most l ≡ Fault n
@@ -149,13 +173,17 @@ module _ (most : ℕ) (l : List ℕ) where
       rw (
         h .no-heading,
         not-same (field (fields l) 0) (bytes "L") (h .no-link),
-        another-letter siteForm (fields l) (not-same (field (fields l) 0) (bytes "N") (h .no-site)),
+        not-same (field (fields l) 0) (bytes "T") (h .no-marked-site),
+        another-letter plainForm (fields l) (not-same (field (fields l) 0) (bytes "N") (h .no-site)),
       )
-  fault-of n (wrong-count (inl h)) = site-fault check.Count 10 (h .letter) (rule.a-wrong-count-is-found siteForm (fields l) h) (λ w. refl)
+  fault-of n (wrong-count (inl (inl h))) = site-fault check.Count 10 (h .letter) (rule.a-wrong-count-is-found plainForm (fields l) h) (λ w. refl)
+  fault-of n (wrong-count (inl (inr h))) = marked-fault check.Count 10 (h .letter) (rule.a-wrong-count-is-found markedForm (fields l) h) (λ w. refl)
   fault-of n (wrong-count (inr h)) = link-fault check.Count 10 (h .letter) (rule.a-wrong-count-is-found linkForm (fields l) h) (λ w. refl)
-  fault-of n (bad-name (inl h)) = site-fault check.Name 11 (h .counted .letter) (rule.a-bad-name-is-found siteForm (fields l) h) (λ w. refl)
+  fault-of n (bad-name (inl (inl h))) = site-fault check.Name 11 (h .counted .letter) (rule.a-bad-name-is-found plainForm (fields l) h) (λ w. refl)
+  fault-of n (bad-name (inl (inr h))) = marked-fault check.Name 11 (h .counted .letter) (rule.a-bad-name-is-found markedForm (fields l) h) (λ w. refl)
   fault-of n (bad-name (inr h)) = link-fault check.Name 11 (h .counted .letter) (rule.a-bad-name-is-found linkForm (fields l) h) (λ w. refl)
-  fault-of n (bad-number (inl h)) = site-fault check.Number 12 (h .counted .letter) (rule.a-bad-number-is-found siteForm (fields l) h) (λ w. refl)
+  fault-of n (bad-number (inl (inl h))) = site-fault check.Number 12 (h .counted .letter) (rule.a-bad-number-is-found plainForm (fields l) h) (λ w. refl)
+  fault-of n (bad-number (inl (inr h))) = marked-fault check.Number 12 (h .counted .letter) (rule.a-bad-number-is-found markedForm (fields l) h) (λ w. refl)
   fault-of n (bad-number (inr h)) = link-fault check.Number 12 (h .counted .letter) (rule.a-bad-number-is-found linkForm (fields l) h) (λ w. refl)
   fault-of n (too-large h) = large h
   fault-of n (too-much-held h) = held h

@@ -1,7 +1,8 @@
--- What is known of a line by its kind: its names are ranges of it, and the size of a link is within the limit.
+-- What is known of a line by its kind: its names are ranges of it, the mark of a site is 0 or 1, and the size of a link is within the limit.
 -- By the places of the fields.
 use mathlib.Core.Bool.{Bool, true, false, cond}
 use mathlib.Core.List.{List}
+use mathlib.Core.Logic.{inl, inr}
 use mathlib.Core.Path.{_≡_, ap, _∙_}
 use Prim.Native.Nat.{ℕ, _+_, _-_, _≤_, _<_}
 use native.Mathlib.Nat.{sub-zero}
@@ -11,16 +12,17 @@ use Rattle.model.specs.Text.{bytes}
 use Rattle.text_grammar.specs.Grammar.{ends, split}
 use Rattle.text_grammar.specs.SplitLaws.{field-lies, length-of-field, end-of-split}
 use Rattle.text_grammar.specs.declared.Fields.{Fields}
-use Rattle.sheet_kinds.specs.LineKinds.{same, fields, field, isName, isHeading, checked, siteForm, linkForm, IsSite, IsLink, siteLine}
-use Rattle.sheet_kinds.specs.LineKinds.{usableSize, linkOf, sizedLink, linkLine, kindOf, kind}
-use Rattle.sheet_kinds.specs.LineKindLaws.{judged-cases, site-parts, link-parts, capacity-cases}
+use Rattle.text_grammar.specs.declared.Check.the-variants as check
+use Rattle.sheet_kinds.specs.LineKinds.{same, fields, field, isName, isHeading, checked, siteForm, plainForm, markedForm, linkForm, IsSite, IsLink}
+use Rattle.sheet_kinds.specs.LineKinds.{siteLine, usableSize, linkOf, sizedLink, linkLine, kindOf, kind}
+use Rattle.sheet_kinds.specs.LineKindLaws.{judged-cases, parts-of-a-site, site-parts, one-letter, link-parts, capacity-cases}
 use Rattle.sheet_kinds.specs.declared.Line.{Line}
 use Rattle.sheet_kinds.specs.declared.Line.the-variants.{Heading, Site, Link, Fault}
 
--- names are ranges of the line, and the size of a link is within the limit
+-- names are ranges of the line, the mark of a site is 0 or 1, and the size of a link is within the limit
 abbrev pub Formed : ℕ → List ℕ → Line → Type 0
 Formed most l Heading = Unit {0}
-Formed most l (Site a e) = (a ≤ e) × (e ≤ length l) × (isName (take (e - a) (drop a l)) ≡ true)
+Formed most l (Site a e m) = (a ≤ e) × (e ≤ length l) × (isName (take (e - a) (drop a l)) ≡ true) × (m ≤ 1)
 Formed most l (Link a e b f size) = (a ≤ e) × (e ≤ length l) × (b ≤ f) × (f ≤ length l) × (size ≤ most)
 Formed most l (Fault n) = Unit {0}
 
@@ -51,12 +53,12 @@ module _ (l : List ℕ) where
       rw (second, third-end h e, sub-zero) at (field-lies 2 l 0 h .part)
 
   module _ (most : ℕ) where
-    pub site-is-formed : IsSite (fields l) → Formed most l (Site 2 (2 + one))
-    site-is-formed e =
+    pub site-is-formed : IsSite (fields l) → (mark : ℕ) → mark ≤ 1 → Formed most l (Site 2 (2 + one) mark)
+    site-is-formed e mark h =
         let k = site-parts (fields l) e in
-        let short = ap length (k .letter) in
+        let short = one-letter (fields l) k in
         let n : 1 < length (fields l) = omega (arith, k .count) in
-        (omega arith, omega (arith, field-lies 1 l 0 n .within, second-end n short), rw (part-of-field-1 n short) (k .name))
+        (omega arith, omega (arith, field-lies 1 l 0 n .within, second-end n short), rw (part-of-field-1 n short) (k .name), h)
 
     pub link-is-formed : IsLink (fields l) → (size : ℕ) → size ≤ most → Formed most l (Link 2 (2 + one) (3 + one) (3 + one + two) size)
     link-is-formed e size h =
@@ -70,20 +72,25 @@ module _ (l : List ℕ) where
     sized-is-formed e = capacity-cases (λ c. Formed most l (linkOf one two c)) most (field (fields l) 3) (field (fields l) 4)
         (λ o. tt) (λ a b h. tt) (λ a b. link-is-formed e (usableSize (fields l)) (omega arith))
 
-    as-site : Formed most l (siteLine (fields l))
+    as-site : Formed most l (siteLine 78 0 (fields l))
     unfolding siteLine
-    as-site = judged-cases (Formed most l) (checked siteForm (fields l)) _ site-is-formed (λ d. tt)
+    as-site = judged-cases (Formed most l) (checked plainForm (fields l)) _ (λ e. site-is-formed (inl e) 0 (omega arith)) (λ d. tt)
+
+    as-marked : Formed most l (siteLine 84 1 (fields l))
+    unfolding siteLine
+    as-marked = judged-cases (Formed most l) (checked markedForm (fields l)) _ (λ e. site-is-formed (inr e) 1 (omega arith)) (λ d. tt)
 
     as-link : Formed most l (linkLine most (fields l))
     unfolding linkLine
     as-link = judged-cases (Formed most l) (checked linkForm (fields l)) _ sized-is-formed (λ d. tt)
 
 -- the ends of the names, as the code holds them, and that they lie within the line
-pub site-end : (l : List ℕ) (found : Fields) → found ≡ split l → IsSite (fields l) → getD (found .end) 1 0 ≡ 2 + length (field (fields l) 1)
-site-end l found e h =
-    let k = site-parts (fields l) h in
-    let n : 1 < length (fields l) = omega (arith, k .count) in
-    rw e (end-of-split l 1 (omega arith) n ∙ second-end l n (ap length (k .letter)))
+pub site-end : (l : List ℕ) (found : Fields) → found ≡ split l → (letter : ℕ) → checked (siteForm letter) (fields l) ≡ check.Formed
+    → getD (found .end) 1 0 ≡ 2 + length (field (fields l) 1)
+site-end l found e letter h =
+    let k = parts-of-a-site letter (fields l) h in
+    let n : 1 < length (fields l) = omega (arith, k .0) in
+    rw e (end-of-split l 1 (omega arith) n ∙ second-end l n (ap length (k .1)))
 
 pub link-ends : (l : List ℕ) (found : Fields) → found ≡ split l → IsLink (fields l) → let one = length (field (fields l) 1) in
     let two = length (field (fields l) 2) in
@@ -101,9 +108,10 @@ link-ends l found e h =
 
 pub kinds-are-formed : (most : ℕ) (l : List ℕ) → Formed most l (kind most l)
 unfolding kind kindOf
-kinds-are-formed most l = by (isHeading (fields l)) (same (field (fields l) 0) (bytes "L"))
+kinds-are-formed most l = by (isHeading (fields l)) (same (field (fields l) 0) (bytes "L")) (same (field (fields l) 0) (bytes "T"))
   where
-    by : (t u : Bool) → Formed most l (cond t Heading (cond u (linkLine most (fields l)) (siteLine (fields l))))
-    by true u = tt
-    by false true = as-link l most
-    by false false = as-site l most
+    by : (t u v : Bool) → let fs = fields l in Formed most l (cond t Heading (cond u (linkLine most fs) (cond v (siteLine 84 1 fs) (siteLine 78 0 fs))))
+    by true u v = tt
+    by false true v = as-link l most
+    by false false true = as-marked l most
+    by false false false = as-site l most

@@ -2,17 +2,18 @@
 -- fields 1 and 2. By the first field, as the kind of a line is found.
 use mathlib.Core.Bool.{Bool, true, false, cond, false≢true}
 use mathlib.Core.List.{List}
-use mathlib.Core.Logic.{_≢_}
+use mathlib.Core.Logic.{inl, inr, _≢_}
 use mathlib.Core.Path.{_≡_, refl, sym, ap, subst, _∙_}
 use Prim.Native.Nat.{ℕ, _+_, _-_, _≤_}
 use native.Mathlib.Omega.{arith}
 use lib.ListN.{length, take, drop}
 use Rattle.model.specs.Text.{bytes}
-use Rattle.sheet_kinds.specs.LineKinds.{same, fields, field, isHeading, checked, faultOf, siteForm, linkForm, IsSite, IsLink, judged, siteLine}
-use Rattle.sheet_kinds.specs.LineKinds.{size, reserve, usableSize, linkOf, sizedLink, linkLine, kindOf, kind}
-use Rattle.sheet_kinds.specs.LineKindLaws.{judged-cases, site-parts, link-parts, capacity-cases, else-is-usable}
+use Rattle.text_grammar.specs.FormLaws.{formed-parts}
+use Rattle.sheet_kinds.specs.LineKinds.{same, fields, field, isHeading, checked, faultOf, plainForm, markedForm, linkForm, IsSite, IsLink, judged}
+use Rattle.sheet_kinds.specs.LineKinds.{siteLine, mark, size, reserve, usableSize, linkOf, sizedLink, linkLine, kindOf, kind}
+use Rattle.sheet_kinds.specs.LineKindLaws.{judged-cases, site-parts, one-letter, link-parts, capacity-cases, else-is-usable}
 use Rattle.sheet_kinds.specs.FormedLines.{part-of-field-1, part-of-field-2}
-use Rattle.sheet_kinds.specs.FaultyLines.{kind-of-N, kind-of-L}
+use Rattle.sheet_kinds.specs.FaultyLines.{kind-of-N, kind-of-T, kind-of-L}
 use Rattle.sheet_kinds.specs.declared.Line.{Line}
 use Rattle.sheet_kinds.specs.declared.Line.the-variants.{Heading, Site, Link, Fault}
 
@@ -27,7 +28,7 @@ module _ (l : List ℕ) where
   pub site-name-is-field-1 : IsSite (fields l) → take (2 + length (field (fields l) 1) - 2) (drop 2 l) ≡ field (fields l) 1
   site-name-is-field-1 h =
       let k = site-parts (fields l) h in
-      part-of-field-1 l (omega (arith, k .count)) (ap length (k .letter))
+      part-of-field-1 l (omega (arith, k .count)) (one-letter (fields l) k)
 
   pub link-name-is-field-1 : IsLink (fields l) → take (2 + length (field (fields l) 1) - 2) (drop 2 l) ≡ field (fields l) 1
   link-name-is-field-1 h =
@@ -41,10 +42,11 @@ module _ (l : List ℕ) where
       part-of-field-2 l (omega (arith, k .enough)) (ap length (k .letter))
 
 module _ (most : ℕ) (l : List ℕ) where
-  -- what a kind tells of the line: its form, the places of its names, and the usable size of a link
+  -- what a kind tells of the line: its form, the places of its names, the mark of a site, and the usable size of a link
   abbrev pub Tells : Line → Type 0
   Tells Heading = isHeading (fields l) ≡ true
-  Tells (Site a e) = (isHeading (fields l) ≡ false) × IsSite (fields l) × (Site a e ≡ Site 2 (2 + length (field (fields l) 1)))
+  Tells (Site a e m) =
+      (isHeading (fields l) ≡ false) × IsSite (fields l) × (Site a e m ≡ Site 2 (2 + length (field (fields l) 1)) (mark (fields l)))
   Tells (Link a e b f c) =
       let one = length (field (fields l) 1) in
       let two = length (field (fields l) 2) in
@@ -62,19 +64,25 @@ module _ (most : ℕ) (l : List ℕ) where
     unfolding linkLine
     link-tells = judged-cases Tells (checked linkForm (fields l)) _ sized-tells (λ d. no)
 
-    site-tells : Tells (siteLine (fields l))
-    unfolding siteLine
-    site-tells = judged-cases Tells (checked siteForm (fields l)) _ (λ g. (no, g, refl)) (λ d. no)
+    site-tells : same (field (fields l) 0) (bytes "T") ≡ false → Tells (siteLine 78 0 (fields l))
+    unfolding siteLine mark
+    site-tells e = judged-cases Tells (checked plainForm (fields l)) _ (λ g. (no, inl g, rw e)) (λ d. no)
+
+    marked-tells : same (field (fields l) 0) (bytes "T") ≡ true → Tells (siteLine 84 1 (fields l))
+    unfolding siteLine mark
+    marked-tells e = judged-cases Tells (checked markedForm (fields l)) _ (λ g. (no, inr g, rw e)) (λ d. no)
 
   -- the kind of a line tells its form
   pub a-kind-tells-its-form : Tells (kind most l)
   unfolding kind kindOf
-  a-kind-tells-its-form = by (isHeading (fields l)) refl (same (field (fields l) 0) (bytes "L"))
+  a-kind-tells-its-form = by (isHeading (fields l)) refl (same (field (fields l) 0) (bytes "L")) (same (field (fields l) 0) (bytes "T")) refl
     where
-      by : (t : Bool) → isHeading (fields l) ≡ t → (u : Bool) → Tells (cond t Heading (cond u (linkLine most (fields l)) (siteLine (fields l))))
-      by true e u = e
-      by false e true = link-tells e
-      by false e false = site-tells e
+      by : (t : Bool) → isHeading (fields l) ≡ t → (u v : Bool) → same (field (fields l) 0) (bytes "T") ≡ v → let fs = fields l in
+          Tells (cond t Heading (cond u (linkLine most fs) (cond v (siteLine 84 1 fs) (siteLine 78 0 fs))))
+      by true e u v f = e
+      by false e true v f = link-tells e
+      by false e false true f = marked-tells e f
+      by false e false false f = site-tells e f
 
   -- and the form its kind
   pub a-heading-by-its-form : isHeading (fields l) ≡ true → kind most l ≡ Heading
@@ -84,9 +92,10 @@ module _ (most : ℕ) (l : List ℕ) where
   pub no-heading-by-its-form : isHeading (fields l) ≡ false → kind most l ≢ Heading
   no-heading-by-its-form e z = false≢true (sym e ∙ subst Tells z a-kind-tells-its-form)
 
-  pub a-site-by-its-form : IsSite (fields l) → kind most l ≡ Site 2 (2 + length (field (fields l) 1))
-  unfolding siteLine judged faultOf
-  a-site-by-its-form e = kind-of-N most l (site-parts (fields l) e .letter) ∙ rw e
+  pub a-site-by-its-form : IsSite (fields l) → kind most l ≡ Site 2 (2 + length (field (fields l) 1)) (mark (fields l))
+  unfolding siteLine judged faultOf mark same
+  a-site-by-its-form (inl e) = let n = formed-parts plainForm (fields l) e .0 in kind-of-N most l n ∙ rw (e, n)
+  a-site-by-its-form (inr e) = let t = formed-parts markedForm (fields l) e .0 in kind-of-T most l t ∙ rw (e, t)
 
   pub a-link-by-its-form : LinkWithin most l → let a = length (field (fields l) 1) in let b = length (field (fields l) 2) in
       kind most l ≡ Link 2 (2 + a) (3 + a) (3 + a + b) (usableSize (fields l))

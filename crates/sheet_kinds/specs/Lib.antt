@@ -4,4 +4,5 @@ pub mod FormedLines
 pub mod FaultyLines
 pub mod KindForms
 pub mod Numbering
+pub mod Unmarked
 pub mod Unreserved

@@ -2,7 +2,7 @@
 use mathlib.Core.Bool.{Bool, true, false, cond, false≢true}
 use mathlib.Core.List.{List, [], _∷_}
 use mathlib.Core.Logic.{_⊎_, inl, inr, _↔_, _≢_, ⊎-elim}
-use mathlib.Core.Path.{_≡_, refl, sym, _∙_}
+use mathlib.Core.Path.{_≡_, refl, sym, ap, _∙_}
 use Prim.Native.Nat.{ℕ, _-_, _≤_, _<_}
 use native.Mathlib.Omega.{arith}
 use lib.Dec.{leb}
@@ -15,7 +15,7 @@ use Rattle.text_grammar.specs.declared.Size.the-variants.{Within, Above}
 use Rattle.text_grammar.specs.FormLaws.{formed-or-faulty, formed-parts, name-first, number-first}
 pub use Rattle.text_fields.specs.FieldLaws.{both, same-are-equal, equal-are-same, name-length}
 use Rattle.sheet_kinds.specs.LineKinds.{same, field, isName, isNumber, value, checkedFields, checked, faultOf, siteForm, linkForm, IsSite, IsLink}
-use Rattle.sheet_kinds.specs.LineKinds.{judged, reserve, valueFrom, sizeOf, capacityOf}
+use Rattle.sheet_kinds.specs.LineKinds.{judged, mark, reserve, valueFrom, sizeOf, capacityOf}
 use Rattle.sheet_kinds.specs.declared.Line.{Line}
 use Rattle.sheet_kinds.specs.declared.Line.the-variants.{Fault}
 use Rattle.sheet_kinds.specs.declared.Capacity.{Capacity}
@@ -26,10 +26,10 @@ pub judged-cases : (P : Line → Type 0) (c : Check) (w : Line) → (c ≡ check
 unfolding judged faultOf
 judged-cases P c w f g = ⊎-elim (λ e. rw e (f e)) (λ h. rw (h .1) (g (h .0))) (formed-or-faulty c)
 
--- two fields, `N` and a name
+-- two fields, `N` or `T`, and a name
 pub record SiteParts (fs : List (List ℕ)) : Type 0 where
   pub count : length fs ≡ 2
-  pub letter : field fs 0 ≡ bytes "N"
+  pub letter : (field fs 0 ≡ bytes "N") ⊎ (field fs 0 ≡ bytes "T")
   pub name : isName (field fs 1) ≡ true
 
 -- four or five fields, `L`, two names and a number, and a number where there is a fifth
@@ -42,12 +42,38 @@ pub record LinkParts (fs : List (List ℕ)) : Type 0 where
   pub size : isNumber (field fs 3) ≡ true
   pub reserve : length fs ≡ 5 → isNumber (field fs 4) ≡ true
 
+-- by the letter
+pub parts-of-a-site : (letter : ℕ) (fs : List (List ℕ)) → checked (siteForm letter) fs ≡ check.Formed
+    → (length fs ≡ 2) × (field fs 0 ≡ letter ∷ []) × (isName (field fs 1) ≡ true)
+parts-of-a-site letter [] e = absurd (omega (arith, formed-parts (siteForm letter) [] e .1))
+parts-of-a-site letter (a ∷ []) e = absurd (omega (arith, formed-parts (siteForm letter) (a ∷ []) e .1))
+parts-of-a-site letter (a ∷ b ∷ fs) e =
+    let h = formed-parts (siteForm letter) (a ∷ b ∷ fs) e in
+    (omega (arith, h .1, h .2), h .0, name-first b fs 0 (h .3) .0)
+
 pub site-parts : (fs : List (List ℕ)) → IsSite fs → SiteParts fs
-site-parts [] e = absurd (omega (arith, formed-parts siteForm [] e .1))
-site-parts (a ∷ []) e = absurd (omega (arith, formed-parts siteForm (a ∷ []) e .1))
-site-parts (a ∷ b ∷ fs) e =
-    let h = formed-parts siteForm (a ∷ b ∷ fs) e in
-    record { count = omega (arith, h .1, h .2); letter = h .0; name = name-first b fs 0 (h .3) .0 }
+site-parts fs (inl e) = let h = parts-of-a-site 78 fs e in record { count = h .0; letter = inl (h .1); name = h .2 }
+site-parts fs (inr e) = let h = parts-of-a-site 84 fs e in record { count = h .0; letter = inr (h .1); name = h .2 }
+
+-- the letter is one byte
+pub one-letter : (fs : List (List ℕ)) → SiteParts fs → length (field fs 0) ≡ 1
+one-letter fs k = ⊎-elim (ap length) (ap length) (k .letter)
+
+-- a site line is marked just where its letter is `T`, and else the letter is `N`
+pub a-mark-tells-its-letter : (fs : List (List ℕ)) → (mark fs ≡ 1) ↔ (field fs 0 ≡ bytes "T")
+unfolding mark same
+a-mark-tells-its-letter fs = (λ e. same-are-equal (field fs 0) (bytes "T") (by (same (field fs 0) (bytes "T")) e), λ e. rw e)
+  where
+    by : (t : Bool) → let m : ℕ = cond t 1 0 in m ≡ 1 → t ≡ true
+    by true e = refl
+    by false e = absurd (omega arith)
+
+pub no-mark-tells-its-letter : (fs : List (List ℕ)) → IsSite fs → (mark fs ≡ 0) ↔ (field fs 0 ≡ bytes "N")
+unfolding mark same
+no-mark-tells-its-letter fs is = (
+  λ e. ⊎-elim (λ n. n) (λ t. absurd (omega (arith, a-mark-tells-its-letter fs .1 t))) (site-parts fs is .letter),
+  λ e. rw e,
+)
 
 pub link-parts : (fs : List (List ℕ)) → IsLink fs → LinkParts fs
 link-parts [] e = absurd (omega (arith, formed-parts linkForm [] e .1))
@@ -66,12 +92,17 @@ link-parts (a ∷ b ∷ c ∷ d ∷ fs) e =
     fifth (g ∷ gs) h n = number-first g gs h .0
 
 -- and these parts make the form
+made-of : (letter : ℕ) (fs : List (List ℕ)) → length fs ≡ 2 → field fs 0 ≡ letter ∷ [] → isName (field fs 1) ≡ true
+    → checked (siteForm letter) fs ≡ check.Formed
+unfolding checked checkedFields
+made-of letter [] n e h = absurd (omega arith)
+made-of letter (a ∷ []) n e h = absurd (omega arith)
+made-of letter (a ∷ b ∷ []) n e h = rw (e, equal-are-same (letter ∷ []), h)
+made-of letter (a ∷ b ∷ c ∷ fs) n e h = absurd (omega arith)
+
 site-made : (fs : List (List ℕ)) → SiteParts fs → IsSite fs
-unfolding checked checkedFields same
-site-made [] k = absurd (omega (arith, k .count))
-site-made (a ∷ []) k = absurd (omega (arith, k .count))
-site-made (a ∷ b ∷ []) k = rw (k .letter, k .name)
-site-made (a ∷ b ∷ c ∷ fs) k = absurd (omega (arith, k .count))
+site-made fs k =
+    ⊎-elim (λ e. inl (made-of 78 fs (k .count) e (k .name))) (λ e. inr (made-of 84 fs (k .count) e (k .name))) (k .letter)
 
 pub site-is-its-parts : (fs : List (List ℕ)) → IsSite fs ↔ SiteParts fs
 site-is-its-parts fs = (site-parts fs, site-made fs)

@@ -1,7 +1,8 @@
 -- What a line of a network sheet is: a heading, a site, a link or a fault, by its fields held against the forms.
--- Document 01, "The network sheet"; 02, Card 5 (the reserve of a link).
+-- Document 01, "The network sheet"; 02, Card 5 (the reserve of a link), Card 7 (the mark of a site).
 use mathlib.Core.Bool.{Bool, cond, _&&_}
 use mathlib.Core.List.{List}
+use mathlib.Core.Logic.{_⊎_}
 use mathlib.Core.Path.{_≡_}
 use Prim.Native.Nat.{ℕ, _+_, _-_}
 use lib.Dec.{eqb, leb}
@@ -24,17 +25,24 @@ unfoldable pub use Rattle.text_grammar.specs.Grammar.{checkedFields, checked, f
 unfoldable pub isHeading : List (List ℕ) → Bool
 isHeading fs = eqb (length fs) 2 && same (field fs 0) (bytes "network") && same (field fs 1) (bytes "1")
 
--- `N`, tab, name
-abbrev pub siteForm : Form
-siteForm = record { letter = 78; names = 1; least = 0; most = 0 }
+-- the letter of a site, tab, name
+abbrev pub siteForm : ℕ → Form
+siteForm letter = record { letter = letter; names = 1; least = 0; most = 0 }
+
+-- the letter is `N`; and `T` of a marked site (02, Card 7)
+abbrev pub plainForm : Form
+plainForm = siteForm 78
+
+abbrev pub markedForm : Form
+markedForm = siteForm 84
 
 -- `L`, tab, name, tab, name, tab, size; and, where channels are held back, tab, reserve (02, Card 5)
 abbrev pub linkForm : Form
 linkForm = record { letter = 76; names = 2; least = 1; most = 2 }
 
--- the fields have the form of a site, and of a link
+-- the fields have the form of a site, marked or not, and of a link
 abbrev pub IsSite : List (List ℕ) → Type 0
-IsSite fs = checked siteForm fs ≡ check.Formed
+IsSite fs = (checked plainForm fs ≡ check.Formed) ⊎ (checked markedForm fs ≡ check.Formed)
 
 abbrev pub IsLink : List (List ℕ) → Type 0
 IsLink fs = checked linkForm fs ≡ check.Formed
@@ -43,9 +51,13 @@ IsLink fs = checked linkForm fs ≡ check.Formed
 unfoldable pub judged : Check → Line → Line
 judged c line = cond (eqb (faultOf c) 0) line (Fault (faultOf c))
 
--- a line as a site
-unfoldable pub siteLine : List (List ℕ) → Line
-siteLine fs = judged (checked siteForm fs) (Site 2 (2 + length (field fs 1)))
+-- a line as a site with a letter and a mark
+unfoldable pub siteLine : ℕ → ℕ → List (List ℕ) → Line
+siteLine letter mark fs = judged (checked (siteForm letter) fs) (Site 2 (2 + length (field fs 1)) mark)
+
+-- the mark of a site line (02, Card 7: letter `T`): 1 marked, 0 not
+unfoldable pub mark : List (List ℕ) → ℕ
+mark fs = cond (same (field fs 0) (bytes "T")) 1 0
 
 -- the size and the reserve of a link line; a line without a fifth field has an empty one here, of value 0 (02, Card 5: without it the reserve is 0)
 abbrev pub size : List (List ℕ) → ℕ
@@ -77,9 +89,12 @@ sizedLink most fs = linkOf (length (field fs 1)) (length (field fs 2)) (capacity
 unfoldable pub linkLine : ℕ → List (List ℕ) → Line
 linkLine most fs = judged (checked linkForm fs) (sizedLink most fs)
 
--- what a line is, by its fields: a heading, a link where the first field is `L`, else a site; sizes are at most `most`
+-- what a line is, by its fields: a heading, a link where the first field is `L`, a marked site where it is `T`, else a site; sizes are at most `most`
 unfoldable pub kindOf : ℕ → List (List ℕ) → Line
-kindOf most fs = cond (isHeading fs) Heading (cond (same (field fs 0) (bytes "L")) (linkLine most fs) (siteLine fs))
+kindOf most fs =
+    cond (isHeading fs) Heading
+    (cond (same (field fs 0) (bytes "L")) (linkLine most fs)
+    (cond (same (field fs 0) (bytes "T")) (siteLine 84 1 fs) (siteLine 78 0 fs)))
 
 -- what a line is (01: each line is a heading, a site, a link or a fault)
 unfoldable pub kind : ℕ → List ℕ → Line

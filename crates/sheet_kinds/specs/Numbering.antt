@@ -1,4 +1,4 @@
--- Lines by another numbering of the form faults, and the numbering from before Card 1: 2 for each of them.
+-- Lines by another numbering of the form faults, all else being as today, and the numbering from before Card 1: 2 for each of them.
 -- Document 02, Card 1 ("Refusal 2 covers too much"). What was 2 then is 2, 10, 11 or 12 now, and every other line is as it was: by the cases of a kind.
 use mathlib.Core.Bool.{Bool, true, false, cond}
 use mathlib.Core.List.{List}
@@ -9,7 +9,7 @@ use lib.ListN.{length}
 use Rattle.model.specs.Text.{bytes}
 pub use Rattle.text_grammar.specs.declared.Check.{Check}
 use Rattle.text_grammar.specs.declared.Check.the-variants.{Formed, Letter, Count, Name, Number}
-use Rattle.sheet_kinds.specs.LineKinds.{same, fields, field, isHeading, checked, faultOf, siteForm, linkForm, judged, siteLine}
+use Rattle.sheet_kinds.specs.LineKinds.{same, fields, field, isHeading, checked, faultOf, plainForm, markedForm, linkForm, judged, siteLine}
 use Rattle.sheet_kinds.specs.LineKinds.{linkOf, sizedLink, linkLine, kindOf, kind}
 use Rattle.sheet_kinds.specs.LineKindLaws.{capacity-cases}
 use Rattle.sheet_kinds.specs.declared.Line.{Line}
@@ -27,7 +27,8 @@ kindBy number most l =
     let fs = fields l in
     cond (isHeading fs) Heading
     (cond (same (field fs 0) (bytes "L")) (judgedBy number (checked linkForm fs) (sizedLink most fs))
-    (judgedBy number (checked siteForm fs) (Site 2 (2 + length (field fs 1)))))
+    (cond (same (field fs 0) (bytes "T")) (judgedBy number (checked markedForm fs) (Site 2 (2 + length (field fs 1)) 1))
+    (judgedBy number (checked plainForm fs) (Site 2 (2 + length (field fs 1)) 0))))
 
 -- the numbering from before Card 1 (01: 2, line of the wrong form)
 unfoldable pub faultBefore : Check → ℕ
@@ -43,7 +44,7 @@ numberBefore n = cond (eqb n 10) 2 (cond (eqb n 11) 2 (cond (eqb n 12) 2 n))
 
 abbrev pub lineBefore : Line → Line
 lineBefore Heading = Heading
-lineBefore (Site a e) = Site a e
+lineBefore (Site a e m) = Site a e m
 lineBefore (Link a e b f size) = Link a e b f size
 lineBefore (Fault n) = Fault (numberBefore n)
 
@@ -76,12 +77,13 @@ sized-stays most fs = capacity-cases (λ c. lineBefore (linkOf one two c) ≡ li
 pub a-line-is-as-before : (most : ℕ) (l : List ℕ) → kindBy faultBefore most l ≡ lineBefore (kind most l)
 unfolding kindBy kind kindOf linkLine siteLine
 a-line-is-as-before most l =
-    by (isHeading (fields l)) (same (field (fields l) 0) (bytes "L"))
-    _ _ (judged-before (checked linkForm (fields l)) (sizedLink most (fields l)) (sized-stays most (fields l)))
-    _ _ (judged-before (checked siteForm (fields l)) (Site 2 (2 + length (field (fields l) 1))) refl)
+    by (isHeading (fields l)) _ Heading _ _ refl
+    (by (same (field (fields l) 0) (bytes "L")) _ _ _ _
+    (judged-before (checked linkForm (fields l)) (sizedLink most (fields l)) (sized-stays most (fields l)))
+    (by (same (field (fields l) 0) (bytes "T")) _ _ _ _
+    (judged-before (checked markedForm (fields l)) (Site 2 (2 + length (field (fields l) 1)) 1) refl)
+    (judged-before (checked plainForm (fields l)) (Site 2 (2 + length (field (fields l) 1)) 0) refl)))
   where
-    by : (t u : Bool) (v w : Line) → v ≡ lineBefore w → (x y : Line) → x ≡ lineBefore y
-        → cond t Heading (cond u v x) ≡ lineBefore (cond t Heading (cond u w y))
-    by true u v w e x y f = refl
-    by false true v w e x y f = e
-    by false false v w e x y f = f
+    by : (t : Bool) (v w x y : Line) → v ≡ lineBefore w → x ≡ lineBefore y → cond t v x ≡ lineBefore (cond t w y)
+    by true v w x y e f = e
+    by false v w x y e f = f

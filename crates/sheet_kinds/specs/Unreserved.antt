@@ -1,5 +1,5 @@
--- Lines from before Card 5: a link line has four fields, and its capacity is its size. Document 02, Card 5 ("may carry a fifth field").
--- A line that is no link line of five fields is what it was: by the count of its fields, and since no digits have the value 0.
+-- Lines from before Card 5: a link line has four fields, its capacity is its size, and a site line has the letter `N`. Document 02, Card 5 ("may carry a
+-- fifth field"). A line that is no link line of five fields was the same up to Card 7: by the count of its fields, and since no digits have the value 0.
 use mathlib.Core.Bool.{Bool, true, false, cond}
 use mathlib.Core.List.{List}
 use mathlib.Core.Logic.{_≢_, ⊎-elim}
@@ -17,8 +17,9 @@ use Rattle.text_grammar.specs.declared.Form.{Form}
 use Rattle.text_grammar.specs.declared.Check.{Check}
 use Rattle.text_grammar.specs.declared.Check.the-variants as check
 use Rattle.sheet_kinds.specs.LineKinds.{same, fields, field, isHeading, checked, faultOf, linkForm, judged, siteLine}
-use Rattle.sheet_kinds.specs.LineKinds.{size, linkOf, sizedLink, linkLine, kindOf, kind}
+use Rattle.sheet_kinds.specs.LineKinds.{size, linkOf, sizedLink, linkLine}
 use Rattle.sheet_kinds.specs.LineKindLaws.{same-are-equal, link-parts, no-fifth, capacity-cases}
+use Rattle.sheet_kinds.specs.Unmarked.{kindUnmarked}
 use Rattle.sheet_kinds.specs.declared.Line.{Line}
 use Rattle.sheet_kinds.specs.declared.Line.the-variants.{Heading, Link, Fault}
 
@@ -39,7 +40,7 @@ sizedBefore most fs =
 unfoldable pub kindUnreserved : ℕ → List ℕ → Line
 kindUnreserved most l =
     let fs = fields l in
-    cond (isHeading fs) Heading (cond (same (field fs 0) (bytes "L")) (judged (checked linkFormBefore fs) (sizedBefore most fs)) (siteLine fs))
+    cond (isHeading fs) Heading (cond (same (field fs 0) (bytes "L")) (judged (checked linkFormBefore fs) (sizedBefore most fs)) (siteLine 78 0 fs))
 
 -- ---- the laws
 
@@ -77,15 +78,15 @@ module _ (most : ℕ) (fs : List (List ℕ)) where
       (λ e. let n = link-parts fs e .no-more in sized-as-before (omega (arith, d)))
       ∙ rw (checked-as-before d)
 
--- a line that is no link line of five fields is what it was
+-- a line that is no link line of five fields was the same up to Card 7
 pub a-line-without-reserve-is-as-before : (most : ℕ) (l : List ℕ) → (field (fields l) 0 ≡ bytes "L" → length (fields l) ≢ 5)
-    → kindUnreserved most l ≡ kind most l
-unfolding kindUnreserved kind kindOf
+    → kindUnreserved most l ≡ kindUnmarked most l
+unfolding kindUnreserved kindUnmarked
 a-line-without-reserve-is-as-before most l none = by (isHeading (fields l)) (same (field (fields l) 0) (bytes "L")) refl
   where
     by : (t u : Bool) → same (field (fields l) 0) (bytes "L") ≡ u → let fs = fields l in
-        cond t Heading (cond u (judged (checked linkFormBefore fs) (sizedBefore most fs)) (siteLine fs))
-        ≡ cond t Heading (cond u (linkLine most fs) (siteLine fs))
+        cond t Heading (cond u (judged (checked linkFormBefore fs) (sizedBefore most fs)) (siteLine 78 0 fs))
+        ≡ cond t Heading (cond u (linkLine most fs) (siteLine 78 0 fs))
     by true u e = refl
     by false true e = sym (link-as-before most (fields l) (none (same-are-equal _ _ e)))
     by false false e = refl

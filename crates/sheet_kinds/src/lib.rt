@@ -1,4 +1,5 @@
-// What a line of a network sheet is (document 01, "The network sheet"; 02, Card 5, the reserve of a link), by the grammar of lines.
+// What a line of a network sheet is (document 01, "The network sheet"; 02, Card 5, the reserve of a link; Card 7, the mark of a site), by the grammar of
+// lines.
 ghost use mathlib.Core.Path.{_≡_};
 ghost use Rattle.text_fields.specs.Fields.{fields, field};
 ghost use Rattle.text_grammar.specs.Grammar.{split, sizeOf};
@@ -10,9 +11,11 @@ use text_grammar::Size;
 // What a line is (01: each line is a heading, a site, a link or a fault). Names are ranges of places in the line.
 pub enum Line {
     Heading,
+    // 1 marked (02, Card 7: letter `T`), 0 not
     Site {
         start: usize,
         end: usize,
+        mark: u8,
     },
     Link {
         start: usize,
@@ -31,12 +34,12 @@ pub enum Capacity {
     Faulty(u64),
 }
 
-// The form of a site line.
-fn site_form() -> Form
-    ensures { λ r. ⌜ r ≡ siteForm ⌝ }
+// The form of a site line, by its letter.
+fn site_form(letter: u8) -> Form
+    ensures { λ r. ⌜ r ≡ siteForm letter ⌝ }
 {
     Form {
-        letter: b'N',
+        letter,
         names: 1,
         least: 0,
         most: 0,
@@ -69,18 +72,20 @@ fn is_heading(line: &[u8], found: Fields) -> bool
     text_fields::is_byte(text_grammar::field(line, found, 1), b'1')
 }
 
-// What a line is as a site.
-fn site(line: &[u8], found: Fields) -> Line
+// What a line is as a site with a letter and a mark.
+fn site(line: &[u8], found: Fields, letter: u8, mark: u8) -> Line
     requires { ⌜ found ≡ split (now line) ⌝ }
-    ensures { λ r. ⌜ r ≡ siteLine (fields (now (line .entry))) ⌝ }
+    ensures { λ r. ⌜ r ≡ siteLine letter mark (fields (now (line .entry))) ⌝ }
 {
-    let fault = text_grammar::fault(text_grammar::check_line(line, found, site_form()));
+    let form = site_form(letter);
+    let fault = text_grammar::fault(text_grammar::check_line(line, found, form));
     if fault != 0 {
         return Line::Fault(fault);
     }
     Line::Site {
         start: 2,
         end: found.end[1],
+        mark,
     }
 }
 
@@ -153,8 +158,12 @@ pub fn classify(line: &[u8], most: u64) -> Line
     if is_heading(line, found) {
         return Line::Heading;
     }
-    if text_fields::is_byte(text_grammar::field(line, found, 0), b'L') {
+    let first = text_grammar::field(line, found, 0);
+    if text_fields::is_byte(first, b'L') {
         return link(line, found, most);
     }
-    site(line, found)
+    if text_fields::is_byte(first, b'T') {
+        return site(line, found, b'T', 1);
+    }
+    site(line, found, b'N', 0)
 }

@@ -1,5 +1,5 @@
 // Sheets to try: each part of the input, up to a byte 12, is a title line and a sheet. The program writes the title and the sheet's answer:
-// accepted with the numbers of sites and links and the name of the last site, or refused with number and line.
+// accepted with the numbers of sites and links, the name of the last site and the numbers of the marked sites, or refused with number and line.
 ghost use Prim.Native.Nat.{_≤_};
 ghost use lib.ListN.{length};
 use libc::STDOUT_FILENO;
@@ -26,6 +26,17 @@ fn number(n: u64) {
     io::print_decimal(STDOUT_FILENO, n);
 }
 
+// Writes the numbers of the marked sites.
+fn marks(mark: &[u8]) {
+    let mut i = 0;
+    while i < mark.len() {
+        if mark[i] != 0 {
+            number((i + 1) as u64);
+        }
+        i += 1;
+    }
+}
+
 // Writes the answer to a sheet.
 fn answer(text: &[u8]) {
     let reading = sheet::read(text);
@@ -38,6 +49,7 @@ fn answer(text: &[u8]) {
             number(network.links as u64);
             io::write_all(STDOUT_FILENO, b"\t");
             io::write_all(STDOUT_FILENO, sheet::name(text, network.sites));
+            marks(&network.mark);
         }
         Answer::Refused { number: n, line } => {
             io::write_all(STDOUT_FILENO, b"\trefused");

@@ -66,7 +66,7 @@ step-is c = let P = round c .loop .inv in c .step-at .ensures (P .read) (held P)
 -- there is room for a site, and for a link and its labels
 site-room : (c : tie.After-known-told2 Inv-loop μ-loop) → round (c .before .before .before .before) .loop .net .sites < SITES
 site-room c = let step = c .before .before .before .before in
-    site-fits (round step .loop .inv) (step .step-at .result) (here (line-of step .before)) (step-is step) _ _ (c .before .step2 .given .1)
+    site-fits (round step .loop .inv) (step .step-at .result) (here (line-of step .before)) (step-is step) _ _ _ (c .before .step2 .given .1)
 
 link-room : (c : tie.After-known-told3 Inv-loop μ-loop) → let given = c .before .step3 .given in
     (round (c .before .before .before .before) .loop .net .links < SITES) × (given .0 .0 < PLACES) × (given .0 .1 .0 < PLACES)
@@ -96,7 +96,7 @@ loop-again c = let step = c .before .before .before in
 loop-again-2 : tie.Need-loop-again-2 Inv-loop μ-loop
 loop-again-2 c = let next = c .before .before .before .before .before in let step = next .before in
     rw (rest-is next)
-    (by-site (round step .loop .inv) (step .step-at .result) (here (line-of step .before)) (step-is step) _ _ (c .before .before .before .step2 .given .1) _
+    (by-site (round step .loop .inv) (step .step-at .result) (here (line-of step .before)) (step-is step) _ _ _ (c .before .before .before .step2 .given .1) _
     (c .enter .ensures))
 
 loop-again-3 : tie.Need-loop-again-3 Inv-loop μ-loop
@@ -147,6 +147,7 @@ read-lines-spec =
     (λ c. site-room c)
     (λ c. omega (arith, site-room c))
     (λ c. site-room c)
+    (λ c. omega (arith, site-room c))
     (λ c. omega (arith, site-room c))
     (λ c. omega (arith, site-room (c .before)))
     (λ c κs. omega (arith, site-room (c .before)))

@@ -15,10 +15,14 @@ split-requires c κs = search needs
 is-heading-requires : tie.Need-is-heading-requires
 is-heading-requires c κs = search needs
 
--- what the first field is found to be
-first-is : (c : tie.After-is-byte)
+-- what the first field is found to be, against `L` and against `T`
+link-is : (c : tie.After-is-byte)
     → c .is-byte .result ≡ same (field (fields (c .before .before .before .before .before .before .args .line .now)) 0) (bytes "L")
-first-is c = rw (c .before .field .ensures) at (c .is-byte .ensures)
+link-is c = rw (c .before .field .ensures) at (c .is-byte .ensures)
+
+mark-is : (c : tie.After-is-byte2)
+    → c .is-byte2 .result ≡ same (field (fields (c .before .before .before .before .before .before .before .before .args .line .now)) 0) (bytes "T")
+mark-is c = rw (c .before .before .before .field .ensures) at (c .is-byte2 .ensures)
 
 returns : tie.Need-returns
 unfolding kind kindOf
@@ -29,41 +33,45 @@ field-requires c κs =
     let split = c .before .before .split in
     (split .ensures, omega arith, omega (arith, count-of-split (c .before .before .before .before .args .line .now) (split .result) (split .ensures)))
 
-is-byte-requires : tie.Need-is-byte-requires
-is-byte-requires c κs = search needs
-
-link-requires : tie.Need-link-requires
-link-requires c κs = search needs
-
 returns-2 : tie.Need-returns-2
 unfolding kind kindOf
 returns-2 c =
     rw (
       sym (c .before .before .before .before .before .is-heading .ensures) ∙ c .before .before .before .before .if1 .left,
-      sym (first-is (c .before .before)) ∙ c .before .if2 .taken,
+      sym (link-is (c .before .before)) ∙ c .before .if2 .taken,
     ) (c .link .ensures)
-
-site-requires : tie.Need-site-requires
-site-requires c κs = search needs
 
 returns-3 : tie.Need-returns-3
 unfolding kind kindOf
 returns-3 c =
     rw (
-      sym (c .before .before .before .before .before .is-heading .ensures) ∙ c .before .before .before .before .if1 .left,
-      sym (first-is (c .before .before)) ∙ c .before .if2 .left,
+      sym (c .before .before .before .before .before .before .before .is-heading .ensures) ∙ c .before .before .before .before .before .before .if1 .left,
+      sym (link-is (c .before .before .before .before)) ∙ c .before .before .before .if2 .left,
+      sym (mark-is (c .before .before)) ∙ c .before .if3 .taken,
     ) (c .site .ensures)
+
+returns-4 : tie.Need-returns-4
+unfolding kind kindOf
+returns-4 c =
+    rw (
+      sym (c .before .before .before .before .before .before .before .is-heading .ensures) ∙ c .before .before .before .before .before .before .if1 .left,
+      sym (link-is (c .before .before .before .before)) ∙ c .before .before .before .if2 .left,
+      sym (mark-is (c .before .before)) ∙ c .before .if3 .left,
+    ) (c .site2 .ensures)
 
 pub classify-spec : {M : Type 1} → statement M
 classify-spec =
     tie.close
     (tie.spec
-    split-requires
-    is-heading-requires
+    (λ c κs. search needs)
+    (λ c κs. search needs)
     returns
     field-requires
-    is-byte-requires
-    link-requires
+    (λ c κs. search needs)
+    (λ c κs. search needs)
     returns-2
-    site-requires
-    returns-3)
+    (λ c κs. search needs)
+    (λ c κs. search needs)
+    returns-3
+    (λ c κs. search needs)
+    returns-4)

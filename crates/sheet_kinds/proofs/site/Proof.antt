@@ -21,22 +21,20 @@ fault-requires : tie.Need-fault-requires
 fault-requires c κs = search needs
 
 -- the number of the fault
-fault-is : (c : tie.After-fault) → c .fault .result ≡ faultOf (checked siteForm (fields (c .before .before .before .before .args .line .now)))
+fault-is : (c : tie.After-fault) → let a = c .before .before .before .before .args in
+    c .fault .result ≡ faultOf (checked (siteForm (a .letter)) (fields (a .line .now)))
 fault-is c = c .fault .ensures ∙ ap faultOf (rw (c .before .before .site-form .ensures) at (c .before .check-line .ensures))
 
 returns : tie.Need-returns
 unfolding siteLine
 returns c = sym (judged-wrong _ _ _ (fault-is (c .before)) (c .if1 .taken))
 
-element-copy-out-t11 : tie.Need-element-copy-out-t11
-element-copy-out-t11 c = search needs
-
 returns-2 : tie.Need-returns-2
 unfolding siteLine
 returns-2 c =
     let s = c .before .before .before .before .before .before in
     let right = judged-right _ _ _ (fault-is (c .before .before)) (c .before .if1 .left) in
-    ap (Site 2) (site-end (s .args .line .now) (s .args .t2) (s .pre) (right .0)) ∙ sym (right .1)
+    ap (λ e. Site 2 e (s .args .mark)) (site-end (s .args .line .now) (s .args .t2) (s .pre) (s .args .letter) (right .0)) ∙ sym (right .1)
 
 pub site-spec : {M : Type 1} → statement M
 site-spec =
@@ -46,5 +44,5 @@ site-spec =
     check-line-requires
     fault-requires
     returns
-    element-copy-out-t11
+    (λ c. search needs)
     returns-2)
