@@ -13,7 +13,7 @@ use Rattle.lists.specs.Sums.{contradiction}
 use Rattle.model.specs.Limits.{SIZE}
 use Rattle.model.specs.Edition.{largest}
 use Rattle.tree.specs.Offer.{within, offer}
-use Rattle.tree.specs.Accepted.{TreeWithin, within-look, within-all, accepted-is-a-tree-within-the-limits, a-tree-within-the-limits-is-accepted}
+use Rattle.tree.specs.Accepted.{MarkedTree, within-look, within-all, accepted-is-a-tree-within-the-limits, a-tree-within-the-limits-is-accepted}
 use Rattle.tree.specs.Answers.{SizedTree, Above, not-within-is-above, above-is-not-within}
 use Rattle.tree.specs.Answers.{no-tree-is-said-just-of-no-tree, too-large-is-said-just-of-a-capacity-above-the-limit}
 use Rattle.tree.specs.declared.Offer.{Offer}
@@ -71,77 +71,85 @@ no-cuts-said offered.Accepted true true r d e = absurd (e d)
 
 -- ---- what is said
 
-module _ (n : ℕ) (a b c t : List ℕ) where
-  made : offeredCuts n a b c t .answer ≡ Done
+module _ (n : ℕ) (a b marks c t : List ℕ) where
+  made : offeredCuts n a b marks c t .answer ≡ Done
   unfolding cuts
   made = refl
 
   abbrev each : Bool
   each = eqb (length t) (length a)
 
-  pub no-tree-is-told-just-of-no-tree : (outcome n a b c t .answer ≡ NoTree) ↔ (¬ (SizedTree largest n a b c))
+  pub no-tree-is-told-just-of-no-tree : (outcome n a b marks c t .answer ≡ NoTree) ↔ (¬ (SizedTree largest n a b marks c))
   unfolding outcome decide noCuts
   no-tree-is-told-just-of-no-tree =
-      let law = no-tree-is-said-just-of-no-tree largest n a b c in
-      (λ e. law .0 (said-no-tree (offer largest n a b c) each (within 0 SIZE t) (offeredCuts n a b c t) made e), λ d. rw (law .1 d) refl)
+      let law = no-tree-is-said-just-of-no-tree largest n a b marks c in
+      (λ e. law .0 (said-no-tree (offer largest n a b marks c) each (within 0 SIZE t) (offeredCuts n a b marks c t) made e), λ d. rw (law .1 d) refl)
 
   -- a given size first, then a balanced one, where there is one for each link
-  pub too-large-is-told-just-of-a-size-above-the-limit : (outcome n a b c t .answer ≡ TooLarge)
-      ↔ ((SizedTree largest n a b c × Above SIZE c) ⊎ (TreeWithin largest n a b c × (length t ≡ length a) × Above SIZE t))
+  pub too-large-is-told-just-of-a-size-above-the-limit : (outcome n a b marks c t .answer ≡ TooLarge)
+      ↔ ((SizedTree largest n a b marks c × Above SIZE c) ⊎ (MarkedTree largest n a b marks c × (length t ≡ length a) × Above SIZE t))
   unfolding outcome decide noCuts
   too-large-is-told-just-of-a-size-above-the-limit =
-      let law = too-large-is-said-just-of-a-capacity-above-the-limit largest n a b c in (
+      let law = too-large-is-said-just-of-a-capacity-above-the-limit largest n a b marks c in (
         λ e. ⊎-elim (λ h. inl (law .0 h))
-            (λ h. inr (accepted-is-a-tree-within-the-limits largest n a b c (h .0), eqb-true (length t) (length a) (h .1), not-within-is-above SIZE t (h .2)))
-            (said-too-large (offer largest n a b c) each (within 0 SIZE t) (offeredCuts n a b c t) made e),
+            (λ h. inr (
+              accepted-is-a-tree-within-the-limits largest n a b marks c (h .0),
+              eqb-true (length t) (length a) (h .1),
+              not-within-is-above SIZE t (h .2),
+            ))
+            (said-too-large (offer largest n a b marks c) each (within 0 SIZE t) (offeredCuts n a b marks c t) made e),
         ⊎-elim (λ h. rw (law .1 h) refl)
             (λ h. rw (
-              a-tree-within-the-limits-is-accepted largest n a b c (h .0),
+              a-tree-within-the-limits-is-accepted largest n a b marks c (h .0),
               eq-eqb (length t) (length a) (h .1),
               above-is-not-within SIZE t (h .2),
             ) refl),
       )
 
-  pub unequal-is-told-just-of-another-number-of-balanced-sizes : (outcome n a b c t .answer ≡ Unequal)
-      ↔ (TreeWithin largest n a b c × (length t ≢ length a))
+  pub unequal-is-told-just-of-another-number-of-balanced-sizes : (outcome n a b marks c t .answer ≡ Unequal)
+      ↔ (MarkedTree largest n a b marks c × (length t ≢ length a))
   unfolding outcome decide noCuts
   unequal-is-told-just-of-another-number-of-balanced-sizes = (
-    λ e. let h = said-unequal (offer largest n a b c) each (within 0 SIZE t) (offeredCuts n a b c t) made e in
-        (accepted-is-a-tree-within-the-limits largest n a b c (h .0), eqb-false (length t) (length a) (h .1)),
-    λ h. rw (a-tree-within-the-limits-is-accepted largest n a b c (h .0), ne-eqb (length t) (length a) (h .1)) refl,
+    λ e. let h = said-unequal (offer largest n a b marks c) each (within 0 SIZE t) (offeredCuts n a b marks c t) made e in
+        (accepted-is-a-tree-within-the-limits largest n a b marks c (h .0), eqb-false (length t) (length a) (h .1)),
+    λ h. rw (a-tree-within-the-limits-is-accepted largest n a b marks c (h .0), ne-eqb (length t) (length a) (h .1)) refl,
   )
 
   -- whatever is told but success, all places are without an owner, every size and count is 0
-  pub no-cuts-are-told-but-with-success : outcome n a b c t .answer ≢ Done → outcome n a b c t ≡ noCuts (outcome n a b c t .answer)
+  pub no-cuts-are-told-but-with-success : outcome n a b marks c t .answer ≢ Done → outcome n a b marks c t ≡ noCuts (outcome n a b marks c t .answer)
   unfolding outcome
-  no-cuts-are-told-but-with-success = no-cuts-said (offer largest n a b c) each (within 0 SIZE t) (offeredCuts n a b c t) made
+  no-cuts-are-told-but-with-success = no-cuts-said (offer largest n a b marks c) each (within 0 SIZE t) (offeredCuts n a b marks c t) made
 
-  pub accepted-offers-get-their-cuts : TreeWithin largest n a b c → TreeWithin largest n a b t → outcome n a b c t ≡ offeredCuts n a b c t
+  pub accepted-offers-get-their-cuts : MarkedTree largest n a b marks c → MarkedTree largest n a b marks t
+      → outcome n a b marks c t ≡ offeredCuts n a b marks c t
   unfolding outcome decide
   accepted-offers-get-their-cuts w v = rw (
-    a-tree-within-the-limits-is-accepted largest n a b c w,
+    a-tree-within-the-limits-is-accepted largest n a b marks c w,
     eq-eqb (length t) (length a) (omega arith),
-    within-all 0 SIZE t (λ j h. (omega arith, v .limited j h)),
+    within-all 0 SIZE t (λ j h. (omega arith, v .within .limited j h)),
   ) refl
 
   -- the tree is one within the limits with the given sizes, and with the balanced ones
-  pub cuts-are-for-accepted-offers : outcome n a b c t .answer ≡ Done → TreeWithin largest n a b c × TreeWithin largest n a b t
+  pub cuts-are-for-accepted-offers : outcome n a b marks c t .answer ≡ Done → MarkedTree largest n a b marks c × MarkedTree largest n a b marks t
   unfolding outcome
   cuts-are-for-accepted-offers e =
-      let d = said-done (offer largest n a b c) each (within 0 SIZE t) (offeredCuts n a b c t) e in
-      let w = accepted-is-a-tree-within-the-limits largest n a b c (d .0) in (
+      let d = said-done (offer largest n a b marks c) each (within 0 SIZE t) (offeredCuts n a b marks c t) e in
+      let w = accepted-is-a-tree-within-the-limits largest n a b marks c (d .0) in (
         w,
         record {
-          tree = w .tree;
-          few = w .few;
-          firsts = w .firsts;
-          seconds = w .seconds;
-          capacities = omega (arith, eqb-true (length t) (length a) (d .1));
-          limited = λ j h. within-look 0 SIZE t (d .2) j h .1;
+          within = record {
+            tree = w .within .tree;
+            few = w .within .few;
+            firsts = w .within .firsts;
+            seconds = w .within .seconds;
+            capacities = omega (arith, eqb-true (length t) (length a) (d .1));
+            limited = λ j h. within-look 0 SIZE t (d .2) j h .1;
+          };
+          marked = w .marked;
         },
       )
 
-  pub success-is-told-just-of-sizes-within-the-limits : (outcome n a b c t .answer ≡ Done)
-      ↔ (TreeWithin largest n a b c × TreeWithin largest n a b t)
+  pub success-is-told-just-of-sizes-within-the-limits : (outcome n a b marks c t .answer ≡ Done)
+      ↔ (MarkedTree largest n a b marks c × MarkedTree largest n a b marks t)
   success-is-told-just-of-sizes-within-the-limits =
       (cuts-are-for-accepted-offers, λ w. ap (λ r. r .answer) (accepted-offers-get-their-cuts (w .0) (w .1)) ∙ made)

@@ -28,8 +28,8 @@ unfoldable pub cuts : Links → ℕ → (ℕ → ℕ) → (ℕ → ℕ) → (ℕ
 cuts ls n terminal c t = let r = owned ls n terminal c t in record { owner = r .owner; size = r .size; count = r .count; answer = Done }
 
 -- the cuts of an offer; its terminals are its ends
-abbrev pub offeredCuts : ℕ → List ℕ → List ℕ → List ℕ → List ℕ → Cuts
-offeredCuts n one two c t = cuts (links one two) n (look (ends (links one two) n)) (look c) (look t)
+abbrev pub offeredCuts : ℕ → List ℕ → List ℕ → List ℕ → List ℕ → List ℕ → Cuts
+offeredCuts n one two marks c t = cuts (links one two) n (look (ends (links one two) n marks)) (look c) (look t)
 
 -- the outcome by what is said of the offer, then by whether there is a balanced capacity for each link, then by whether these are within the limit
 unfoldable pub decide : Offer → Bool → Bool → Cuts → Cuts
@@ -39,9 +39,9 @@ decide offered.Accepted false limited r = noCuts Unequal
 decide offered.Accepted true false r = noCuts TooLarge
 decide offered.Accepted true true r = r
 
--- the outcome of n sites, the first and second sites of the links, the given and the balanced capacities
-unfoldable pub outcome : ℕ → List ℕ → List ℕ → List ℕ → List ℕ → Cuts
-outcome n one two c t = decide (offer largest n one two c) (eqb (length t) (length one)) (within 0 SIZE t) (offeredCuts n one two c t)
+-- the outcome of n sites, the first and second sites of the links, the marks, the given and the balanced capacities
+unfoldable pub outcome : ℕ → List ℕ → List ℕ → List ℕ → List ℕ → List ℕ → Cuts
+outcome n one two marks c t = decide (offer largest n one two marks c) (eqb (length t) (length one)) (within 0 SIZE t) (offeredCuts n one two marks c t)
 
 -- ---- document 01's numbers
 

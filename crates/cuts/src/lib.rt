@@ -6,12 +6,12 @@ use tree::Offer;
 ghost use mathlib.Core.Path.{_≡_};
 ghost use lib.ListN.{length};
 ghost use Rattle.model.specs.Edition.{largest};
-ghost use Rattle.tree.specs.Accepted.{TreeWithin};
+ghost use Rattle.tree.specs.Accepted.{MarkedTree};
 ghost use Rattle.cuts.specs.Outcome.{noCuts, offeredCuts, outcome};
 
 // What is said of an offer of a tree with given and balanced capacities.
 pub enum Answer {
-    // no tree of two or more sites within the limits
+    // no tree of two or more sites within the limits, with a mark for each site
     NoTree,
     // a given or a balanced capacity above the limit
     TooLarge,
@@ -43,14 +43,21 @@ fn no_cuts(answer: Answer) -> Cuts
 }
 
 // The cuts of the ends of a tree of n sites.
-fn cuts_by_ends(n: usize, one: &[usize], two: &[usize], capacity: &[u64], balanced: &[u64]) -> Cuts
-    requires { ⌜ TreeWithin largest n (now one) (now two) (now capacity) × (length (now balanced) ≡ length (now one)) ⌝ }
-    ensures { λ r. ⌜ r ≡ offeredCuts n (now (one .entry)) (now (two .entry)) (now (capacity .entry)) (now (balanced .entry)) ⌝ }
+fn cuts_by_ends(
+    n: usize,
+    one: &[usize],
+    two: &[usize],
+    marks: &[u8],
+    capacity: &[u64],
+    balanced: &[u64],
+) -> Cuts
+    requires { ⌜ MarkedTree largest n (now one) (now two) (now marks) (now capacity) × (length (now balanced) ≡ length (now one)) ⌝ }
+    ensures { λ r. ⌜ r ≡ offeredCuts n (now (one .entry)) (now (two .entry)) (now (marks .entry)) (now (capacity .entry)) (now (balanced .entry)) ⌝ }
 {
     let chains = tree_links::chain(one, two);
     let last = chains.last;
     let before = chains.before;
-    let ends = tree_links::ends(n, &last, &before, one, two);
+    let ends = tree_links::ends(n, &last, &before, one, two, marks);
     let made = cuts_groups::cuts_of(n, &ends, one, two, capacity, balanced);
     let owner = made.owner;
     let size = made.size;
@@ -63,17 +70,18 @@ fn cuts_by_ends(n: usize, one: &[usize], two: &[usize], capacity: &[u64], balanc
     }
 }
 
-// The terminal cuts of n sites and the links between the sites one[j] and two[j], by the given and the balanced capacities.
+// The terminal cuts of n sites with their marks and the links between the sites one[j] and two[j], by the given and the balanced capacities.
 pub fn terminal_cuts(
     n: usize,
     one: &[usize],
     two: &[usize],
+    marks: &[u8],
     capacity: &[u64],
     balanced: &[u64],
 ) -> Cuts
-    ensures { λ r. ⌜ r ≡ outcome n (now (one .entry)) (now (two .entry)) (now (capacity .entry)) (now (balanced .entry)) ⌝ }
+    ensures { λ r. ⌜ r ≡ outcome n (now (one .entry)) (now (two .entry)) (now (marks .entry)) (now (capacity .entry)) (now (balanced .entry)) ⌝ }
 {
-    match tree::test(n, one, two, capacity) {
+    match tree::test(n, one, two, marks, capacity) {
         Offer::NoTree => no_cuts(Answer::NoTree),
         Offer::TooLarge => no_cuts(Answer::TooLarge),
         Offer::Accepted => {
@@ -83,7 +91,7 @@ pub fn terminal_cuts(
             if !tree::capacities_within(SIZE, balanced) {
                 return no_cuts(Answer::TooLarge);
             }
-            cuts_by_ends(n, one, two, capacity, balanced)
+            cuts_by_ends(n, one, two, marks, capacity, balanced)
         }
     }
 }

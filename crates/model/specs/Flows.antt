@@ -1,11 +1,11 @@
 -- The network and the flows on it: sites and links, what is joined, trees, separation, multiflows and their loads.
--- Document 01, "The network sheet" (site, link, joined) and "Plans, trimmed sizes, end sets" (end, joint, plan, load, fits, total).
+-- Document 01, "The network sheet" (site, link, joined) and "Plans, trimmed sizes, end sets" (end, joint, plan, load, fits, total); 02, Card 7 (marks).
 use mathlib.Core.Path.{_≡_}
 use mathlib.Core.Logic.{_≢_}
 use mathlib.Core.List.{List, [], _∷_, map}
 use Prim.Native.Nat.{ℕ, zero, suc, _+_, _*_, _≤_, _<_}
 use lib.ListN.{length, getD}
-use Rattle.lists.specs.Numbers.{pick, is, differ, sum, over, upfrom, Each}
+use Rattle.lists.specs.Numbers.{pick, is, differ, sum, over, upfrom, look, Each}
 use Rattle.model.specs.declared.Pair.{Pair}
 
 -- ---- sites and links
@@ -50,10 +50,18 @@ others ls v j f = sum (length ls) (λ i. pick i j 0 (at ls v i * f i))
 unfoldable pub leaf : Links → ℕ → ℕ
 leaf ls v = is (sumAt ls v (λ i. 1)) 1
 
--- the ends of a tree of n sites: place v holds 1 where site v is an end, 0 where it is none (01: end). Place 0 is unused.
+-- the mark of site v, by the marks of the sites 1, 2, ..: 1 where the site is marked (02, Card 7: letter `T` in place of `N`)
+abbrev pub mark : List ℕ → ℕ → ℕ
+mark marks v = look (0 ∷ marks) v
+
+-- 1 if site v has just one link or is marked, 0 if not (01: end; 02, Card 7: an end however many links it has)
+unfoldable pub endAt : Links → List ℕ → ℕ → ℕ
+endAt ls marks v = pick (mark marks v) 1 1 (leaf ls v)
+
+-- the ends of a tree of n sites with its marks: place v holds 1 where site v is an end, 0 where it is none. Place 0 is unused.
 -- This is the one rule of what an end is; the definitions below it take any terminals.
-unfoldable pub ends : Links → ℕ → List ℕ
-ends ls n = map (leaf ls) (upfrom 0 (suc n))
+unfoldable pub ends : Links → ℕ → List ℕ → List ℕ
+ends ls n marks = map (endAt ls marks) (upfrom 0 (suc n))
 
 -- ---- joined
 

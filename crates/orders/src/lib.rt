@@ -5,7 +5,7 @@ ghost use lib.ListN.{length, take};
 ghost use Rattle.model.specs.Edition.{edition1, largest};
 ghost use Rattle.model.specs.Trimming.{elimination};
 ghost use Rattle.tree.specs.Offer.{links};
-ghost use Rattle.tree.specs.Accepted.{TreeWithin};
+ghost use Rattle.tree.specs.Accepted.{MarkedTree};
 ghost use Rattle.planner.specs.Taken.{Listed};
 ghost use Rattle.orders.specs.Outcome.{store, orderOf};
 use sheet::Answer;
@@ -36,33 +36,36 @@ fn order_tree(
     n: usize,
     one: &[usize],
     two: &[usize],
+    marks: &[u8],
     capacity: &[u64],
     list: &mut [usize],
 ) -> Outcome
-    requires { ⌜ TreeWithin largest n (now one) (now two) (now capacity) ⌝ }
+    requires { ⌜ MarkedTree largest n (now one) (now two) (now marks) (now capacity) ⌝ }
     ensures told { λ r. ⌜ r ≡ store (elimination (links (now (one .entry)) (now (two .entry))) n) (now (list .entry)) .outcome ⌝ }
     ensures left { λ r. ⌜ now (list .exit) ≡ store (elimination (links (now (one .entry)) (now (two .entry))) n) (now (list .entry)) .list ⌝ }
 {
-    let tree = tree::eliminate(n, one, two, capacity);
+    let tree = tree::eliminate(n, one, two, marks, capacity);
     let order = tree.sites;
     store(&order[..n], list)
 }
 
-// The elimination order of a tree of n sites and m links, each list of links lent as far as there are links, into the front of a lent list.
+// The elimination order of a tree of n sites and m links, each list lent as far as there are sites or links, into the front of a lent list.
 fn order_parts<'a>(
     n: usize,
     m: usize,
     one: &'a [usize],
     two: &'a [usize],
+    mark: &'a [u8],
     capacity: &'a [u64],
     list: &mut [usize],
 ) -> Outcome
-    requires { ⌜ TreeWithin largest n (take m (now one)) (take m (now two)) (take m (now capacity))
-        × (m ≤ length (now one)) × (m ≤ length (now two)) × (m ≤ length (now capacity)) ⌝ }
+    requires { ⌜ MarkedTree largest n (take m (now one)) (take m (now two)) (take n (now mark)) (take m (now capacity))
+        × (m ≤ length (now one)) × (m ≤ length (now two)) × (m ≤ length (now capacity)) × (n ≤ length (now mark)) ⌝ }
     ensures told { λ r. ⌜ r ≡ store (elimination (links (take m (now (one .entry))) (take m (now (two .entry)))) n) (now (list .entry)) .outcome ⌝ }
-    ensures left { λ r. ⌜ now (list .exit) ≡ store (elimination (links (take m (now (one .entry))) (take m (now (two .entry)))) n) (now (list .entry)) .list ⌝ }
+    ensures left { λ r. ⌜ now (list .exit)
+        ≡ store (elimination (links (take m (now (one .entry))) (take m (now (two .entry)))) n) (now (list .entry)) .list ⌝ }
 {
-    order_tree(n, &one[..m], &two[..m], &capacity[..m], list)
+    order_tree(n, &one[..m], &two[..m], &mark[..n], &capacity[..m], list)
 }
 
 // The order of work over the network of an accepted sheet.
@@ -73,7 +76,15 @@ fn order_network(sheet: &[u8], network: Lists, list: &mut [usize]) -> Outcome
 {
     let n = network.sites;
     let m = network.links;
-    order_parts(n, m, &network.one, &network.two, &network.capacity, list)
+    order_parts(
+        n,
+        m,
+        &network.one,
+        &network.two,
+        &network.mark,
+        &network.capacity,
+        list,
+    )
 }
 
 // Writes the numbers of all sites of a sheet, in the order taken, into the front of a lent list and tells their count; or refuses the sheet, or a list

@@ -1,42 +1,48 @@
--- The ends of a tree as terminals: the list of the ends holds 1 just where a site has one link.
--- Past the sites both the list and the rule have 0: no link is at a number that is no site.
-use mathlib.Core.Path.{_≡_, sym, fun-ext, _∙_}
-use Prim.Native.Nat.{ℕ, suc}
+-- The ends of a tree as terminals: the list of the ends holds 1 just where a site has one link or is marked.
+use mathlib.Core.Path.{_≡_, sym, ap, fun-ext, _∙_}
+use mathlib.Core.Logic.{_↔_, _⊎_, _≢_, inl, inr, ⊎-elim}
+use mathlib.Core.List.{List, map}
+use Prim.Native.Nat.{ℕ, suc, _≤_}
 use native.Mathlib.Omega.{arith}
-use native.Mathlib.Decide.{decLt}
-use lib.ListN.{length, length-map, List·getD-eq-default}
+use lib.ListN.{length, length-map}
 use Rattle.lists.specs.Numbers.{look, upfrom}
-use Rattle.model.specs.Flows.{Links, Tree, sumAt, leaf, ends}
-use Rattle.lists.specs.Sums.{cases, is-same, is-one, is-other}
+use Rattle.model.specs.Flows.{Links, sumAt, leaf, mark, endAt, ends}
+use Rattle.lists.specs.Sums.{same?, pick-same, pick-other, is-same, is-one}
 use Rattle.theory_trees.specs.Leaves.{Outer}
 use Rattle.lists.specs.Places.{length-upfrom, look-values}
-use Rattle.theory_trees.specs.Sites.{at-site, sumAt-none}
 
-pub length-ends : (ls : Links) (n : ℕ) → length (ends ls n) ≡ suc n
-unfolding ends
-length-ends ls n = length-map (upfrom 0 (suc n)) (leaf ls) ∙ length-upfrom 0 (suc n)
+module _ (ls : Links) (n : ℕ) (marks : List ℕ) where
+  pub length-ends : length (ends ls n marks) ≡ suc n
+  unfolding ends
+  length-ends = length-map (upfrom 0 (suc n)) (endAt ls marks) ∙ length-upfrom 0 (suc n)
 
-module _ {ls : Links} {n : ℕ} (T : Tree ls n) where
-  pub an-end-is-a-leaf : (v : ℕ) → look (ends ls n) v ≡ leaf ls v
-  unfolding ends leaf
-  an-end-is-a-leaf v = cases (decLt v (suc n))
-      (λ l. look-values (leaf ls) (suc n) v l)
-      (λ d. List·getD-eq-default (ends ls n) 0 {n = v} (omega (arith, length-ends ls n))
-      ∙ sym (is-other (λ e. omega (arith, sumAt-none ls v (λ i. 1) (λ i l a. absurd (omega (arith, at-site ls (T .ends) i l a)))))))
+  pub ends-are-told : (v : ℕ) → v ≤ n → look (ends ls n marks) v ≡ endAt ls marks v
+  unfolding ends
+  ends-are-told v l = look-values (endAt ls marks) (suc n) v (omega arith)
 
-  -- so what is shown of any terminals is shown of the ends and of the leaves at once
-  pub ends-are-leaves : look (ends ls n) ≡ leaf ls
-  ends-are-leaves = fun-ext an-end-is-a-leaf
+  -- a site is an end just if it has one link or is marked (02, Card 7)
+  pub an-end-has-one-link-or-a-mark : (v : ℕ) → v ≤ n → (look (ends ls n marks) v ≡ 1) ↔ ((sumAt ls v (λ i. 1) ≡ 1) ⊎ (mark marks v ≡ 1))
+  unfolding endAt leaf
+  an-end-has-one-link-or-a-mark v l = (
+    λ e. same? (mark marks v) 1 (λ m. inr m) (λ d. inl (is-one (sym (pick-other d 1 (leaf ls v)) ∙ sym (ends-are-told v l) ∙ e))),
+    λ h. ends-are-told v l ∙ same? (mark marks v) 1
+        (λ m. pick-same m 1 (leaf ls v))
+        (λ d. pick-other d 1 (leaf ls v) ∙ ⊎-elim (λ o. is-same o) (λ m. absurd (d m)) h),
+  )
 
-  -- every site with one link is an end, and an end has one link
-  pub one-link-is-an-end : (v : ℕ) → sumAt ls v (λ i. 1) ≡ 1 → look (ends ls n) v ≡ 1
+  -- a site with one link is an end, marked or not
+  pub a-leaf-is-an-end : (v : ℕ) → v ≤ n → leaf ls v ≡ 1 → look (ends ls n marks) v ≡ 1
   unfolding leaf
-  one-link-is-an-end v e = an-end-is-a-leaf v ∙ is-same e
+  a-leaf-is-an-end v l e = an-end-has-one-link-or-a-mark v l .1 (inl (is-one e))
 
-  pub an-end-has-one-link : (v : ℕ) → look (ends ls n) v ≡ 1 → sumAt ls v (λ i. 1) ≡ 1
-  unfolding leaf
-  an-end-has-one-link v e = is-one (sym (an-end-is-a-leaf v) ∙ e)
+  -- ---- without marks
 
-  -- the ends have one link each
-  pub ends-are-outer : Outer ls n (look (ends ls n))
-  ends-are-outer v p e = sym (an-end-is-a-leaf v) ∙ e
+  module _ (none : (v : ℕ) → mark marks v ≢ 1) where
+    -- the ends are the sites with one link
+    pub unmarked-ends-are-leaves : ends ls n marks ≡ map (leaf ls) (upfrom 0 (suc n))
+    unfolding ends endAt
+    unmarked-ends-are-leaves = ap (λ f. map f (upfrom 0 (suc n))) (fun-ext (λ v. pick-other (none v) 1 (leaf ls v)))
+
+    pub unmarked-ends-are-outer : Outer ls n (look (ends ls n marks))
+    unfolding endAt
+    unmarked-ends-are-outer v p e = sym (pick-other (none v) 1 (leaf ls v)) ∙ sym (ends-are-told v (p .1)) ∙ e

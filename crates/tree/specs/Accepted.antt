@@ -1,5 +1,5 @@
 -- An offer is accepted just if it is a tree within the limits: the tests one by one, and the same said by places.
-use mathlib.Core.Path.{_≡_, refl}
+use mathlib.Core.Path.{_≡_, refl, sym}
 use mathlib.Core.Bool.{Bool, true, false, cond, _&&_}
 use mathlib.Core.List.{List, [], _∷_}
 use Prim.Native.Nat.{ℕ, zero, suc, _-_, _≤_, _<_}
@@ -22,7 +22,7 @@ use Rattle.tree.specs.Ordering.Toward.{eliminationToward, orderIn}
 use Rattle.tree.specs.Ordering.Rooted.{elimination-toward-a-root-is-inward, ends-at-the-root, without-a-root, length-elimination-toward}
 use Rattle.tree.specs.declared.Offer.{Offer}
 use Rattle.tree.specs.declared.Offer.the-variants.{NoTree, TooLarge, Accepted}
-use Rattle.tree.specs.Offer.{links, within, labelled, isTree, offerOf, offer}
+use Rattle.tree.specs.Offer.{links, within, labelled, isTree, isMarkedTree, offerOf, offer}
 use Rattle.tree.specs.Elimination.{decide, eliminated, eliminatedToward}
 
 -- a tree of at most `most` sites, offered as lists
@@ -40,6 +40,11 @@ pub record TreeWithin (ed : Edition) (n : ℕ) (one two c : List ℕ) : Type 0 w
   pub seconds : n ≡ suc (length two)
   pub capacities : n ≡ suc (length c)
   pub limited : (j : ℕ) → j < length c → look c j ≤ ed .size
+
+-- the same with a mark for each site (02, Card 7)
+pub record MarkedTree (ed : Edition) (n : ℕ) (one two marks c : List ℕ) : Type 0 where
+  pub within : TreeWithin ed n one two c
+  pub marked : n ≡ length marks
 
 pub both-true : (a b : Bool) → (a && b) ≡ true → (a ≡ true) × (b ≡ true)
 both-true true b e = (refl, e)
@@ -133,31 +138,37 @@ pub is-false : (a : Bool) → (a ≡ true → ⊥) → a ≡ false
 is-false true h = absurd (h refl)
 is-false false h = refl
 
-module _ (ed : Edition) (n : ℕ) (a b c : List ℕ) where
-  pub accepted-is-a-tree-within-the-limits : offer ed n a b c ≡ Accepted → TreeWithin ed n a b c
-  unfolding offer offerOf
+module _ (ed : Edition) (n : ℕ) (a b marks c : List ℕ) where
+  pub accepted-is-a-tree-within-the-limits : offer ed n a b marks c ≡ Accepted → MarkedTree ed n a b marks c
+  unfolding offer offerOf isMarkedTree
   accepted-is-a-tree-within-the-limits e =
-      let t = accepted-tests (isTree (ed .sites) n a b && eqb (length c) (length a)) (within 0 (ed .size) c) e in
-      let lengths = both-true (isTree (ed .sites) n a b) (eqb (length c) (length a)) (t .0) in
-      let w = is-tree-is-a-tree (ed .sites) n a b (lengths .0) in
+      let t = accepted-tests (isMarkedTree (ed .sites) n a b marks && eqb (length c) (length a)) (within 0 (ed .size) c) e in
+      let lengths = both-true (isMarkedTree (ed .sites) n a b marks) (eqb (length c) (length a)) (t .0) in
+      let tree = both-true (isTree (ed .sites) n a b) (eqb (length marks) n) (lengths .0) in
+      let w = is-tree-is-a-tree (ed .sites) n a b (tree .0) in
       record {
-        tree = w .tree;
-        few = w .few;
-        firsts = w .firsts;
-        seconds = w .seconds;
-        capacities = omega (arith, eqb-true (length c) (length a) (lengths .1));
-        limited = λ j h. within-look 0 (ed .size) c (t .1) j h .1;
+        within = record {
+          tree = w .tree;
+          few = w .few;
+          firsts = w .firsts;
+          seconds = w .seconds;
+          capacities = omega (arith, eqb-true (length c) (length a) (lengths .1));
+          limited = λ j h. within-look 0 (ed .size) c (t .1) j h .1;
+        };
+        marked = sym (eqb-true (length marks) n (tree .1));
       }
 
-  pub a-tree-within-the-limits-is-accepted : TreeWithin ed n a b c → offer ed n a b c ≡ Accepted
-  unfolding offer offerOf
-  a-tree-within-the-limits-is-accepted w = rw (
-    a-tree-is-tree (ed .sites) n a b record { tree = w .tree; few = w .few; firsts = w .firsts; seconds = w .seconds },
-    eq-eqb (length c) (length a) (omega arith),
-    within-all 0 (ed .size) c (λ j h. (omega arith, w .limited j h)),
-  ) refl
+  pub a-tree-within-the-limits-is-accepted : MarkedTree ed n a b marks c → offer ed n a b marks c ≡ Accepted
+  unfolding offer offerOf isMarkedTree
+  a-tree-within-the-limits-is-accepted m = let w = m .within in
+      rw (
+        a-tree-is-tree (ed .sites) n a b record { tree = w .tree; few = w .few; firsts = w .firsts; seconds = w .seconds },
+        eq-eqb (length marks) n (sym (m .marked)),
+        eq-eqb (length c) (length a) (omega arith),
+        within-all 0 (ed .size) c (λ j h. (omega arith, w .limited j h)),
+      ) refl
 
--- links of an accepted offer make a tree
+-- an accepted offer is a tree
 pub accepted-tree : (ed : Edition) (tree : Bool) (k : ℕ) (c : List ℕ) → offerOf ed tree k c ≡ Accepted → tree ≡ true
 unfolding offerOf
 accepted-tree ed tree k c e = both-true tree (eqb (length c) k) (accepted-tests (tree && eqb (length c) k) (within 0 (ed .size) c) e .0) .0
@@ -174,36 +185,38 @@ in-order : (o : Offer) (n : ℕ) (order : List ℕ) → o ≡ Accepted → lengt
 unfolding decide orderIn
 in-order o n order e l = rw e (take-at order (replicate (SITES - n) 0) n l)
 
-module _ (n : ℕ) (a b c : List ℕ) where
-  pub eliminated-says : eliminated n a b c .offer ≡ offer largest n a b c
+module _ (n : ℕ) (a b marks c : List ℕ) where
+  pub eliminated-says : eliminated n a b marks c .offer ≡ offer largest n a b marks c
   unfolding eliminated
-  eliminated-says = said (offer largest n a b c) (orderIn n (elimination (links a b) n))
+  eliminated-says = said (offer largest n a b marks c) (orderIn n (elimination (links a b) n))
 
-  pub eliminated-in-order : offer largest n a b c ≡ Accepted → take n (eliminated n a b c .sites) ≡ elimination (links a b) n
+  pub eliminated-in-order : offer largest n a b marks c ≡ Accepted → take n (eliminated n a b marks c .sites) ≡ elimination (links a b) n
   unfolding eliminated
-  eliminated-in-order e = in-order (offer largest n a b c) n (elimination (links a b) n) e (length-elimination (links a b) n)
+  eliminated-in-order e = in-order (offer largest n a b marks c) n (elimination (links a b) n) e (length-elimination (links a b) n)
 
   module _ (root : ℕ) where
-    pub eliminated-toward-says : eliminatedToward n a b c root .offer ≡ offer largest n a b c
+    pub eliminated-toward-says : eliminatedToward n a b marks c root .offer ≡ offer largest n a b marks c
     unfolding eliminatedToward
-    eliminated-toward-says = said (offer largest n a b c) (orderIn n (eliminationToward (links a b) n root))
+    eliminated-toward-says = said (offer largest n a b marks c) (orderIn n (eliminationToward (links a b) n root))
 
     -- an accepted offer is answered with the order toward the root: from outside inward, and the root last
-    pub eliminated-toward-in-order : offer largest n a b c ≡ Accepted → take n (eliminatedToward n a b c root .sites) ≡ eliminationToward (links a b) n root
+    pub eliminated-toward-in-order : offer largest n a b marks c ≡ Accepted
+        → take n (eliminatedToward n a b marks c root .sites) ≡ eliminationToward (links a b) n root
     unfolding eliminatedToward
     eliminated-toward-in-order e =
-        let big = accepted-is-a-tree-within-the-limits largest n a b c e .tree .big in
-        in-order (offer largest n a b c) n (eliminationToward (links a b) n root) e (length-elimination-toward (links a b) n root (omega arith))
+        let big = accepted-is-a-tree-within-the-limits largest n a b marks c e .within .tree .big in
+        in-order (offer largest n a b marks c) n (eliminationToward (links a b) n root) e (length-elimination-toward (links a b) n root (omega arith))
 
-    pub eliminated-toward-is-inward : offer largest n a b c ≡ Accepted → InwardOrder (links a b) n (take n (eliminatedToward n a b c root .sites))
+    pub eliminated-toward-is-inward : offer largest n a b marks c ≡ Accepted → InwardOrder (links a b) n (take n (eliminatedToward n a b marks c root .sites))
     eliminated-toward-is-inward e =
-        rw (eliminated-toward-in-order e) (elimination-toward-a-root-is-inward (accepted-is-a-tree-within-the-limits largest n a b c e .tree) root)
+        rw (eliminated-toward-in-order e)
+        (elimination-toward-a-root-is-inward (accepted-is-a-tree-within-the-limits largest n a b marks c e .within .tree) root)
 
-    pub eliminated-toward-ends-at-the-root : offer largest n a b c ≡ Accepted → Site n root
-        → look (take n (eliminatedToward n a b c root .sites)) (n - 1) ≡ root
+    pub eliminated-toward-ends-at-the-root : offer largest n a b marks c ≡ Accepted → Site n root
+        → look (take n (eliminatedToward n a b marks c root .sites)) (n - 1) ≡ root
     eliminated-toward-ends-at-the-root e p = rw (eliminated-toward-in-order e) (ends-at-the-root (links a b) n root p)
 
     -- a root that is no site changes nothing
-    pub eliminated-without-a-root : (Site n root → ⊥) → eliminatedToward n a b c root ≡ eliminated n a b c
+    pub eliminated-without-a-root : (Site n root → ⊥) → eliminatedToward n a b marks c root ≡ eliminated n a b marks c
     unfolding eliminatedToward eliminated
     eliminated-without-a-root d = rw (without-a-root (links a b) n root d) refl

@@ -16,14 +16,15 @@ use Rattle.model.specs.Edition.{largest}
 use Rattle.model.specs.declared.Edition.{Edition}
 use Rattle.tree.specs.declared.Offer.{Offer}
 use Rattle.tree.specs.declared.Offer.the-variants.{NoTree, TooLarge, Accepted}
-use Rattle.tree.specs.Offer.{within, isTree, offerOf, offer}
+use Rattle.tree.specs.Offer.{within, isTree, isMarkedTree, offerOf, offer}
 use Rattle.tree.specs.Elimination.{decide, eliminated, eliminatedToward}
-use Rattle.tree.specs.Accepted.{TreeOf, TreeWithin, both-true, within-look, is-tree-is-a-tree, a-tree-is-tree, is-false}
+use Rattle.tree.specs.Accepted.{TreeOf, MarkedTree, both-true, within-look, is-tree-is-a-tree, a-tree-is-tree, is-false}
 use Rattle.tree.specs.Accepted.{accepted-is-a-tree-within-the-limits, a-tree-within-the-limits-is-accepted}
 
--- a tree of two or more sites within the limits, with a capacity for each link, however large
-pub record SizedTree (ed : Edition) (n : ℕ) (one two c : List ℕ) : Type 0 where
+-- a tree of two or more sites within the limits, with a mark for each site, and a capacity for each link, however large
+pub record SizedTree (ed : Edition) (n : ℕ) (one two marks c : List ℕ) : Type 0 where
   pub tree : TreeOf (ed .sites) n one two
+  pub marked : n ≡ length marks
   pub each : length c ≡ length one
 
 -- some capacity is above a limit
@@ -48,19 +49,26 @@ above-is-not-within most l h = is-false (within 0 most l) (λ e. absurd (omega (
 
 -- ---- the answers
 
-module _ (ed : Edition) (n : ℕ) (a b c : List ℕ) where
+module _ (ed : Edition) (n : ℕ) (a b marks c : List ℕ) where
   abbrev tests : Bool
-  tests = isTree (ed .sites) n a b && eqb (length c) (length a)
+  tests = isMarkedTree (ed .sites) n a b marks && eqb (length c) (length a)
 
-  sized : tests ≡ true → SizedTree ed n a b c
+  sized : tests ≡ true → SizedTree ed n a b marks c
+  unfolding isMarkedTree
   sized e =
-      let t = both-true (isTree (ed .sites) n a b) (eqb (length c) (length a)) e in
-      record { tree = is-tree-is-a-tree (ed .sites) n a b (t .0); each = eqb-true (length c) (length a) (t .1) }
+      let t = both-true (isMarkedTree (ed .sites) n a b marks) (eqb (length c) (length a)) e in
+      let m = both-true (isTree (ed .sites) n a b) (eqb (length marks) n) (t .0) in
+      record {
+        tree = is-tree-is-a-tree (ed .sites) n a b (m .0);
+        marked = sym (eqb-true (length marks) n (m .1));
+        each = eqb-true (length c) (length a) (t .1);
+      }
 
-  tested : SizedTree ed n a b c → tests ≡ true
-  tested w = rw (a-tree-is-tree (ed .sites) n a b (w .tree), eq-eqb (length c) (length a) (w .each)) refl
+  tested : SizedTree ed n a b marks c → tests ≡ true
+  unfolding isMarkedTree
+  tested w = rw (a-tree-is-tree (ed .sites) n a b (w .tree), eq-eqb (length marks) n (sym (w .marked)), eq-eqb (length c) (length a) (w .each)) refl
 
-  pub no-tree-is-said-just-of-no-tree : (offer ed n a b c ≡ NoTree) ↔ (¬ (SizedTree ed n a b c))
+  pub no-tree-is-said-just-of-no-tree : (offer ed n a b marks c ≡ NoTree) ↔ (¬ (SizedTree ed n a b marks c))
   unfolding offer offerOf
   no-tree-is-said-just-of-no-tree = (
     λ e w. let t = said tests (within 0 (ed .size) c) e in true≢false (sym (tested w) ∙ t),
@@ -72,7 +80,7 @@ module _ (ed : Edition) (n : ℕ) (a b c : List ℕ) where
       said true false e = contradiction cc
       said false u e = refl
 
-  pub too-large-is-said-just-of-a-capacity-above-the-limit : (offer ed n a b c ≡ TooLarge) ↔ (SizedTree ed n a b c × Above (ed .size) c)
+  pub too-large-is-said-just-of-a-capacity-above-the-limit : (offer ed n a b marks c ≡ TooLarge) ↔ (SizedTree ed n a b marks c × Above (ed .size) c)
   unfolding offer offerOf
   too-large-is-said-just-of-a-capacity-above-the-limit = (
     λ e. let t = said tests (within 0 (ed .size) c) e in (sized (t .0), not-within-is-above (ed .size) c (t .1)),
@@ -84,9 +92,9 @@ module _ (ed : Edition) (n : ℕ) (a b c : List ℕ) where
       said true false e = (refl, refl)
       said false u e = contradiction cc
 
-  pub accepted-is-said-just-of-a-tree-within-the-limits : (offer ed n a b c ≡ Accepted) ↔ TreeWithin ed n a b c
+  pub accepted-is-said-just-of-a-tree-within-the-limits : (offer ed n a b marks c ≡ Accepted) ↔ MarkedTree ed n a b marks c
   accepted-is-said-just-of-a-tree-within-the-limits =
-      (accepted-is-a-tree-within-the-limits ed n a b c, a-tree-within-the-limits-is-accepted ed n a b c)
+      (accepted-is-a-tree-within-the-limits ed n a b marks c, a-tree-within-the-limits-is-accepted ed n a b marks c)
 
 -- ---- the order that goes with an answer
 
@@ -97,8 +105,8 @@ no-order-but-of-an-accepted TooLarge order d = refl
 no-order-but-of-an-accepted Accepted order d = absurd (d refl)
 
 -- an offer that is not accepted is answered without an order: 0 in every place
-pub a-refused-offer-gets-no-order : (n : ℕ) (a b c : List ℕ) → offer largest n a b c ≢ Accepted → (root : ℕ)
-    → (eliminated n a b c .sites ≡ replicate SITES 0) × (eliminatedToward n a b c root .sites ≡ replicate SITES 0)
+pub a-refused-offer-gets-no-order : (n : ℕ) (a b marks c : List ℕ) → offer largest n a b marks c ≢ Accepted → (root : ℕ)
+    → (eliminated n a b marks c .sites ≡ replicate SITES 0) × (eliminatedToward n a b marks c root .sites ≡ replicate SITES 0)
 unfolding eliminated eliminatedToward
-a-refused-offer-gets-no-order n a b c d root =
-    (no-order-but-of-an-accepted (offer largest n a b c) _ d, no-order-but-of-an-accepted (offer largest n a b c) _ d)
+a-refused-offer-gets-no-order n a b marks c d root =
+    (no-order-but-of-an-accepted (offer largest n a b marks c) _ d, no-order-but-of-an-accepted (offer largest n a b marks c) _ d)

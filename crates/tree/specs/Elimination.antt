@@ -22,10 +22,10 @@ decide NoTree order = unordered NoTree
 decide TooLarge order = unordered TooLarge
 decide Accepted order = record { offer = Accepted; sites = order }
 
--- the answer to an offer of n sites, the first and second sites of the links, and the capacities
-unfoldable pub eliminated : ℕ → List ℕ → List ℕ → List ℕ → Elimination
-eliminated n one two c = decide (offer largest n one two c) (orderIn n (elimination (links one two) n))
+-- the answer to an offer of n sites, the first and second sites of the links, the marks and the capacities; the order looks at no marks
+unfoldable pub eliminated : ℕ → List ℕ → List ℕ → List ℕ → List ℕ → Elimination
+eliminated n one two marks c = decide (offer largest n one two marks c) (orderIn n (elimination (links one two) n))
 
 -- the same with the order that takes the root last
-unfoldable pub eliminatedToward : ℕ → List ℕ → List ℕ → List ℕ → ℕ → Elimination
-eliminatedToward n one two c root = decide (offer largest n one two c) (orderIn n (eliminationToward (links one two) n root))
+unfoldable pub eliminatedToward : ℕ → List ℕ → List ℕ → List ℕ → List ℕ → ℕ → Elimination
+eliminatedToward n one two marks c root = decide (offer largest n one two marks c) (orderIn n (eliminationToward (links one two) n root))

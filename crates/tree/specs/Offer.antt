@@ -1,5 +1,5 @@
--- A tree that is offered as lists: the number of sites, the two sites of each link, and the capacities.
--- Document 01, "Pairing": what every public function that is offered a tree with sizes says before anything else.
+-- A tree that is offered as lists: the number of sites, the two sites of each link, the marks of the sites, and the capacities.
+-- Document 01, "Pairing": what every public function that is offered a tree with sizes says before anything else; 02, Card 7 (marks).
 use mathlib.Core.Bool.{Bool, true, cond, _&&_}
 use mathlib.Core.List.{List, [], _∷_}
 use Prim.Native.Nat.{ℕ, suc}
@@ -27,7 +27,11 @@ isTree most n one two =
     leb 2 n && leb n most && eqb n (suc (length one)) && eqb n (suc (length two)) && within 1 n one && within 1 n two
     && labelled (links one two) (label (links one two) 1) (sites n)
 
--- what is said by whether the links make a tree, how many they are, and the capacities:
+-- a tree with a mark for each site: a list of marks of another length than the sites is no tree offered (02, Card 7)
+unfoldable pub isMarkedTree : ℕ → ℕ → List ℕ → List ℕ → List ℕ → Bool
+isMarkedTree most n one two marks = isTree most n one two && eqb (length marks) n
+
+-- what is said by whether a tree is offered, how many its links are, and the capacities:
 -- no tree, or a list of capacities of another length than the links; then a capacity above the limit
 unfoldable pub offerOf : Edition → Bool → ℕ → List ℕ → Offer
 offerOf ed tree k c =
@@ -36,8 +40,8 @@ offerOf ed tree k c =
     NoTree
 
 -- what is said of an offer
-unfoldable pub offer : Edition → ℕ → List ℕ → List ℕ → List ℕ → Offer
-offer ed n one two c = offerOf ed (isTree (ed .sites) n one two) (length one) c
+unfoldable pub offer : Edition → ℕ → List ℕ → List ℕ → List ℕ → List ℕ → Offer
+offer ed n one two marks c = offerOf ed (isMarkedTree (ed .sites) n one two marks) (length one) c
 
 -- ---- document 01's numbers
 

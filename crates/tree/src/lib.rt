@@ -4,8 +4,10 @@ mod ordering;
 use model::SITES;
 use model::SIZE;
 use ordering::Order;
+ghost use mathlib.Core.Bool.{_&&_};
 ghost use mathlib.Core.Path.{_≡_};
 ghost use Prim.Native.Nat.{ℕ, _<_};
+ghost use lib.Dec.{eqb};
 ghost use lib.ListN.{length};
 ghost use Rattle.lists.specs.Numbers.{look};
 ghost use Rattle.model.specs.Edition.{largest};
@@ -106,7 +108,17 @@ fn order_of(n: usize, one: &[usize], two: &[usize], root: usize) -> Order
     ordering::order_of(n, one, two, root)
 }
 
-// What is said of an offer, by whether its links make a tree, how many they are, and the capacities.
+// Whether a tree of n sites comes with a mark for each site.
+fn is_marked(tree: bool, n: usize, marks: &[u8]) -> bool
+    ensures { λ r. ⌜ r ≡ (tree && eqb (length (now (marks .entry))) n) ⌝ }
+{
+    if !tree {
+        return false;
+    }
+    marks.len() == n
+}
+
+// What is said of an offer, by whether it is a tree, how many its links are, and the capacities.
 fn offer_of(tree: bool, links: usize, capacity: &[u64]) -> Offer
     ensures { λ r. ⌜ r ≡ offerOf largest tree links (now (capacity .entry)) ⌝ }
 {
@@ -139,35 +151,43 @@ fn kept(offer: Offer, order: [usize; SITES]) -> [usize; SITES]
     }
 }
 
-// What is said of an offer of n sites, the two sites of each link and the capacities, and the elimination order that takes the root last.
-// A root that is no site changes nothing.
+// What is said of an offer of n sites, the two sites of each link, the marks and the capacities, and the elimination order that takes the root last.
+// A root that is no site changes nothing; the order looks at no marks.
 pub fn eliminate_toward(
     n: usize,
     one: &[usize],
     two: &[usize],
+    marks: &[u8],
     capacity: &[u64],
     root: usize,
 ) -> Elimination
-    ensures { λ r. ⌜ r ≡ eliminatedToward n (now (one .entry)) (now (two .entry)) (now (capacity .entry)) root ⌝ }
+    ensures { λ r. ⌜ r ≡ eliminatedToward n (now (one .entry)) (now (two .entry)) (now (marks .entry)) (now (capacity .entry)) root ⌝ }
 {
     let order = order_of(n, one, two, root);
     let taken = order.sites;
-    let offer = offer_of(order.all, one.len(), capacity);
+    let whole = is_marked(order.all, n, marks);
+    let offer = offer_of(whole, one.len(), capacity);
     let sites = kept(offer, taken);
     Elimination { offer, sites }
 }
 
-// What is said of an offer of n sites, the two sites of each link and the capacities, and the elimination order.
-pub fn eliminate(n: usize, one: &[usize], two: &[usize], capacity: &[u64]) -> Elimination
-    ensures { λ r. ⌜ r ≡ eliminated n (now (one .entry)) (now (two .entry)) (now (capacity .entry)) ⌝ }
+// What is said of an offer of n sites, the two sites of each link, the marks and the capacities, and the elimination order.
+pub fn eliminate(
+    n: usize,
+    one: &[usize],
+    two: &[usize],
+    marks: &[u8],
+    capacity: &[u64],
+) -> Elimination
+    ensures { λ r. ⌜ r ≡ eliminated n (now (one .entry)) (now (two .entry)) (now (marks .entry)) (now (capacity .entry)) ⌝ }
 {
-    eliminate_toward(n, one, two, capacity, 0)
+    eliminate_toward(n, one, two, marks, capacity, 0)
 }
 
-// What is said of an offer of n sites, the two sites of each link and the capacities.
-pub fn test(n: usize, one: &[usize], two: &[usize], capacity: &[u64]) -> Offer
-    ensures { λ r. ⌜ r ≡ offer largest n (now (one .entry)) (now (two .entry)) (now (capacity .entry)) ⌝ }
+// What is said of an offer of n sites, the two sites of each link, the marks and the capacities.
+pub fn test(n: usize, one: &[usize], two: &[usize], marks: &[u8], capacity: &[u64]) -> Offer
+    ensures { λ r. ⌜ r ≡ offer largest n (now (one .entry)) (now (two .entry)) (now (marks .entry)) (now (capacity .entry)) ⌝ }
 {
-    let answer = eliminate(n, one, two, capacity);
+    let answer = eliminate(n, one, two, marks, capacity);
     answer.offer
 }

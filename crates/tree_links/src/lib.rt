@@ -4,7 +4,7 @@ ghost use Prim.Native.Nat.{_+_, _*_, _≤_, _<_};
 ghost use lib.ListN.{length};
 ghost use Rattle.model.specs.Limits.{SITES};
 ghost use Rattle.lists.specs.Numbers.{pick, look};
-ghost use Rattle.model.specs.Flows.{sumAt, leaf, ends};
+ghost use Rattle.model.specs.Flows.{sumAt, leaf, mark, endAt, ends};
 ghost use Rattle.tree.specs.Offer.{links};
 ghost use Rattle.tree_links.specs.Chains.{Placed, Chained, Limited};
 use model::CHAINS;
@@ -79,7 +79,7 @@ pub fn sum_at(
 }
 
 // 1 if v has just one link, 0 if not: its last link is one, and there is none before it.
-fn end_at(
+fn leaf_at(
     v: usize,
     last: &[usize; PLACES],
     before: &[usize; CHAINS],
@@ -99,20 +99,50 @@ fn end_at(
     0
 }
 
-// The ends of n sites: place v holds 1 where site v is an end, 0 elsewhere. Only the planner's own crates call it, of links that are chained.
+// The mark of site v, by the marks of the sites 1, 2, ..; 0 is no site, and has none.
+fn mark_at(v: usize, marks: &[u8]) -> u8
+    requires { ⌜ v ≤ length (now marks) ⌝ }
+    ensures { λ r. ⌜ r ≡ mark (now (marks .entry)) v ⌝ }
+{
+    if v == 0 {
+        return 0;
+    }
+    marks[v - 1]
+}
+
+// 1 if v is an end, 0 if not: it is marked, or has just one link.
+fn end_at(
+    v: usize,
+    last: &[usize; PLACES],
+    before: &[usize; CHAINS],
+    one: &[usize],
+    two: &[usize],
+    marks: &[u8],
+) -> u8
+    requires { ⌜ (v ≤ SITES) × (v ≤ length (now marks)) × Chained (now one) (now two) (now last) (now before) ⌝ }
+    ensures { λ r. ⌜ r ≡ endAt (links (now (one .entry)) (now (two .entry))) (now (marks .entry)) v ⌝ }
+{
+    if mark_at(v, marks) == 1 {
+        return 1;
+    }
+    leaf_at(v, last, before, one, two)
+}
+
+// The ends of n sites with their marks: place v holds 1 where site v is an end, 0 elsewhere. Only the planner's own crates call it, of links that are chained.
 pub fn ends(
     n: usize,
     last: &[usize; PLACES],
     before: &[usize; CHAINS],
     one: &[usize],
     two: &[usize],
+    marks: &[u8],
 ) -> [u8; PLACES]
-    requires { ⌜ (n ≤ SITES) × Chained (now one) (now two) (now last) (now before) ⌝ }
-    ensures { λ r. ⌜ look r ≡ look (ends (links (now (one .entry)) (now (two .entry))) n) ⌝ }
+    requires { ⌜ (n ≤ SITES) × (n ≡ length (now marks)) × Chained (now one) (now two) (now last) (now before) ⌝ }
+    ensures { λ r. ⌜ look r ≡ look (ends (links (now (one .entry)) (now (two .entry))) n (now (marks .entry))) ⌝ }
 {
     let mut list = [0u8; PLACES];
     for v in 0..n + 1 {
-        list[v] = end_at(v, last, before, one, two);
+        list[v] = end_at(v, last, before, one, two, marks);
     }
     list
 }

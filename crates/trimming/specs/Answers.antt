@@ -13,7 +13,7 @@ use Rattle.lists.specs.Sums.{contradiction}
 use Rattle.model.specs.Limits.{SIZE}
 use Rattle.model.specs.Edition.{largest}
 use Rattle.tree.specs.Offer.{offer}
-use Rattle.tree.specs.Accepted.{TreeWithin, accepted-is-a-tree-within-the-limits, a-tree-within-the-limits-is-accepted}
+use Rattle.tree.specs.Accepted.{MarkedTree, accepted-is-a-tree-within-the-limits, a-tree-within-the-limits-is-accepted}
 use Rattle.tree.specs.Answers.{SizedTree, Above}
 use Rattle.tree.specs.Answers.{no-tree-is-said-just-of-no-tree, too-large-is-said-just-of-a-capacity-above-the-limit}
 use Rattle.tree.specs.declared.Offer.{Offer}
@@ -53,36 +53,36 @@ said-balanced offered.Accepted true e = (refl, refl)
 
 -- ---- what is said
 
-module _ (n : ℕ) (one two c lent : List ℕ) where
+module _ (n : ℕ) (one two marks c lent : List ℕ) where
   abbrev enough : Bool
   enough = leb (length one) (length lent)
 
-  pub no-tree-is-told-just-of-no-tree : (answer n one two c lent ≡ NoTree) ↔ (¬ (SizedTree largest n one two c))
+  pub no-tree-is-told-just-of-no-tree : (answer n one two marks c lent ≡ NoTree) ↔ (¬ (SizedTree largest n one two marks c))
   unfolding answer decide
   no-tree-is-told-just-of-no-tree =
-      let law = no-tree-is-said-just-of-no-tree largest n one two c in
-      (λ e. law .0 (said-no-tree (offer largest n one two c) enough e), λ d. rw (law .1 d) refl)
+      let law = no-tree-is-said-just-of-no-tree largest n one two marks c in
+      (λ e. law .0 (said-no-tree (offer largest n one two marks c) enough e), λ d. rw (law .1 d) refl)
 
-  pub too-large-is-told-just-of-a-size-above-the-limit : (answer n one two c lent ≡ TooLarge) ↔ (SizedTree largest n one two c × Above SIZE c)
+  pub too-large-is-told-just-of-a-size-above-the-limit : (answer n one two marks c lent ≡ TooLarge) ↔ (SizedTree largest n one two marks c × Above SIZE c)
   unfolding answer decide
   too-large-is-told-just-of-a-size-above-the-limit =
-      let law = too-large-is-said-just-of-a-capacity-above-the-limit largest n one two c in
-      (λ e. law .0 (said-too-large (offer largest n one two c) enough e), λ w. rw (law .1 w) refl)
+      let law = too-large-is-said-just-of-a-capacity-above-the-limit largest n one two marks c in
+      (λ e. law .0 (said-too-large (offer largest n one two marks c) enough e), λ w. rw (law .1 w) refl)
 
   -- 9 comes after every other cause
-  pub nine-is-told-just-of-too-few-places : (number (answer n one two c lent) ≡ 9) ↔ (TreeWithin largest n one two c × (length lent < length one))
+  pub nine-is-told-just-of-too-few-places : (number (answer n one two marks c lent) ≡ 9) ↔ (MarkedTree largest n one two marks c × (length lent < length one))
   unfolding answer decide number
   nine-is-told-just-of-too-few-places = (
-    λ e. let h = told-nine (offer largest n one two c) enough e in
-        (accepted-is-a-tree-within-the-limits largest n one two c (h .0), leb-false (length one) (length lent) (h .1)),
-    λ h. rw (a-tree-within-the-limits-is-accepted largest n one two c (h .0), lt-leb (length one) (length lent) (h .1)) refl,
+    λ e. let h = told-nine (offer largest n one two marks c) enough e in
+        (accepted-is-a-tree-within-the-limits largest n one two marks c (h .0), leb-false (length one) (length lent) (h .1)),
+    λ h. rw (a-tree-within-the-limits-is-accepted largest n one two marks c (h .0), lt-leb (length one) (length lent) (h .1)) refl,
   )
 
-  pub success-is-told-just-of-a-tree-with-enough-places : (answer n one two c lent ≡ Balanced)
-      ↔ (TreeWithin largest n one two c × (length one ≤ length lent))
+  pub success-is-told-just-of-a-tree-with-enough-places : (answer n one two marks c lent ≡ Balanced)
+      ↔ (MarkedTree largest n one two marks c × (length one ≤ length lent))
   unfolding answer decide
   success-is-told-just-of-a-tree-with-enough-places = (
-    λ e. let h = said-balanced (offer largest n one two c) enough e in
-        (accepted-is-a-tree-within-the-limits largest n one two c (h .0), leb-true (length one) (length lent) (h .1)),
-    λ h. rw (a-tree-within-the-limits-is-accepted largest n one two c (h .0), le-leb (length one) (length lent) (h .1)) refl,
+    λ e. let h = said-balanced (offer largest n one two marks c) enough e in
+        (accepted-is-a-tree-within-the-limits largest n one two marks c (h .0), leb-true (length one) (length lent) (h .1)),
+    λ h. rw (a-tree-within-the-limits-is-accepted largest n one two marks c (h .0), le-leb (length one) (length lent) (h .1)) refl,
   )

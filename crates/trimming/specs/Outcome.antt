@@ -22,13 +22,13 @@ decide offered.TooLarge enough = TooLarge
 decide offered.Accepted false = Short
 decide offered.Accepted true = Balanced
 
--- what is said of an offer of n sites, the first and second sites of the links and the capacities, and of the lent list
-unfoldable pub answer : ℕ → List ℕ → List ℕ → List ℕ → List ℕ → Trimming
-answer n one two c lent = decide (offer largest n one two c) (leb (length one) (length lent))
+-- what is said of an offer of n sites, the first and second sites of the links, the marks and the capacities, and of the lent list
+unfoldable pub answer : ℕ → List ℕ → List ℕ → List ℕ → List ℕ → List ℕ → Trimming
+answer n one two marks c lent = decide (offer largest n one two marks c) (leb (length one) (length lent))
 
 -- the balanced capacities of the offered tree (01: trimmed sizes); the terminals are its ends
-unfoldable pub capacities : ℕ → List ℕ → List ℕ → List ℕ → List ℕ
-capacities n one two c = balanced (links one two) n (look (ends (links one two) n)) c
+unfoldable pub capacities : ℕ → List ℕ → List ℕ → List ℕ → List ℕ → List ℕ
+capacities n one two marks c = balanced (links one two) n (look (ends (links one two) n marks)) c
 
 -- the lent list after: t and then its own places past that, or its own places where something else is said
 unfoldable pub after : Trimming → List ℕ → List ℕ → List ℕ
@@ -38,8 +38,8 @@ after Short t lent = lent
 after Balanced t lent = t ++ drop (length t) lent
 
 -- the lent list after the answer to an offer
-unfoldable pub trimmed : ℕ → List ℕ → List ℕ → List ℕ → List ℕ → List ℕ
-trimmed n one two c lent = after (answer n one two c lent) (capacities n one two c) lent
+unfoldable pub trimmed : ℕ → List ℕ → List ℕ → List ℕ → List ℕ → List ℕ → List ℕ
+trimmed n one two marks c lent = after (answer n one two marks c lent) (capacities n one two marks c) lent
 
 -- ---- document 01's numbers
 

@@ -1,4 +1,4 @@
-// Balanced capacities of an offered tree (01: trimming), with its ends as terminals.
+// Balanced capacities of an offered tree (01: trimming), with its ends as terminals: each site with one link, and each marked one (02, Card 7).
 use model::SITES;
 use tree::Offer;
 ghost use mathlib.Core.Path.{_≡_};
@@ -7,13 +7,13 @@ ghost use Prim.Native.Nat.{_≤_};
 ghost use lib.ListN.{length, take, drop};
 ghost use Rattle.model.specs.Edition.{largest};
 ghost use Rattle.model.specs.Trimming.{elimination};
-ghost use Rattle.tree.specs.Accepted.{TreeWithin};
+ghost use Rattle.tree.specs.Accepted.{MarkedTree};
 ghost use Rattle.tree.specs.Offer.{links};
 ghost use Rattle.trimming.specs.Outcome.{answer, capacities, trimmed};
 
 // What is said of an offered tree whose capacities are to be balanced.
 pub enum Trimming {
-    // no tree of two or more sites within the limits
+    // no tree of two or more sites within the limits, with a mark for each site
     NoTree,
     // a capacity above the limit
     TooLarge,
@@ -29,27 +29,35 @@ fn balance_by_ends(
     order: [usize; SITES],
     one: &[usize],
     two: &[usize],
+    marks: &[u8],
     capacity: &[u64],
     lent: &mut [u64],
 )
-    requires { ⌜ TreeWithin largest n (now one) (now two) (now capacity) × (take n order ≡ elimination (links (now one) (now two)) n)
+    requires { ⌜ MarkedTree largest n (now one) (now two) (now marks) (now capacity) × (take n order ≡ elimination (links (now one) (now two)) n)
         × (length (now one) ≤ length (now lent)) ⌝ }
-    ensures { λ _. ⌜ now (lent .exit) ≡ capacities n (now (one .entry)) (now (two .entry)) (now (capacity .entry)) ++ drop (length (now (capacity .entry)))
-        (now (lent .entry)) ⌝ }
+    ensures { λ _. ⌜ now (lent .exit) ≡ capacities n (now (one .entry)) (now (two .entry)) (now (marks .entry)) (now (capacity .entry))
+        ++ drop (length (now (capacity .entry))) (now (lent .entry)) ⌝ }
 {
     let chains = tree_links::chain(one, two);
     let last = chains.last;
     let before = chains.before;
-    let ends = tree_links::ends(n, &last, &before, one, two);
+    let ends = tree_links::ends(n, &last, &before, one, two, marks);
     trimming_passes::balance(n, &order, &ends, &last, &before, one, two, capacity, lent);
 }
 
 // Balances the capacities of an offered tree into a lent list.
-pub fn trim(n: usize, one: &[usize], two: &[usize], capacity: &[u64], lent: &mut [u64]) -> Trimming
-    ensures { λ r. ⌜ (r ≡ answer n (now (one .entry)) (now (two .entry)) (now (capacity .entry)) (now (lent .entry)))
-        × (now (lent .exit) ≡ trimmed n (now (one .entry)) (now (two .entry)) (now (capacity .entry)) (now (lent .entry))) ⌝ }
+pub fn trim(
+    n: usize,
+    one: &[usize],
+    two: &[usize],
+    marks: &[u8],
+    capacity: &[u64],
+    lent: &mut [u64],
+) -> Trimming
+    ensures { λ r. ⌜ (r ≡ answer n (now (one .entry)) (now (two .entry)) (now (marks .entry)) (now (capacity .entry)) (now (lent .entry)))
+        × (now (lent .exit) ≡ trimmed n (now (one .entry)) (now (two .entry)) (now (marks .entry)) (now (capacity .entry)) (now (lent .entry))) ⌝ }
 {
-    let tree = tree::eliminate(n, one, two, capacity);
+    let tree = tree::eliminate(n, one, two, marks, capacity);
     let offer = tree.offer;
     let order = tree.sites;
     match offer {
@@ -59,7 +67,7 @@ pub fn trim(n: usize, one: &[usize], two: &[usize], capacity: &[u64], lent: &mut
             if lent.len() < one.len() {
                 return Trimming::Short;
             }
-            balance_by_ends(n, order, one, two, capacity, lent);
+            balance_by_ends(n, order, one, two, marks, capacity, lent);
             Trimming::Balanced
         }
     }

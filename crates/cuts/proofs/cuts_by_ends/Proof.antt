@@ -14,13 +14,14 @@ use Rattle.cuts.proofs.cuts_by_ends.Tie as tie
 chained : tie.Need-ends-requires
 chained c κs =
     let made = c .before .before .before .before in
-    (made .before .before .before .before .before .pre .0 .few, made .chain .ensures)
+    let p = made .before .before .before .before .before .before .pre in
+    (p .0 .within .few, p .0 .marked, made .chain .ensures)
 
 given : tie.Need-cuts-of-requires
 given c κs =
     let made = c .before .before .before .before .before .before in
-    let p = made .before .before .before .before .before .pre in
-    (p .0 .few, offer-placed (p .0), offer-limited (p .0), p .1)
+    let p = made .before .before .before .before .before .before .pre in
+    (p .0 .within .few, offer-placed (p .0 .within), offer-limited (p .0 .within), p .1)
 
 returns : tie.Need-returns
 unfolding cuts
@@ -28,10 +29,10 @@ returns c =
     let done = c .before .before .before in
     let listed = done .before .before in
     let made = listed .before .before .before .before .before in
-    let a = made .before .before .before .before .before .args in
+    let a = made .before .before .before .before .before .before .args in
     let ls = links (a .one .now) (a .two .now) in
     ap (λ (r : Owned). record { owner = r .owner; size = r .size; count = r .count; answer = Done })
     (done .cuts-of .ensures ∙ ap (λ (terminal : ℕ → ℕ). owned ls (a .n) terminal (look (a .capacity .now)) (look (a .balanced .now))) (listed .ends .ensures))
 
 pub cuts-by-ends-spec : {M : Type 1} → statement M
-cuts-by-ends-spec = tie.close (tie.spec (λ c κs. offer-placed (c .before .before .before .before .pre .0)) chained given returns)
+cuts-by-ends-spec = tie.close (tie.spec (λ c κs. offer-placed (c .before .before .before .before .before .pre .0 .within)) chained given returns)

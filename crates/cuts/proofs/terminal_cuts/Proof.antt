@@ -27,14 +27,14 @@ too-large c =
 
 -- the offer was accepted
 accepted : (c : tie.After-enum-told3) →
-    let a = c .before .before .before .before .before .before .before .args in
-    offer largest (a .n) (a .one .now) (a .two .now) (a .capacity .now) ≡ Accepted
+    let a = c .before .before .before .before .before .before .before .before .args in
+    offer largest (a .n) (a .one .now) (a .two .now) (a .marks .now) (a .capacity .now) ≡ Accepted
 accepted c = sym (c .before .before .test .ensures) ∙ c .enum-told3 .given .1
 
 unequal : tie.Need-returns
 unfolding outcome decide
 unequal c =
-    let a = c .before .before .before .before .before .before .before .before .before .args in
+    let a = c .before .before .before .before .before .before .before .before .before .before .args in
     c .no-cuts3 .ensures ∙ rw (accepted (c .before .before), ne-eqb (length (a .balanced .now)) (length (a .one .now)) (c .before .if1 .taken)) refl
 
 balanced-too-large : tie.Need-returns-2
@@ -42,7 +42,7 @@ unfolding outcome decide
 balanced-too-large c =
     let tested = c .before .before in
     let told = tested .before .before in
-    let a = told .before .before .before .before .before .before .before .args in
+    let a = told .before .before .before .before .before .before .before .before .args in
     let large : within 0 SIZE (a .balanced .now) ≡ false = sym (tested .capacities-within .ensures) ∙ not-true _ (c .before .if2 .taken) in
     c .no-cuts4 .ensures
     ∙ rw (accepted told, eq-eqb (length (a .balanced .now)) (length (a .one .now)) (tested .before .if1 .left), large) refl
@@ -52,7 +52,7 @@ unfolding outcome decide
 made c =
     let tested = c .before .before in
     let told = tested .before .before in
-    let a = told .before .before .before .before .before .before .before .args in
+    let a = told .before .before .before .before .before .before .before .before .args in
     let small : within 0 SIZE (a .balanced .now) ≡ true = sym (tested .capacities-within .ensures) ∙ not-false _ (c .before .if2 .left) in
     c .cuts-by-ends .ensures
     ∙ rw (accepted told, eq-eqb (length (a .balanced .now)) (length (a .one .now)) (tested .before .if1 .left), small) refl
@@ -60,8 +60,8 @@ made c =
 cuts-by-ends-requires : tie.Need-cuts-by-ends-requires
 cuts-by-ends-requires c κs =
     let told = c .before .before .before in
-    let a = told .before .before .before .before .before .before .before .args in
-    let tree = accepted-is-a-tree-within-the-limits largest (a .n) (a .one .now) (a .two .now) (a .capacity .now) (accepted told) in
+    let a = told .before .before .before .before .before .before .before .before .args in
+    let tree = accepted-is-a-tree-within-the-limits largest (a .n) (a .one .now) (a .two .now) (a .marks .now) (a .capacity .now) (accepted told) in
     (tree, c .before .before .if1 .left)
 
 pub terminal-cuts-spec : {M : Type 1} → statement M

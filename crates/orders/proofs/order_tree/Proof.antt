@@ -13,23 +13,25 @@ use Rattle.orders.proofs.order_tree.Statement.{statement}
 use Rattle.orders.proofs.order_tree.Tie as tie
 
 -- the first n sites of the answer are the elimination order
-ordered : (c : tie.After-eliminate) → let a = c .before .before .before .before .before .args in
+ordered : (c : tie.After-eliminate) → let a = c .before .before .before .before .before .before .args in
     take (a .n) (c .eliminate .result .sites) ≡ elimination (links (a .one .now) (a .two .now)) (a .n)
 ordered c =
-    let s = c .before .before .before .before .before in
+    let s = c .before .before .before .before .before .before in
     let a = s .args in
     ap (λ r. take (a .n) (r .sites)) (c .eliminate .ensures)
-    ∙ eliminated-in-order (a .n) (a .one .now) (a .two .now) (a .capacity .now) (a-tree-within-the-limits-is-accepted largest _ _ _ _ (s .pre))
+    ∙ eliminated-in-order (a .n) (a .one .now) (a .two .now) (a .marks .now) (a .capacity .now)
+    (a-tree-within-the-limits-is-accepted largest _ _ _ _ _ (s .pre))
 
 -- and there are n of them
-counted : (c : tie.After-eliminate) → let a = c .before .before .before .before .before .args in length (take (a .n) (c .eliminate .result .sites)) ≡ a .n
+counted : (c : tie.After-eliminate) → let a = c .before .before .before .before .before .before .args in
+    length (take (a .n) (c .eliminate .result .sites)) ≡ a .n
 counted c = ap length (ordered c) ∙ length-elimination _ _
 
 returns : tie.Need-returns
 returns c =
     let stored = c .before .before in
     let told = stored .before .before .before .before in
-    let a = told .before .before .before .before .before .args in (
+    let a = told .before .before .before .before .before .before .args in (
       stored .store .ensures .0 ∙ ap (λ o. store o (a .list .now) .outcome) (ordered told),
       stored .store .ensures .1 ∙ ap (λ o. store o (a .list .now) .list) (ordered told),
     )
@@ -39,7 +41,8 @@ order-tree-spec =
     tie.close
     (tie.spec
     (λ c κs. search needs)
-    (λ c. omega (arith, counted (c .before), length-take (c .before .before .before .before .before .before .args .n) (c .before .eliminate .result .sites)))
+    (λ c. let a = c .before .before .before .before .before .before .before .args in
+    omega (arith, counted (c .before), length-take (a .n) (c .before .eliminate .result .sites)))
     (λ c. sym (counted (c .before .before)))
     (λ c κs. search needs)
     (λ c. search needs)

@@ -1,7 +1,9 @@
 -- `tree::eliminate_toward` meets its contract: the parts make up the definition.
 use mathlib.Core.Path.{_≡_, refl, sym, ap, _∙_}
+use mathlib.Core.Bool.{Bool, _&&_}
 use mathlib.Core.List.{List}
 use Prim.Native.Nat.{ℕ}
+use lib.Dec.{eqb}
 use lib.ListN.{length}
 use Rattle.model.specs.Edition.{largest}
 use Rattle.tree.specs.Ordering.Toward.{eliminationToward, orderIn}
@@ -9,9 +11,9 @@ use Rattle.tree.specs.declared.ordering.Order.{Order}
 use Rattle.tree.specs.declared.Elimination.{Elimination}
 use Rattle.tree.specs.declared.Offer.{Offer}
 use Rattle.tree.specs.declared.Offer.the-variants.{NoTree, TooLarge, Accepted}
-use Rattle.tree.specs.Offer.{links, offerOf, offer}
+use Rattle.tree.specs.Offer.{links, isMarkedTree, offerOf, offer}
 use Rattle.tree.specs.Elimination.{decide, eliminatedToward}
-use Rattle.tree.specs.Accepted.{accepted-tree}
+use Rattle.tree.specs.Accepted.{both-true, accepted-tree}
 use Rattle.tree.specs.Steps.{Ordered}
 use Rattle.tree.proofs.eliminate_toward.Statement.{statement}
 use Rattle.tree.proofs.eliminate_toward.Tie as tie
@@ -24,20 +26,25 @@ answered NoTree taken order h = refl
 answered TooLarge taken order h = refl
 answered Accepted taken order h = ap (λ l. record { offer = Accepted; sites = l }) (h refl)
 
-made : {n root : ℕ} {a b places : List ℕ} {o : Offer} (c : List ℕ) (r : Order) → Ordered n a b root r → o ≡ offerOf largest (r .all) (length a) c
-    → places ≡ decide o (r .sites) .sites
-    → _≡_ {A = Elimination} record { offer = o; sites = places } (eliminatedToward n a b c root)
-unfolding eliminatedToward offer
-made {n} {root} {a} {b} {places} {o} c r given said kept =
+made : {n root : ℕ} {a b places : List ℕ} {whole : Bool} {o : Offer} (marks c : List ℕ) (r : Order) → Ordered n a b root r
+    → whole ≡ (r .all && eqb (length marks) n) → o ≡ offerOf largest whole (length a) c → places ≡ decide o (r .sites) .sites
+    → _≡_ {A = Elimination} record { offer = o; sites = places } (eliminatedToward n a b marks c root)
+unfolding eliminatedToward offer isMarkedTree
+made {n} {root} {a} {b} {places} {whole} {o} marks c r given marked said kept =
     let order = orderIn n (eliminationToward (links a b) n root) in
     ap (λ l. record { offer = o; sites = l }) kept
-    ∙ answered o (r .sites) order (λ e. given .order (accepted-tree largest (r .all) (length a) c (sym said ∙ e)))
-    ∙ ap (λ s. decide s order) (said ∙ ap (λ tree. offerOf largest tree (length a) c) (given .tree))
+    ∙ answered o (r .sites) order
+    (λ e. given .order (both-true (r .all) (eqb (length marks) n) (sym marked ∙ accepted-tree largest whole (length a) c (sym said ∙ e)) .0))
+    ∙ ap (λ s. decide s order) (said ∙ ap (λ tree. offerOf largest tree (length a) c) (marked ∙ ap (λ tree. tree && eqb (length marks) n) (given .tree)))
 
 returns : tie.Need-returns
-returns c = let o = c .before .before .before .order-of in
-    made (c .before .before .before .before .before .before .before .args .capacity .now) (o .result) (o .ensures) (c .before .offer-of .ensures)
-    (c .kept .ensures)
+returns c =
+    let m = c .before .before in
+    let t = m .before .before in
+    let o = t .order-of in
+    let a = t .before .before .before .before .before .args in
+    made (a .marks .now) (a .capacity .now) (o .result) (o .ensures) (m .is-marked .ensures)
+    (c .before .offer-of .ensures) (c .kept .ensures)
 
 pub eliminate-toward-spec : {M : Type 1} → statement M
-eliminate-toward-spec = tie.close (tie.spec (λ c κs. tt) (λ c κs. tt) (λ c κs. tt) returns)
+eliminate-toward-spec = tie.close (tie.spec (λ c κs. tt) (λ c κs. tt) (λ c κs. tt) (λ c κs. tt) returns)
