@@ -17,7 +17,7 @@ use Rattle.model.specs.Edition.{largest}
 use Rattle.model.specs.Trimming.{Balanced}
 use Rattle.model.specs.declared.Pair.{Pair}
 use Rattle.tree.specs.Offer.{links, offer}
-use Rattle.tree.specs.Accepted.{TreeWithin, accepted-is-a-tree-within-the-limits, a-tree-within-the-limits-is-accepted}
+use Rattle.tree.specs.Accepted.{MarkedTree, accepted-is-a-tree-within-the-limits, a-tree-within-the-limits-is-accepted}
 use Rattle.tree.specs.Answers.{SizedTree, Above}
 use Rattle.tree.specs.Answers.{no-tree-is-said-just-of-no-tree, too-large-is-said-just-of-a-capacity-above-the-limit}
 use Rattle.tree.specs.declared.Offer.{Offer}
@@ -74,70 +74,70 @@ said-pairs offered.Accepted true false m count e = (refl, refl, refl, cc)
 
 -- ---- what is said
 
-module _ (n : ℕ) (one two c : List ℕ) where
+module _ (n : ℕ) (one two marks c : List ℕ) where
   abbrev heavy : Bool
-  heavy = heavySomewhere (links one two) n (terminals n one two) (look c)
+  heavy = heavySomewhere (links one two) n (terminals n one two marks) (look c)
 
   module _ (places : ℕ) where
     abbrev enough : Bool
     enough = leb (length one) places
 
     abbrev m : ℕ
-    m = length (listOf n one two c)
+    m = length (listOf n one two marks c)
 
-    pub no-tree-is-told-just-of-no-tree : (answer n one two c places ≡ NoTree) ↔ (¬ (SizedTree largest n one two c))
+    pub no-tree-is-told-just-of-no-tree : (answer n one two marks c places ≡ NoTree) ↔ (¬ (SizedTree largest n one two marks c))
     unfolding answer decide
     no-tree-is-told-just-of-no-tree =
-        let law = no-tree-is-said-just-of-no-tree largest n one two c in
-        (λ e. law .0 (said-no-tree (offer largest n one two c) enough heavy m e), λ d. rw (law .1 d) refl)
+        let law = no-tree-is-said-just-of-no-tree largest n one two marks c in
+        (λ e. law .0 (said-no-tree (offer largest n one two marks c) enough heavy m e), λ d. rw (law .1 d) refl)
 
-    pub too-large-is-told-just-of-a-size-above-the-limit : (answer n one two c places ≡ TooLarge) ↔ (SizedTree largest n one two c × Above SIZE c)
+    pub too-large-is-told-just-of-a-size-above-the-limit : (answer n one two marks c places ≡ TooLarge) ↔ (SizedTree largest n one two marks c × Above SIZE c)
     unfolding answer decide
     too-large-is-told-just-of-a-size-above-the-limit =
-        let law = too-large-is-said-just-of-a-capacity-above-the-limit largest n one two c in
-        (λ e. law .0 (said-too-large (offer largest n one two c) enough heavy m e), λ w. rw (law .1 w) refl)
+        let law = too-large-is-said-just-of-a-capacity-above-the-limit largest n one two marks c in
+        (λ e. law .0 (said-too-large (offer largest n one two marks c) enough heavy m e), λ w. rw (law .1 w) refl)
 
     -- 9 comes before a heavy link
-    pub nine-is-told-just-of-too-few-places : (number (answer n one two c places) ≡ 9) ↔ (TreeWithin largest n one two c × (places < length one))
+    pub nine-is-told-just-of-too-few-places : (number (answer n one two marks c places) ≡ 9) ↔ (MarkedTree largest n one two marks c × (places < length one))
     unfolding answer decide number
     nine-is-told-just-of-too-few-places = (
-      λ e. let h = told-nine (offer largest n one two c) enough heavy m e in
-          (accepted-is-a-tree-within-the-limits largest n one two c (h .0), leb-false (length one) places (h .1)),
-      λ h. rw (a-tree-within-the-limits-is-accepted largest n one two c (h .0), lt-leb (length one) places (h .1)) refl,
+      λ e. let h = told-nine (offer largest n one two marks c) enough heavy m e in
+          (accepted-is-a-tree-within-the-limits largest n one two marks c (h .0), leb-false (length one) places (h .1)),
+      λ h. rw (a-tree-within-the-limits-is-accepted largest n one two marks c (h .0), lt-leb (length one) places (h .1)) refl,
     )
 
-    pub heavy-is-told-just-of-a-heavy-link : (answer n one two c places ≡ Heavy)
-        ↔ (TreeWithin largest n one two c × (length one ≤ places) × HeavyLink (links one two) n (terminals n one two) (look c))
+    pub heavy-is-told-just-of-a-heavy-link : (answer n one two marks c places ≡ Heavy)
+        ↔ (MarkedTree largest n one two marks c × (length one ≤ places) × HeavyLink (links one two) n (terminals n one two marks) (look c))
     unfolding answer decide
     heavy-is-told-just-of-a-heavy-link = (
-      λ e. let h = said-heavy (offer largest n one two c) enough heavy m e in (
-        accepted-is-a-tree-within-the-limits largest n one two c (h .0),
+      λ e. let h = said-heavy (offer largest n one two marks c) enough heavy m e in (
+        accepted-is-a-tree-within-the-limits largest n one two marks c (h .0),
         leb-true (length one) places (h .1),
-        heavy-somewhere-is-a-heavy-link (links one two) (terminals n one two) (look c) n (h .2),
+        heavy-somewhere-is-a-heavy-link (links one two) (terminals n one two marks) (look c) n (h .2),
       ),
       λ h. rw (
-        a-tree-within-the-limits-is-accepted largest n one two c (h .0),
+        a-tree-within-the-limits-is-accepted largest n one two marks c (h .0),
         le-leb (length one) places (h .1),
-        a-heavy-link-is-somewhere (links one two) (terminals n one two) (look c) n (h .2),
+        a-heavy-link-is-somewhere (links one two) (terminals n one two marks) (look c) n (h .2),
       ) refl,
     )
 
-    pub pairs-are-told-just-of-balanced-sizes : (count : ℕ) → (answer n one two c places ≡ Pairs count)
-        ↔ (TreeWithin largest n one two c × (length one ≤ places) × Balanced (links one two) (terminals n one two) (look c)
-        × (count ≡ length (listOf n one two c)))
+    pub pairs-are-told-just-of-balanced-sizes : (count : ℕ) → (answer n one two marks c places ≡ Pairs count)
+        ↔ (MarkedTree largest n one two marks c × (length one ≤ places) × Balanced (links one two) (terminals n one two marks) (look c)
+        × (count ≡ length (listOf n one two marks c)))
     unfolding answer decide
     pairs-are-told-just-of-balanced-sizes count = (
-      λ e. let h = said-pairs (offer largest n one two c) enough heavy m count e in
-          let w = accepted-is-a-tree-within-the-limits largest n one two c (h .0) in (
+      λ e. let h = said-pairs (offer largest n one two marks c) enough heavy m count e in
+          let w = accepted-is-a-tree-within-the-limits largest n one two marks c (h .0) in (
             w,
             leb-true (length one) places (h .1),
-            no-heavy-link-is-balanced (links one two) (terminals n one two) (look c) (w .tree) (h .2),
+            no-heavy-link-is-balanced (links one two) (terminals n one two marks) (look c) (w .within .tree) (h .2),
             h .3,
           ),
       λ h. rw (
-        a-tree-within-the-limits-is-accepted largest n one two c (h .0),
+        a-tree-within-the-limits-is-accepted largest n one two marks c (h .0),
         le-leb (length one) places (h .1),
-        balanced-has-no-heavy-link (links one two) (terminals n one two) (look c) n (h .2),
+        balanced-has-no-heavy-link (links one two) (terminals n one two marks) (look c) n (h .2),
         h .3,
       ) refl,
     )
@@ -154,8 +154,8 @@ after-written Heavy ps lent e = refl
 after-written (Pairs count) ps lent e = rw (e count refl, take-length) refl
 
 -- the pairs stand in as many places as are told; the others stay as they were, all of them where no pairs are told
-pub what-is-told-is-written : (n : ℕ) (one two c : List ℕ) (lent : List Pair) → let m = pairCount (answer n one two c (length lent)) in
-    paired n one two c lent ≡ take m (listOf n one two c) ++ drop m lent
+pub what-is-told-is-written : (n : ℕ) (one two marks c : List ℕ) (lent : List Pair) → let m = pairCount (answer n one two marks c (length lent)) in
+    paired n one two marks c lent ≡ take m (listOf n one two marks c) ++ drop m lent
 unfolding paired
-what-is-told-is-written n one two c lent = after-written (answer n one two c (length lent)) (listOf n one two c) lent
-    (λ count e. pairs-are-told-just-of-balanced-sizes n one two c (length lent) count .0 e .3)
+what-is-told-is-written n one two marks c lent = after-written (answer n one two marks c (length lent)) (listOf n one two marks c) lent
+    (λ count e. pairs-are-told-just-of-balanced-sizes n one two marks c (length lent) count .0 e .3)

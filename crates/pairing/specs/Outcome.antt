@@ -8,7 +8,7 @@ use lib.ListN.{length, drop}
 use Rattle.lists.specs.Numbers.{look}
 use Rattle.model.specs.Edition.{largest}
 use Rattle.model.specs.Flows.{ends}
-use Rattle.model.specs.Pairing.{pairList}
+use Rattle.model.specs.Parts.{pairListOfParts}
 use Rattle.model.specs.declared.Pair.{Pair}
 use Rattle.tree.specs.Offer.{links, offer}
 use Rattle.tree.specs.declared.Offer.{Offer}
@@ -28,18 +28,18 @@ decide offered.Accepted true true count = Heavy
 decide offered.Accepted true false count = Pairs count
 
 -- the terminals of an offered tree: its ends
-abbrev pub terminals : ℕ → List ℕ → List ℕ → ℕ → ℕ
-terminals n one two = look (ends (links one two) n)
+abbrev pub terminals : ℕ → List ℕ → List ℕ → List ℕ → ℕ → ℕ
+terminals n one two marks = look (ends (links one two) n marks)
 
--- its pair list
-abbrev pub listOf : ℕ → List ℕ → List ℕ → List ℕ → List Pair
-listOf n one two c = pairList (links one two) n (look c) (terminals n one two)
+-- its pair list, over all parts
+abbrev pub listOf : ℕ → List ℕ → List ℕ → List ℕ → List ℕ → List Pair
+listOf n one two marks c = pairListOfParts (links one two) n (look c) (terminals n one two marks)
 
 -- what is said of an offer with so many lent places
-unfoldable pub answer : ℕ → List ℕ → List ℕ → List ℕ → ℕ → Pairing
-answer n one two c places =
-    decide (offer largest n one two c) (leb (length one) places) (heavySomewhere (links one two) n (terminals n one two) (look c))
-    (length (listOf n one two c))
+unfoldable pub answer : ℕ → List ℕ → List ℕ → List ℕ → List ℕ → ℕ → Pairing
+answer n one two marks c places =
+    decide (offer largest n one two marks c) (leb (length one) places) (heavySomewhere (links one two) n (terminals n one two marks) (look c))
+    (length (listOf n one two marks c))
 
 -- ---- the lent list after
 
@@ -51,8 +51,8 @@ after Short ps lent = lent
 after Heavy ps lent = lent
 after (Pairs count) ps lent = ps ++ drop count lent
 
-unfoldable pub paired : ℕ → List ℕ → List ℕ → List ℕ → List Pair → List Pair
-paired n one two c lent = after (answer n one two c (length lent)) (listOf n one two c) lent
+unfoldable pub paired : ℕ → List ℕ → List ℕ → List ℕ → List ℕ → List Pair → List Pair
+paired n one two marks c lent = after (answer n one two marks c (length lent)) (listOf n one two marks c) lent
 
 -- ---- document 01's numbers
 

@@ -1,27 +1,33 @@
--- The walk as a loop over frames: each frame below the one at hand waits for what the walk from its child leaves in the three arrays.
--- What one turn does to the frames is one law each: a terminal is added, a child is entered, a site is settled.
+-- The walks as a loop over frames: each frame below the one at hand waits for what the walk from its child leaves in the three arrays.
+-- What one turn does to the frames is one law each: a terminal is added, a child is entered, a site is settled, the next root is entered.
 use mathlib.Core.Path.{_≡_, refl, ap, _∙_}
 use mathlib.Core.Logic.{_≢_}
-use mathlib.Core.List.{List, [], _∷_}
+use mathlib.Core.List.{List, [], _∷_, _++_, flatMap}
 use Prim.Native.Nat.{ℕ, suc, _+_, _-_, _*_, _≤_, _<_}
 use native.Mathlib.Omega.{arith}
+use native.Mathlib.Nat.{mul-le-mul-right}
 use native.Mathlib.Numerals.{add-one}
 use lib.ListN.{length, getD, set, take, length-set}
 use lib.Seq.{slice, slice-empty, slice-cons, getD-set-same, take-set-lt, drop-set-lt}
-use Rattle.model.specs.Limits.{PLACES}
-use Rattle.lists.specs.Numbers.{look}
+use Rattle.model.specs.Limits.{HALVES, NUMBERS, PLACES}
+use Rattle.lists.specs.Numbers.{look, upfrom}
 use Rattle.lists.specs.Tallies.{tally}
-use Rattle.model.specs.Pairing.{put, between, children}
+use Rattle.model.specs.Pairing.{put, between, children, pairsFrom, lowestInner}
 use Rattle.tree.specs.Offer.{links}
 use Rattle.tree_sets.specs.Members.{member}
 use Rattle.theory_walk.specs.Children.{size, sizes}
+use Rattle.theory_walk.specs.Walk.{size-le}
 use Rattle.pairing_children.specs.Below.{Below, NextSite}
 use Rattle.pairing_children.specs.Laws.{children-from-the-next}
 use Rattle.pairing_halves.specs.declared.Tops.{Tops}
 use Rattle.pairing_halves.specs.Arrays.{flat, flatPairs, Added, Settling, Settled}
+use Rattle.pairing_halves.specs.Adding.{added-nothing}
 use Rattle.pairing_walk.specs.declared.Frame.{Frame}
-use Rattle.pairing_walk.specs.Visits.{walkOf, Visit, Visited, pairsBelow}
-use Rattle.pairing_walk.specs.Frames.{bottom, sent, Entered, Passed}
+use Rattle.pairing_walk.specs.Visits.{walkOf, Visit, Visited, covered, untouched, Walkable, partsTo}
+use Rattle.pairing_walk.specs.Frames.{bottom, sent, Entering, Entered, Passed}
+use Rattle.pairing_walk.proofs.Marks.{Marked, marked-starts, marked-adds, marked-child, marked-leaves, marked-root, next-site, next-inner}
+use Rattle.pairing_walk.proofs.Marks.{one-more, no-more}
+use Rattle.pairing_walk.proofs.Roots.{Ended, root-visit, root-ended, number}
 use Rattle.pairing_walk.proofs.Visiting.{Gathering, ahead, size-below, split, gathering-starts, gathering-passes, gathering-visits, gathering-goes-on}
 use Rattle.pairing_walk.proofs.Visiting.{gathering-settles, gathering-settled, some-fuel, visited-alone}
 
@@ -54,10 +60,10 @@ module _ (ends last before a b c : List ℕ) where
   Handed fuel v j down e base x y z r = Visited (walkOf sites ends a b c fuel v j (e .up) down) (e .ups) (e .downs) (e .pairs) base x y z r
 
   module _ (root : ℕ) (pairs : List ℕ) where
-    -- what the walk from v hands back lets the frame before it go on, and so on to the root, whose pairs are the whole
+    -- what the walk from v hands back lets the frame before it go on, and so on to the root, whose pairs are those of its part
     unfoldable pub Waiting : List Frame → ℕ → ℕ → ℕ → ℕ → Entry → Tops → Type 0
     Waiting [] fuel v j down e base =
-        (x y z : List ℕ) (r : Tops) → Handed fuel v j down e base x y z r → Added pairs 0 z (r .pairs) (flatPairs (pairsBelow root ends a b c))
+        (x y z : List ℕ) (r : Tops) → Handed fuel v j down e base x y z r → Ended ends a b c pairs root z r
     Waiting (f ∷ fs) fuel v j down e base =
         (o : Entry) × Open fuel f o × ((x y z : List ℕ) (r : Tops) → Handed fuel v j down e base x y z r → Gathered fuel f o x y z r)
         × Waiting fs (suc fuel) (f .site) (f .link) (f .down) o (f .base)
@@ -103,19 +109,20 @@ module _ {ends last before a b c : List ℕ} where
     enter-turns : turns ends last before a b c f + 1 ≡ 2 * size (links a b) (suc (length a)) j v
     enter-turns = rw (E .site, E .link) (omega (arith, size-below W, ap (sizes (links a b) (suc (length a))) all-come))
 
-  -- the walk starts at the root
-  pub walking-starts : {root level : ℕ} {u d p : List ℕ}
-      → Visit (suc (length a)) ends last before a b c (suc (length a)) root (length a) 0 0 u d p bottom → look ends root ≢ 1
-      → level ≡ suc (length a) → {f : Frame} → Entered (links a b) (look c) root (length a) 0 bottom f
-      → Walking ends last before a b c root p [] level f u d p bottom
+  -- the walk starts at a root, with nothing in the lists of ups and downs
+  pub walking-starts : (w : Walkable (suc (length a)) ends last before a b c) {root level : ℕ} {u d p : List ℕ} {top : Tops}
+      → Visit (suc (length a)) ends last before a b c (suc (length a)) root (length a) 0 0 u d p top → look ends root ≢ 1
+      → level ≡ suc (length a) → {f : Frame} → Entered (links a b) (look c) root (length a) 0 top f → {p₀ : List ℕ} {r : ℕ} → Ended ends a b c p₀ r p top
+      → partsTo root ends a b c ≡ partsTo r ends a b c ++ pairsFrom (links a b) (suc (length a)) (look c) (look ends) root
+      → Walking ends last before a b c root p₀ [] level f u d p top
   unfolding Waiting
-  walking-starts {u = u} {d} {p} W inner l E = record {
+  walking-starts w {u = u} {d} {p} W inner l E o more = record {
     fuel = length a;
     levelled = l;
     entry = record { up = 0; ups = u; downs = d; pairs = p };
     opened = enter-opens W inner E;
     gathered = enter-gathers W inner E;
-    waiting = rw (E .site, E .link, E .comes, E .from) (λ x y z r q. q .pairs);
+    waiting = rw (E .site, E .link, E .comes, E .from) (λ x y z r q. root-ended w o W more q);
   }
 
   module _ {root : ℕ} {pairs : List ℕ} {fs : List Frame} {level : ℕ} {f : Frame} {u d p : List ℕ} {top : Tops} where
@@ -232,7 +239,7 @@ module _ {ends last before a b c : List ℕ} where
     -- the walk ends
     pub walking-ends : (w : Walking ends last before a b c root pairs [] level f u d p top) → PLACES ≤ f .next
         → {x y z : List ℕ} {r : Tops} → Settled u d p (f .base) top (f .down) x y z r
-        → Added pairs 0 z (r .pairs) (flatPairs (pairsBelow root ends a b c))
+        → Ended ends a b c pairs root z r
     unfolding Waiting
     walking-ends w none {x} {y} {z} {r} q = w .waiting x y z r (settles-handed w none q)
 
@@ -245,34 +252,103 @@ stored fs i e f l h =
     ∙ rw (getD-set-same fs i f f (omega arith), take-set-lt e fs i f l, drop-set-lt (suc i) (take e fs) i f (omega arith))
 
 module _ (ends last before a b c : List ℕ) where
-  -- the turns that a frame and those above its level are still to take
-  abbrev pub owed : ℕ → Frame → List Frame → ℕ
-  owed level f fs = turns ends last before a b c f + tally (turns ends last before a b c) (slice (suc level) (suc (suc (length a))) fs)
+  -- the turns that the roots above r may take
+  unfoldable pub beyond : ℕ → ℕ
+  beyond r = (suc (length a) - r) * (2 * suc (length a))
 
-  module _ (root : ℕ) (u₀ d₀ p₀ : List ℕ) where
-    -- the walk at a frame, with the frames above its level waiting
-    pub record Framed (u d p : List ℕ) (level : ℕ) (top : Tops) (f : Frame) (fs : List Frame) : Type 0 where
+  -- the turns that a frame, those above its level, and the roots above r are still to take
+  abbrev pub owed : ℕ → ℕ → Frame → List Frame → ℕ
+  owed r level f fs = beyond r + turns ends last before a b c f + tally (turns ends last before a b c) (slice (suc level) (suc (suc (length a))) fs)
+
+  module _ (u₀ d₀ p₀ : List ℕ) where
+    -- the three arrays are as long as they were
+    pub record Long (u d p : List ℕ) : Type 0 where
+      pub ups : length u ≡ length u₀
+      pub downs : length d ≡ length d₀
+      pub pairs : length p ≡ length p₀
+
+    -- the walk from a root at a frame, with the frames above its level waiting
+    pub record Framed (u d p done : List ℕ) (level root : ℕ) (top : Tops) (f : Frame) (fs : List Frame) : Type 0 where
       pub walking : Walking ends last before a b c root p₀ (slice (suc level) (suc (suc (length a))) fs) level f u d p top
+      pub marked : Marked (links a b) (suc (length a)) (look ends) (f ∷ slice (suc level) (suc (suc (length a))) fs) root done
       pub levels : level ≤ suc (length a)
+      pub roots : root ≤ suc (length a)
       pub places : length fs ≡ PLACES
-      pub ups-long : length u ≡ length u₀
-      pub downs-long : length d ≡ length d₀
-      pub pairs-long : length p ≡ length p₀
+      pub long : Long u d p
 
-module _ {ends last before a b c : List ℕ} {root : ℕ} {u₀ d₀ p₀ : List ℕ} where
-  pub framed-starts : Visit (suc (length a)) ends last before a b c (suc (length a)) root (length a) 0 0 u₀ d₀ p₀ bottom → look ends root ≢ 1
-      → (level : ℕ) → level ≡ suc (length a) → {f : Frame} → Entered (links a b) (look c) root (length a) 0 bottom f
-      → (fs : List Frame) → length fs ≡ PLACES → Framed ends last before a b c root u₀ d₀ p₀ u₀ d₀ p₀ level bottom f fs
-  framed-starts W inner level l E fs h = record {
-    walking = rw (l, slice-empty (suc (suc (length a))) fs) (walking-starts W inner refl E);
-    levels = omega arith;
-    places = h;
-    ups-long = refl;
-    downs-long = refl;
-    pairs-long = refl;
-  }
+    -- after the walk from root r, before that from the next
+    pub record Between (u d p done : List ℕ) (r : ℕ) (top : Tops) : Type 0 where
+      pub ended : Ended ends a b c p₀ r p top
+      pub marked : Marked (links a b) (suc (length a)) (look ends) [] r done
+      pub roots : r ≤ suc (length a)
+      pub long : Long u d p
 
-  module _ {u d p : List ℕ} {level : ℕ} {top : Tops} {f : Frame} {fs : List Frame} (F : Framed ends last before a b c root u₀ d₀ p₀ u d p level top f fs) where
+-- before the first
+pub between-starts : (ends last before a b c u d p : List ℕ) → Between ends last before a b c u d p u d p untouched 0 bottom
+unfolding upfrom flatMap flatPairs
+between-starts ends last before a b c u d p = record {
+  ended = record { ups = refl; downs = refl; pairs = added-nothing p 0 };
+  marked = marked-starts (links a b) (suc (length a)) (look ends);
+  roots = omega arith;
+  long = record { ups = refl; downs = refl; pairs = refl };
+}
+
+module _ {ends last before a b c : List ℕ} {u₀ d₀ p₀ : List ℕ} where
+  -- ---- the next root
+
+  module _ (w : Walkable (suc (length a)) ends last before a b c) {u d p done : List ℕ} {r : ℕ} {top : Tops}
+      (B : Between ends last before a b c u₀ d₀ p₀ u d p done r top) where
+    -- there is none
+    pub between-all : 0 ≡ lowestInner (covered (look ends) done) (suc r) (suc (length a) - r)
+        → Added p₀ 0 p (top .pairs) (flatPairs (partsTo (suc (length a)) ends a b c))
+    between-all e = rw (no-more (w .tree .tree) (B .marked) (look c) e (B .roots)) (B .ended .pairs)
+
+    module _ {q : ℕ} (low : q ≡ lowestInner (covered (look ends) done) (suc r) (suc (length a) - r)) (some : q ≢ 0) where
+      pub root-enters : Entering q 0 last before a b c
+      root-enters =
+          let s = next-site (w .tree .tree) (B .marked) low some in
+          record { tree = w .tree; chained = w .chained; site = omega (arith, s, w .tree .few); within = omega arith }
+
+      module _ (hu : HALVES ≤ length u₀) (hd : HALVES ≤ length d₀) (hp : 2 * NUMBERS ≤ length p₀) {f : Frame}
+          (E : Entered (links a b) (look c) q (length a) 0 top f) where
+        visited : Visit (suc (length a)) ends last before a b c (suc (length a)) q (length a) 0 0 u d p top
+        visited =
+            let s = next-site (w .tree .tree) (B .marked) low some in
+            root-visit w (B .ended) (B .roots) (s .0, s .1) (next-inner (w .tree .tree) (B .marked) low some) (omega (arith, B .long .ups))
+            (omega (arith, B .long .downs)) (omega (arith, B .long .pairs))
+
+        pub framed-roots : (level : ℕ) → level ≡ suc (length a) → (fs : List Frame) → length fs ≡ PLACES
+            → Framed ends last before a b c u₀ d₀ p₀ u d p (set done q 1) level q top f fs
+        framed-roots level l fs h =
+            let s = next-site (w .tree .tree) (B .marked) low some in
+            let none : slice (suc level) (suc (suc (length a))) fs ≡ [] = rw l (slice-empty (suc (suc (length a))) fs) in
+            record {
+              walking = rw none (walking-starts w visited (next-inner (w .tree .tree) (B .marked) low some) l E (B .ended)
+                  (one-more (w .tree .tree) (B .marked) low some (look c)));
+              marked = rw none (marked-root (w .tree .tree) (B .marked) low some (omega (arith, number w)) (omega (arith, s, w .tree .few)) E);
+              levels = omega arith;
+              roots = s .1;
+              places = h;
+              long = B .long;
+            }
+
+        -- and fewer turns are left
+        pub roots-owed : (level : ℕ) → level ≡ suc (length a) → (fs : List Frame) (m o : ℕ)
+            → owed ends last before a b c q level f fs < beyond ends last before a b c r + m + o
+        unfolding tally beyond
+        roots-owed level l fs m o =
+            let s = next-site (w .tree .tree) (B .marked) low some in
+            let none : slice (suc level) (suc (suc (length a))) fs ≡ [] = rw l (slice-empty (suc (suc (length a))) fs) in
+            rw none (fewer (suc (length a) - q) (suc (length a) - r) (2 * suc (length a)) (turns ends last before a b c f) m o (omega (arith, s))
+            (omega (arith, enter-turns visited (next-inner (w .tree .tree) (B .marked) low some) E, size-le (links a b) (suc (length a)) (length a) q)))
+          where
+            fewer : (x y k s m o : ℕ) → x < y → s < k → x * k + s + 0 < y * k + m + o
+            fewer x y k s m o h l = omega (arith, mul-le-mul-right k h)
+
+  -- ---- a turn
+
+  module _ {u d p done : List ℕ} {level root : ℕ} {top : Tops} {f : Frame} {fs : List Frame}
+      (F : Framed ends last before a b c u₀ d₀ p₀ u d p done level root top f fs) where
     pub few : (level ≤ suc (length a)) × (suc (length a) < PLACES) × (1 ≤ level)
     few = (F .levels, omega (arith, F .walking .opened .visit .tree .few), omega (arith, F .walking .levelled))
 
@@ -280,17 +356,17 @@ module _ {ends last before a b c : List ℕ} {root : ℕ} {u₀ d₀ p₀ : List
       pub framed-adds : look ends (f .next) ≡ 1 → {x y : List ℕ} {r : Tops}
           → Added u (top .ups) x (r .ups) (flat (put (f .next) (sent (links a b) (look c) f) []))
           → Added d (top .downs) y (r .downs) (flat (put (f .next) (2 * look c (between (links a b) (f .site) (f .next)) - sent (links a b) (look c) f) []))
-          → r .pairs ≡ top .pairs → Framed ends last before a b c root u₀ d₀ p₀ x y p level r g fs
+          → r .pairs ≡ top .pairs → Framed ends last before a b c u₀ d₀ p₀ x y p done level root r g fs
       framed-adds e q s t = record {
         walking = walking-adds (F .walking) some P e q s t;
+        marked = marked-adds (F .walking .opened .visit .tree .tree) (F .marked) P e;
         levels = F .levels;
+        roots = F .roots;
         places = F .places;
-        ups-long = q .below .as-long ∙ F .ups-long;
-        downs-long = s .below .as-long ∙ F .downs-long;
-        pairs-long = F .pairs-long;
+        long = record { ups = q .below .as-long ∙ F .long .ups; downs = s .below .as-long ∙ F .long .downs; pairs = F .long .pairs };
       }
 
-      pub adds-owed : owed ends last before a b c level g fs < owed ends last before a b c level f fs
+      pub adds-owed : owed ends last before a b c root level g fs < owed ends last before a b c root level f fs
       adds-owed = omega (arith, adds-turns (F .walking) some P)
 
       module _ (inner : look ends (f .next) ≢ 1) {h : Frame} (E : Entered (links a b) (look c) (f .next) (between (links a b) (f .site) (f .next))
@@ -300,40 +376,52 @@ module _ {ends last before a b c : List ℕ} {root : ℕ} {u₀ d₀ p₀ : List
             let here : suc (level - 1) ≡ level = omega (arith, few) in
             rw here (stored fs level (suc (suc (length a))) g (omega (arith, few)) (omega (arith, few, F .places)))
 
-        pub framed-enters : Framed ends last before a b c root u₀ d₀ p₀ u d p (level - 1) top h (set fs level g)
+        pub framed-enters : Framed ends last before a b c u₀ d₀ p₀ u d p (set done (f .next) 1) (level - 1) root top h (set fs level g)
         framed-enters = record {
           walking = rw below (walking-enters (F .walking) some P inner E);
+          marked = rw below (marked-child (F .walking .opened .visit .tree .tree) (F .marked) P (F .walking .opened .inner) inner some
+              (joined (F .walking) some .0) E);
           levels = omega (arith, F .levels);
+          roots = F .roots;
           places = length-set fs level g ∙ F .places;
-          ups-long = F .ups-long;
-          downs-long = F .downs-long;
-          pairs-long = F .pairs-long;
+          long = F .long;
         }
 
-        pub enters-owed : owed ends last before a b c (level - 1) h (set fs level g) < owed ends last before a b c level f fs
+        pub enters-owed : owed ends last before a b c root (level - 1) h (set fs level g) < owed ends last before a b c root level f fs
         unfolding tally
         enters-owed = rw below (omega (arith, enters-turns (F .walking) some P inner E))
 
     module _ (none : PLACES ≤ f .next) {x y z : List ℕ} {r : Tops} (q : Settled u d p (f .base) top (f .down) x y z r) where
-      pub framed-ends : level ≡ suc (length a) → Added p₀ 0 z (r .pairs) (flatPairs (pairsBelow root ends a b c))
+      left : Marked (links a b) (suc (length a)) (look ends) (slice (suc level) (suc (suc (length a))) fs) root done
+      left = marked-leaves (F .walking .opened .visit .tree .tree) (F .marked) (omega (arith, few))
+
+      as-long : Long ends last before a b c u₀ d₀ p₀ x y z
+      as-long = record {
+        ups = q .ups .below .as-long ∙ F .long .ups;
+        downs = q .downs .below .as-long ∙ F .long .downs;
+        pairs = q .pairs .below .as-long ∙ F .long .pairs;
+      }
+
+      pub framed-ends : suc (length a) ≤ level → Between ends last before a b c u₀ d₀ p₀ x y z done root r
       framed-ends l =
-          let last-one : slice (suc level) (suc (suc (length a))) fs ≡ [] = rw l (slice-empty (suc (suc (length a))) fs) in
-          walking-ends (rw last-one at (F .walking)) none q
+          let last-level : level ≡ suc (length a) = omega (arith, F .levels) in
+          let none-left : slice (suc level) (suc (suc (length a))) fs ≡ [] = rw last-level (slice-empty (suc (suc (length a))) fs) in
+          record { ended = walking-ends (rw none-left at (F .walking)) none q; marked = rw none-left at left; roots = F .roots; long = as-long }
 
       module _ (l : level < suc (length a)) (o : Frame) where
         above : slice (suc level) (suc (suc (length a))) fs ≡ getD fs (suc level) o ∷ slice (suc (suc level)) (suc (suc (length a))) fs
         above = slice-cons (suc level) (suc (suc (length a))) fs o (omega arith) (omega (arith, few, F .places))
 
-        pub framed-returns : Framed ends last before a b c root u₀ d₀ p₀ x y z (level + 1) r (getD fs (level + 1) o) fs
+        pub framed-returns : Framed ends last before a b c u₀ d₀ p₀ x y z done (level + 1) root r (getD fs (level + 1) o) fs
         framed-returns = rw (add-one level) (record {
           walking = walking-returns (rw above at (F .walking)) none q;
+          marked = rw above at left;
           levels = l;
+          roots = F .roots;
           places = F .places;
-          ups-long = q .ups .below .as-long ∙ F .ups-long;
-          downs-long = q .downs .below .as-long ∙ F .downs-long;
-          pairs-long = q .pairs .below .as-long ∙ F .pairs-long;
+          long = as-long;
         })
 
-        pub returns-owed : owed ends last before a b c (level + 1) (getD fs (level + 1) o) fs < owed ends last before a b c level f fs
+        pub returns-owed : owed ends last before a b c root (level + 1) (getD fs (level + 1) o) fs < owed ends last before a b c root level f fs
         unfolding tally
         returns-owed = rw (add-one level, above) (omega arith)

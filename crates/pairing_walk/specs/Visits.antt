@@ -1,15 +1,16 @@
--- What a visit of the walk is given, and what it leaves in the arrays of its three lists.
--- Document 01, "Pairing", steps 1 to 4.
+-- What a visit of the walk is given, and what it leaves in the arrays of its three lists; then the parts, each walked from its root.
+-- Document 01, "Pairing", steps 1 to 4, and document 02, Card 7.
 use mathlib.Core.Path.{_≡_}
 use mathlib.Core.Logic.{_≢_}
-use mathlib.Core.List.{List, [], _∷_, _++_}
-use Prim.Native.Nat.{ℕ, suc, _+_, _-_, _*_, _≤_}
-use lib.ListN.{length, take, replicate}
-use Rattle.model.specs.Limits.{NUMBERS, SITES}
-use Rattle.lists.specs.Numbers.{look}
-use Rattle.model.specs.Flows.{Site}
+use mathlib.Core.List.{List, [], _∷_, _++_, flatMap}
+use Prim.Native.Nat.{ℕ, suc, _+_, _-_, _*_, _≤_, _<_}
+use lib.ListN.{length, set, take, replicate}
+use Rattle.model.specs.Limits.{HALVES, NUMBERS, PLACES, SITES}
+use Rattle.lists.specs.Numbers.{look, pick, upfrom}
+use Rattle.model.specs.Flows.{Site, sites}
 use Rattle.model.specs.Trimming.{Balanced}
-use Rattle.model.specs.Pairing.{Part, walk, pairs}
+use Rattle.model.specs.Pairing.{Part, walk, lowestInner}
+use Rattle.model.specs.Parts.{pairsOfPart, pairOfLink, pairsOfParts}
 use Rattle.model.specs.declared.Pair.{Pair}
 use Rattle.model.specs.declared.Pairs.{Pairs}
 use Rattle.model.specs.Edition.{largest}
@@ -18,7 +19,6 @@ use Rattle.tree.specs.Accepted.{TreeWithin}
 use Rattle.tree_links.specs.Chains.{Chained}
 use Rattle.theory_walk.specs.Children.{size}
 use Rattle.theory_walk.specs.Walk.{Start}
-use Rattle.theory_trees.specs.Leaves.{Outer}
 use Rattle.pairing_halves.specs.declared.Tops.{Tops}
 use Rattle.pairing_halves.specs.Arrays.{flat, flatPairs, Held, Added}
 
@@ -44,28 +44,58 @@ pub record Visit (n : ℕ) (ends last before one two c : List ℕ) (fuel v j up 
   pub downs-room : b .downs + 2 * size (links one two) n j v ≤ length d
   pub pairs-room : b .pairs + 3 * size (links one two) n j v ≤ length p
 
--- ---- the whole walk
+-- ---- the parts
 
--- a tree within the limits, its links chained, its terminals of one link each, with balanced capacities
+-- a tree within the limits, its links chained, with balanced capacities between any terminals
 pub record Walkable (n : ℕ) (ends last before one two c : List ℕ) : Type 0 where
   pub tree : TreeWithin largest n one two c
   pub chained : Chained one two last before
-  pub outer : Outer (links one two) n (look ends)
   pub balanced : Balanced (links one two) (look ends) (look c)
 
--- an inner site of such a tree
-pub record Root (root : ℕ) (ends last before one two c : List ℕ) : Type 0 where
-  pub walkable : Walkable (suc (length one)) ends last before one two c
-  pub site : Site (suc (length one)) root
-  pub inner : look ends root ≢ 1
+-- 1 if x is a terminal or is done, that is, entered by a walk: no walk starts from it
+unfoldable pub covered : (ℕ → ℕ) → List ℕ → ℕ → ℕ
+covered terminal done x = pick (terminal x) 1 1 (look done x)
 
--- the pairs of the walk from a root
-abbrev pub pairsBelow : ℕ → List ℕ → List ℕ → List ℕ → List ℕ → List Pair
-pairsBelow root ends one two c = walkOf (suc (length one)) ends one two c (suc (length one)) root (length one) 0 0 .pairs
+-- no site is done
+abbrev pub untouched : List ℕ
+untouched = replicate PLACES 0
 
--- the pairs of a tree that is lent as lists, in the order in which the walk makes them
+-- before the first walk: just the lowest inner site is done; and there is room for all sites in the arrays
+pub record Begun (n : ℕ) (ends done : List ℕ) (first : ℕ) (u d p : List ℕ) : Type 0 where
+  pub some : first ≢ 0
+  pub lowest : first ≡ lowestInner (covered (look ends) untouched) 1 n
+  pub marked : done ≡ set untouched first 1
+  pub ups-room : HALVES ≤ length u
+  pub downs-room : HALVES ≤ length d
+  pub pairs-room : 2 * NUMBERS ≤ length p
+
+module _ (m : ℕ) (ends one two c : List ℕ) where
+  -- the pairs of the parts whose root is one of the first m sites, by their roots
+  abbrev pub partsTo : List Pair
+  partsTo = flatMap (pairsOfPart (links one two) (suc (length one)) (look c) (look ends)) (sites m)
+
+  -- the pairs of the single links among the first m
+  abbrev pub singlesTo : List Pair
+  singlesTo = flatMap (pairOfLink (links one two) (suc (length one)) (look c) (look ends)) (upfrom 0 m)
+
+-- the pair of link j, if it is single
+abbrev pub pairOf : List ℕ → List ℕ → List ℕ → List ℕ → ℕ → List Pair
+pairOf ends one two c = pairOfLink (links one two) (suc (length one)) (look c) (look ends)
+
+-- link j of a tree within the limits
+pub record Linkable (j : ℕ) (one two c : List ℕ) : Type 0 where
+  pub tree : TreeWithin largest (suc (length one)) one two c
+  pub link : j < length one
+
+-- the single links of a tree with balanced capacities; the numbers below place e spell the pairs of its other parts
+pub record Singles (ends one two c : List ℕ) (e : ℕ) : Type 0 where
+  pub tree : TreeWithin largest (suc (length one)) one two c
+  pub balanced : Balanced (links one two) (look ends) (look c)
+  pub walked : e ≡ 3 * length (partsTo (suc (length one)) ends one two c)
+
+-- the pairs of a tree that is lent as lists, part by part
 abbrev pub pairsOf : ℕ → List ℕ → List ℕ → List ℕ → List ℕ → List Pair
-pairsOf n ends one two c = pairs (links one two) n (look c) (look ends)
+pairsOf n ends one two c = pairsOfParts (links one two) n (look c) (look ends)
 
 -- the pair that three numbers from a place on spell
 abbrev pub spelledAt : List ℕ → ℕ → Pair

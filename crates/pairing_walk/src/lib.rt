@@ -1,4 +1,5 @@
-// Inner: the decomposition of balanced capacities into pairs (01: pairing), by the walk from the root. Only the planner's own crates call it.
+// Inner: the decomposition of balanced capacities into pairs (01: pairing), by a walk over each part of the tree (02, Card 7: it falls apart at its
+// marked sites), from the root of the part. Only the planner's own crates call it.
 use model::CHAINS;
 use model::HALVES;
 use model::NUMBERS;
@@ -9,25 +10,37 @@ use model::SITES;
 use pairing_halves::Tops;
 use tree_sets::Set;
 ghost use mathlib.Core.Path.{_≡_};
-ghost use mathlib.Core.Logic.{_≢_};
-ghost use mathlib.Core.List.{[]};
-ghost use Prim.Native.Nat.{suc, _*_, _≤_, _+_};
-ghost use Rattle.model.specs.Limits.{NUMBERS, SITES, SIZE};
-ghost use lib.ListN.{length, take};
-ghost use Rattle.lists.specs.Numbers.{look};
-ghost use Rattle.model.specs.Pairing.{put, give, lowestInner};
+ghost use Prim.Native.Nat.{suc, _*_, _≤_, _<_, _+_, _-_};
+ghost use Rattle.model.specs.Limits.{NUMBERS, PLACES, SITES};
+ghost use lib.ListN.{length, set, take};
+ghost use Rattle.lists.specs.Numbers.{look, pick};
+ghost use Rattle.model.specs.Pairing.{lowestInner};
 ghost use Rattle.pairing_halves.specs.Arrays.{flatPairs, Added};
 ghost use Rattle.tree.specs.Offer.{links};
-ghost use Rattle.pairing_walk.specs.Frames.{bottom, childOf, Entering, Entered, Coming, Passed};
-ghost use Rattle.pairing_walk.specs.Visits.{Visit, Walkable, Root, pairsOf, pairsBelow, spelledAt, spelled, Spells, listing};
+ghost use Rattle.pairing_walk.specs.Frames.{childOf, Entering, Entered, Coming, Passed};
+ghost use Rattle.pairing_walk.specs.Visits.{covered, Walkable, Begun, partsTo, pairOf, Linkable, singlesTo, Singles, pairsOf};
+ghost use Rattle.pairing_walk.specs.Visits.{spelledAt, spelled, Spells, listing};
 
-// The site of lowest number that is no terminal, 0 where there is none.
-fn lowest_inner(n: usize, ends: &[u8; PLACES]) -> usize
-    requires { ⌜ n ≤ SITES ⌝ }
-    ensures { λ r. ⌜ r ≡ lowestInner (look (now (ends .entry))) 1 n ⌝ }
+// 1 for a terminal and for a site that is done, which no walk starts from.
+fn covered(v: usize, ends: &[u8; PLACES], done: &[u8]) -> u8
+    requires { ⌜ (v ≤ SITES) × (v < length (now done)) ⌝ }
+    ensures { λ r. ⌜ r ≡ covered (look (now (ends .entry))) (now (done .entry)) v ⌝ }
 {
-    for v in 1..n + 1 {
-        if ends[v] != 1 {
+    if ends[v] == 1 {
+        return 1;
+    }
+    done[v]
+}
+
+// The lowest inner site above `past`, among n, that is not done, 0 where there is none; it is done then.
+fn next_root(past: usize, n: usize, ends: &[u8; PLACES], done: &mut [u8]) -> usize
+    requires { ⌜ (past ≤ n) × (n < length (now done)) × (n ≤ SITES) ⌝ }
+    ensures { λ r. ⌜ (r ≡ lowestInner (covered (look (now (ends .entry))) (now (done .entry))) (suc past) (n - past))
+        × (now (done .exit) ≡ pick r 0 (now (done .entry)) (set (now (done .entry)) r 1)) ⌝ }
+{
+    for v in past + 1..n + 1 {
+        if covered(v, ends, done) != 1 {
+            done[v] = 1;
             return v;
         }
     }
@@ -123,38 +136,57 @@ fn pass(frame: Frame, up: u64) -> Frame
     }
 }
 
-// The walk from an inner site, the root: the pairs are added to their list, and its end is returned.
-// The sites from the root to the one at hand stand in frames, the root's in the place of the number of sites, each child's in the place below.
-fn visit(
+// The frame of a root: it is taken for a child over a link past the last, over which nothing goes.
+fn enter_root(
     root: usize,
+    base: Tops,
+    last: &[usize; PLACES],
+    before: &[usize; CHAINS],
+    one: &[usize],
+    two: &[usize],
+    capacity: &[u64],
+) -> Frame
+    requires { ⌜ Entering root 0 (now last) (now before) (now one) (now two) (now capacity) ⌝ }
+    ensures { λ r. ⌜ Entered (links (now (one .entry)) (now (two .entry))) (look (now (capacity .entry))) root (length (now (one .entry))) 0 base r ⌝ }
+{
+    let whole = Child {
+        link: one.len(),
+        up: 0,
+        down: 0,
+    };
+    enter(root, whole, base, last, before, one, two, capacity)
+}
+
+// The walks from the roots, `first` the lowest of them: the pairs are added to their list, and its end is returned. A site is done once a walk has
+// entered it, and the next root is the lowest inner site that is not. The sites from the root to the one at hand stand in frames, the root's in the
+// place of the number of sites, each child's in the place below.
+fn visit(
+    first: usize,
     ends: &[u8; PLACES],
     last: &[usize; PLACES],
     before: &[usize; CHAINS],
     one: &[usize],
     two: &[usize],
     capacity: &[u64],
+    done: &mut [u8],
     ups: &mut [u64],
     downs: &mut [u64],
     pairs: &mut [u64],
 ) -> usize
-    requires { ⌜ Visit (suc (length (now one))) (now ends) (now last) (now before) (now one) (now two) (now capacity)
-        (suc (length (now one))) root (length (now one)) 0 0 (now ups) (now downs) (now pairs) bottom × (look (now ends) root ≢ 1) ⌝ }
+    requires { ⌜ Walkable (suc (length (now one))) (now ends) (now last) (now before) (now one) (now two) (now capacity)
+        × Begun (suc (length (now one))) (now ends) (now done) first (now ups) (now downs) (now pairs) ⌝ }
     ensures { λ r. ⌜ Added (now (pairs .entry)) 0 (now (pairs .exit)) r
-        (flatPairs (pairsBelow root (now (ends .entry)) (now (one .entry)) (now (two .entry)) (now (capacity .entry)))) ⌝ }
+        (flatPairs (partsTo (suc (length (now (one .entry)))) (now (ends .entry)) (now (one .entry)) (now (two .entry)) (now (capacity .entry)))) ⌝ }
 {
     let sites = one.len() + 1;
     let mut level = sites;
+    let mut root = first;
     let mut top = Tops {
         ups: 0,
         downs: 0,
         pairs: 0,
     };
-    let whole = Child {
-        link: one.len(),
-        up: 0,
-        down: 0,
-    };
-    let mut frame = enter(root, whole, top, last, before, one, two, capacity);
+    let mut frame = enter_root(root, top, last, before, one, two, capacity);
     let mut frames = [frame; PLACES];
     loop {
         let c = frame.next;
@@ -166,6 +198,7 @@ fn visit(
                 frame = passed;
                 continue;
             }
+            done[c] = 1;
             frames[level] = passed;
             level -= 1;
             frame = enter(c, child, top, last, before, one, two, capacity);
@@ -173,28 +206,21 @@ fn visit(
         }
         let base = frame.base;
         top = pairing_halves::settle(frame.down, ups, downs, pairs, base, top);
-        if level == sites {
+        if level < sites {
+            level += 1;
+            frame = frames[level];
+            continue;
+        }
+        root = next_root(root, sites, ends, done);
+        if root == 0 {
             return top.pairs;
         }
-        level += 1;
-        frame = frames[level];
+        frame = enter_root(root, top, last, before, one, two, capacity);
     }
 }
 
-// With two sites only: one pair of twice the capacity, none for capacity 0; the end of the pair list.
-fn join_two(capacity: u64, pairs: &mut [u64]) -> usize
-    requires { ⌜ (capacity ≤ SIZE) × (3 ≤ length (now pairs)) ⌝ }
-    ensures { λ r. ⌜ Added (now (pairs .entry)) 0 (now (pairs .exit)) r (flatPairs (give 1 (put 2 (2 * capacity) []))) ⌝ }
-{
-    if capacity == 0 {
-        return 0;
-    }
-    pairing_halves::push_pair(pairs, 0, 1, 2, 2 * capacity)
-}
-
-// The pairs of the walk from an inner site, written one after the other; the end of them.
-fn walk_from(
-    root: usize,
+// The pairs of the parts that have a root, by their roots, written one after the other; the end of them.
+fn walk_parts(
     ends: &[u8; PLACES],
     last: &[usize; PLACES],
     before: &[usize; CHAINS],
@@ -203,46 +229,79 @@ fn walk_from(
     capacity: &[u64],
     pairs: &mut [u64],
 ) -> usize
-    requires { ⌜ Root root (now ends) (now last) (now before) (now one) (now two) (now capacity) × (NUMBERS ≤ length (now pairs)) ⌝ }
+    requires { ⌜ Walkable (suc (length (now one))) (now ends) (now last) (now before) (now one) (now two) (now capacity)
+        × (2 * NUMBERS ≤ length (now pairs)) ⌝ }
     ensures { λ r. ⌜ Added (now (pairs .entry)) 0 (now (pairs .exit)) r
-        (flatPairs (pairsBelow root (now (ends .entry)) (now (one .entry)) (now (two .entry)) (now (capacity .entry)))) ⌝ }
+        (flatPairs (partsTo (suc (length (now (one .entry)))) (now (ends .entry)) (now (one .entry)) (now (two .entry)) (now (capacity .entry)))) ⌝ }
 {
+    let mut done = [0u8; PLACES];
+    let first = next_root(0, one.len() + 1, ends, &mut done);
+    if first == 0 {
+        return 0;
+    }
     let mut ups = [0u64; HALVES];
     let mut downs = [0u64; HALVES];
     visit(
-        root,
+        first,
         ends,
         last,
         before,
         one,
         two,
         capacity,
+        &mut done,
         &mut ups,
         &mut downs,
         pairs,
     )
 }
 
-// The pairs of the walk from the inner site of lowest number, written one after the other; the end of them.
-fn walk_tree(
-    n: usize,
+// The pair of link j, if it is single: one of twice its capacity, none for capacity 0. It is added to the pair list, whose end is returned.
+fn join_link(
+    j: usize,
     ends: &[u8; PLACES],
-    last: &[usize; PLACES],
-    before: &[usize; CHAINS],
     one: &[usize],
     two: &[usize],
     capacity: &[u64],
     pairs: &mut [u64],
+    end: usize,
 ) -> usize
-    requires { ⌜ Walkable n (now ends) (now last) (now before) (now one) (now two) (now capacity) × (NUMBERS ≤ length (now pairs)) ⌝ }
-    ensures { λ r. ⌜ Added (now (pairs .entry)) 0 (now (pairs .exit)) r
-        (flatPairs (pairsOf n (now (ends .entry)) (now (one .entry)) (now (two .entry)) (now (capacity .entry)))) ⌝ }
+    requires { ⌜ Linkable j (now one) (now two) (now capacity) × (end + 3 ≤ length (now pairs)) ⌝ }
+    ensures { λ r. ⌜ Added (now (pairs .entry)) end (now (pairs .exit)) r
+        (flatPairs (pairOf (now (ends .entry)) (now (one .entry)) (now (two .entry)) (now (capacity .entry)) j)) ⌝ }
 {
-    let root = lowest_inner(n, ends);
-    if root == 0 {
-        return join_two(capacity[0], pairs);
+    let a = one[j];
+    let b = two[j];
+    if ends[a] != 1 {
+        return end;
     }
-    walk_from(root, ends, last, before, one, two, capacity, pairs)
+    if ends[b] != 1 {
+        return end;
+    }
+    if capacity[j] == 0 {
+        return end;
+    }
+    pairing_halves::push_pair(pairs, end, a as u64, b as u64, 2 * capacity[j])
+}
+
+// The pairs of the single links, written one after the other behind those of the other parts; the end of them.
+fn join_links(
+    ends: &[u8; PLACES],
+    one: &[usize],
+    two: &[usize],
+    capacity: &[u64],
+    pairs: &mut [u64],
+    from: usize,
+) -> usize
+    requires { ⌜ Singles (now ends) (now one) (now two) (now capacity) from × (2 * NUMBERS ≤ length (now pairs)) ⌝ }
+    ensures { λ r. ⌜ Added (now (pairs .entry)) from (now (pairs .exit)) r
+        (flatPairs (singlesTo (length (now (one .entry))) (now (ends .entry)) (now (one .entry)) (now (two .entry)) (now (capacity .entry)))) ⌝ }
+{
+    let mut end = from;
+    for j in 0..one.len() {
+        end = join_link(j, ends, one, two, capacity, pairs, end);
+    }
+    end
 }
 
 // The pair that three numbers from `at` on spell: first site, second site, amount.
@@ -277,7 +336,7 @@ fn read_pairs(numbers: &[u64], end: usize) -> Pairs
     Pairs { list, count }
 }
 
-// The pairs of a tree with balanced capacities, in the order in which the walk makes them, with pairs of zeros behind them.
+// The pairs of a tree with balanced capacities, part by part, in the order in which the walks make them, with pairs of zeros behind them.
 pub fn decompose(
     n: usize,
     ends: &[u8; PLACES],
@@ -290,7 +349,8 @@ pub fn decompose(
     requires { ⌜ Walkable n (now ends) (now last) (now before) (now one) (now two) (now capacity) ⌝ }
     ensures { λ r. ⌜ r ≡ listing (pairsOf n (now (ends .entry)) (now (one .entry)) (now (two .entry)) (now (capacity .entry))) ⌝ }
 {
-    let mut numbers = [0u64; NUMBERS];
-    let end = walk_tree(n, ends, last, before, one, two, capacity, &mut numbers);
+    let mut numbers = [0u64; 2 * NUMBERS];
+    let walked = walk_parts(ends, last, before, one, two, capacity, &mut numbers);
+    let end = join_links(ends, one, two, capacity, &mut numbers, walked);
     read_pairs(&numbers, end)
 }

@@ -8,8 +8,7 @@ use native.Mathlib.Omega.{arith}
 use native.Mathlib.Decide.{decLe}
 use Rattle.lists.specs.Numbers.{Each}
 use Rattle.model.specs.Flows.{Links, Site, Ends, at, sumAt}
-use Rattle.model.specs.Pairing.{Halves, Part, put, takeHalves, dropHalves, halves, give, match, children, gather, alone, settle, walk, pairsFrom, lowestInner}
-use Rattle.model.specs.Pairing.{pairs}
+use Rattle.model.specs.Pairing.{Halves, Part, put, takeHalves, dropHalves, halves, give, match, children, gather, alone, settle, walk, pairsFrom}
 use Rattle.model.specs.declared.Pair.{Pair}
 pub use Rattle.model.specs.Whole.{Even}
 use Rattle.lists.specs.Sums.{cases, pick-cases, same?, sum-none, sum-eq}
@@ -125,11 +124,3 @@ pub even-everywhere : (ls : Links) (n : ℕ) (t terminal : ℕ → ℕ) → Ends
 even-everywhere ls n t terminal h s v d = cases (decLe 1 v)
     (λ p. cases (decLe v n) (λ q. s v (p, q) d) (λ q. (0, sum-nowhere ls n v t h (λ o. q (o .1)))))
     (λ p. (0, sum-nowhere ls n v t h (λ o. p (o .0))))
-
-pub pairs-even : (ls : Links) (n : ℕ) (t terminal : ℕ → ℕ) → ((v : ℕ) → terminal v ≢ 1 → Even (sumAt ls v t)) → Each EvenPair (pairs ls n t terminal)
-unfolding pairs
-pairs-even ls n t terminal sums =
-    let root = lowestInner terminal 1 n in
-    pick-cases (Each EvenPair) root 0 (give 1 (put 2 (2 * t 0) [])) (pairsFrom ls n t terminal root)
-    (λ e. give-even 1 (put 2 (2 * t 0) []) (put-even 2 (2 * t 0) [] (t 0, refl) tt))
-    (λ d. root-even ls n t terminal sums root)

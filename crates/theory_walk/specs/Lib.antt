@@ -1,4 +1,3 @@
-pub mod PairingTheorem
 pub mod Sound
 pub mod Steps
 pub mod Bounds

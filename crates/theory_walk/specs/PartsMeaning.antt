@@ -2,13 +2,12 @@
 -- site (`root-iff-lowest`); and two terminals are free to be joined just if they stand at one part (`free-iff-at-one-part`).
 use mathlib.Core.Path.{_≡_, refl, sym, ap, _∙_}
 use mathlib.Core.Logic.{_≢_, _↔_, _⊎_, inl, inr}
-use Prim.Native.Nat.{ℕ, zero, suc, _+_, _≤_, _<_}
+use Prim.Native.Nat.{ℕ, _+_, _≤_, _<_}
 use lib.ListN.{length}
 use native.Mathlib.Omega.{arith}
 use Rattle.lists.specs.Numbers.{is, differ}
-use Rattle.lists.specs.Sums.{pick-cases, same?, is-same, is-one, differ-other, differ-le, differ-triangle, product-one}
+use Rattle.lists.specs.Sums.{same?, is-same, is-one, differ-other, differ-le, differ-triangle, product-one}
 use Rattle.model.specs.Flows.{Links, Site, Tree, Route, one, two, at, side, separates}
-use Rattle.model.specs.Pairing.{lowestInner}
 use Rattle.model.specs.Parts.{freePair, OnePart, itself, shared, chained, within, region, member, home, inPart, lowest, root}
 use Rattle.model.specs.declared.Pair.{Pair}
 use Rattle.theory_trees.specs.Trees.{separates-same, separates-comm, separates-triple, at-first, at-second, at-end, loopless, local-one}

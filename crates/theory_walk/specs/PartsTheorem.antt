@@ -1,5 +1,6 @@
--- The theorems of the pairing on parts, for any tree, any terminals and balanced capacities t: what PairingTheorem says of terminals with one link each
--- holds of any. Each link is in just one part, so what the parts cover adds up (Shares).
+-- The theorems of the pairing on parts, for any tree, any terminals and balanced capacities t; nothing of trimming is used but that no link is heavy.
+-- Each link is in just one part, so what the parts cover adds up (Shares). `Sound` (its own file) is what document 01 says of the pairs; the induction
+-- behind it is `Good` (Handed).
 use mathlib.Core.Path.{_≡_, refl, sym, _∙_}
 use mathlib.Core.Logic.{_≢_}
 use mathlib.Core.List.{List, [], _∷_, _++_, flatMap}
@@ -11,7 +12,7 @@ use Rattle.lists.specs.Sums.{pick-cases}
 use Rattle.lists.specs.Tallies.{each-map, each-append, each-both}
 use Rattle.model.specs.Flows.{Links, Site, sites, one, two, sumAt, Tree, Route, Multiflow, Fits, total}
 use Rattle.model.specs.Trimming.{Balanced, Greatest}
-use Rattle.model.specs.Pairing.{put, give, pairsFrom, ordered}
+use Rattle.model.specs.Pairing.{put, give, walk, pairsFrom, ordered}
 use Rattle.model.specs.Cuts.{cutSize}
 use Rattle.model.specs.Parts.{freePair, single, region, inPart, root, pairsOfPart, pairOfLink, pairsOfParts, pairListOfParts}
 use Rattle.model.specs.declared.Pair.{Pair}
@@ -22,6 +23,9 @@ use Rattle.theory_trees.specs.Bounds.{a-full-multiflow-has-the-greatest-total}
 use Rattle.theory_walk.specs.Sound.{Sound, Ascending}
 use Rattle.theory_walk.specs.Order.{sound-same, same-each, ordered-same, ordered-lower, ordered-ascending}
 use Rattle.theory_walk.specs.Evens.{Even, EvenPair, even-everywhere, root-even}
+use Rattle.theory_walk.specs.Subtrees.{Entered}
+use Rattle.theory_walk.specs.Walk.{size-le, walk-fuel}
+use Rattle.theory_walk.specs.Bounds.{loads-bound-amounts}
 use Rattle.theory_walk.specs.Regions.{position, one-part}
 use Rattle.theory_walk.specs.Shares.{covers-both, covers-each, covers-sound}
 use Rattle.theory_walk.specs.PartCovers.{link-covers, root-covers}
@@ -106,3 +110,14 @@ module _ {ls : Links} {n : ℕ} (T : Tree ls n) (terminal t : ℕ → ℕ) where
     pub pair-list-of-parts-is-even : Each EvenPair (pairListOfParts ls n t terminal)
     unfolding pairListOfParts
     pair-list-of-parts-is-even = same-each EvenPair (λ e p. p) (ordered-same (pairsOfParts ls n t terminal)) amounts-of-parts-are-even
+
+  -- ---- bounds
+
+  -- no amount passes twice the greatest capacity
+  pub amounts-are-bounded : (es : List Pair) → Sound ls n terminal t es → (m : ℕ) → ((j : ℕ) → j < length ls → t j ≤ m) → Each (λ e. e .amount ≤ 2 * m) es
+  amounts-are-bounded es h m b = loads-bound-amounts T terminal (2 * m) es (h .routes) (λ j l. omega (arith, h .loads j l, b j l))
+
+  -- the fuel n is enough: more of it gives the same walk
+  pub more-fuel-changes-nothing : (fuel v j up down : ℕ) → Site n v → Entered ls j v → n ≤ fuel
+      → walk ls n t terminal fuel v j up down ≡ walk ls n t terminal n v j up down
+  more-fuel-changes-nothing fuel v j up down pv en l = let s = size-le ls n j v in walk-fuel T t terminal fuel n v j up down pv en (omega arith) s

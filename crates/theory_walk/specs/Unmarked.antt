@@ -11,7 +11,6 @@ use Rattle.lists.specs.Sums.{pick-same, pick-other, pick-cases, same?, is-same,
 use Rattle.lists.specs.Sums.{less-one, less-lt, product-one, sum-single}
 use Rattle.lists.specs.Places.{count-in}
 use Rattle.model.specs.Flows.{Links, Site, sites, one, two, at, sumAt, Tree}
-use Rattle.model.specs.Trimming.{Balanced}
 use Rattle.model.specs.Pairing.{put, give, pairsFrom, lowestInner, pairs, lowerFirst, insert, ordered, pairList}
 use Rattle.model.specs.Parts.{single, region, member, home, lowest, root, pairsOfPart, pairOfLink, pairsOfParts, pairListOfParts}
 use Rattle.model.specs.declared.Pair.{Pair}
@@ -19,9 +18,6 @@ use Rattle.theory_trees.specs.Trees.{all-agree, at-first, at-second, at-le, loo
 use Rattle.theory_trees.specs.Sites.{sites-once, sites-site, at-site}
 use Rattle.theory_trees.specs.Leaves.{Outer, leaf-has-one-link, a-tree-of-leaves-has-two-sites}
 use Rattle.theory_walk.specs.Lowest.{lowest-none, lowest-some, lowest-same}
-use Rattle.theory_walk.specs.Sound.{Sound}
-use Rattle.theory_walk.specs.Order.{Same, same, turn, sound-same}
-use Rattle.theory_walk.specs.PartsTheorem.{pairs-of-parts-are-sound}
 use Rattle.theory_walk.specs.Regions.{differ-one, member-in, member-inner, home-region, single-terminal, root-inner, position}
 
 -- ---- lists of which one at most is not empty
@@ -84,19 +80,6 @@ module _ {ls : Links} {n : ℕ} (T : Tree ls n) (terminal t : ℕ → ℕ) (O : 
         (λ p. let q : two ls 0 ≡ 1 = omega (arith, one-link, T .links, o) in
         let p′ : one ls 0 ≡ 2 = omega (arith, one-link, T .links, o) in
         rw (p′, q, lower-turn 2 1 (suc a) (omega arith), lower-keep 1 2 (suc a) (omega arith)))
-
-    -- the pair of the one link, perhaps turned round
-    alone-same : (a : ℕ) → Same (give (one ls 0) (put (two ls 0) a [])) (give 1 (put 2 a []))
-    unfolding give put
-    alone-same zero = same
-    alone-same (suc a) =
-        let l : 0 < length ls = omega (arith, one-link) in
-        let d = loopless T 0 l in
-        let o = T .ends 0 l in
-        same? (one ls 0) 1
-        (λ p. let q : two ls 0 ≡ 2 = omega (arith, one-link, T .links, o) in rw (p, q) same)
-        (λ p. let q : two ls 0 ≡ 1 = omega (arith, one-link, T .links, o) in
-        let p′ : one ls 0 ≡ 2 = omega (arith, one-link, T .links, o) in rw (p′, q) turn)
 
     parts-without : pairsOfParts ls n t terminal ≡ along 0
     unfolding pairsOfParts pairOfLink single
@@ -191,13 +174,6 @@ module _ {ls : Links} {n : ℕ} (T : Tree ls n) (terminal t : ℕ → ℕ) (O : 
   abbrev root-pairs : List Pair
   root-pairs = pairsFrom ls n t terminal (lowestInner terminal 1 n)
 
-  -- but for the sites of a tree's one pair, which the walk names as they stand in the link
-  pub pairs-are-of-parts : Same (pairsOfParts ls n t terminal) (pairs ls n t terminal)
-  unfolding pairs
-  pairs-are-of-parts = pick-cases (Same (pairsOfParts ls n t terminal)) (lowestInner terminal 1 n) 0 (give 1 (put 2 (2 * t 0) [])) root-pairs
-      (λ e. rw (parts-without e) (alone-same e (2 * t 0)))
-      (λ d. rw (parts-with d) same)
-
   -- where every terminal has one link, the pair list over all parts is the pair list
   pub unmarked-pair-lists-stay : pairListOfParts ls n t terminal ≡ pairList ls n t terminal
   unfolding pairListOfParts pairList pairs
@@ -205,9 +181,3 @@ module _ {ls : Links} {n : ℕ} (T : Tree ls n) (terminal t : ℕ → ℕ) (O : 
       (give 1 (put 2 (2 * t 0) [])) root-pairs
       (λ e. ap ordered (parts-without e) ∙ alone-ordered e (2 * t 0))
       (λ d. ap ordered (parts-with d))
-
--- so what is sound of the parts is sound of the pairs
-pub pairs-sound : {ls : Links} {n : ℕ} → Tree ls n → (terminal t : ℕ → ℕ) → Outer ls n terminal → Balanced ls terminal t
-    → Sound ls n terminal t (pairs ls n t terminal)
-pairs-sound {ls} {n} T terminal t O B = sound-same T terminal t (pairsOfParts ls n t terminal) (pairs ls n t terminal) (pairs-are-of-parts T terminal t O)
-    (pairs-of-parts-are-sound T terminal t B)

@@ -10,15 +10,12 @@ use Rattle.lists.specs.Numbers.{count, over, Each}
 use Rattle.lists.specs.Sums.{is-same, same?, sum-ge}
 use Rattle.model.specs.Flows.{Links, Site, Tree, at, sumAt, leaf, total, atTerminals}
 use Rattle.model.specs.Trimming.{elimination}
-use Rattle.model.specs.Pairing.{pairList}
 use Rattle.model.specs.Parts.{pairListOfParts}
 use Rattle.model.specs.Whole.{Even, WholePlan, LargestWhole, setSizes, oddPieces}
 use Rattle.model.specs.WholeLoads.{parentOf, above, noIntervals, takeAll, intervals, loading, wholeLoad, wholeOwner}
 use Rattle.model.specs.declared.Pair.{Pair}
 use Rattle.theory_trees.specs.Trees.{local-one}
-use Rattle.theory_trees.specs.Leaves.{Outer}
 use Rattle.theory_walk.specs.Sound.{Sound}
-use Rattle.theory_walk.specs.PairingTheorem.{pair-list-is-sound, pair-list-is-even}
 use Rattle.theory_walk.specs.PartsTheorem.{pair-list-of-parts-is-sound, pair-list-of-parts-is-even}
 use Rattle.theory_whole.specs.Counting.{oddAt}
 use Rattle.theory_whole.specs.Solution.{Solution}
@@ -108,12 +105,7 @@ pairs-of-loads w es s even = record {
   sizes = omega (arith, s .sums, w .sizes);
 }
 
-pub the-pairs-of-whole-loads : {ls : Links} {n : ℕ} → Tree ls n → {terminal : ℕ → ℕ} → Outer ls n terminal → {c x owner : ℕ → ℕ}
-    → LargestWhole ls n terminal c x owner → PairsWhole ls n terminal c x owner (pairList ls n x terminal)
-the-pairs-of-whole-loads {ls} {n} T {terminal} O {x = x} w = pairs-of-loads w (pairList ls n x terminal)
-    (pair-list-is-sound T terminal x O (w .loads .balanced)) (pair-list-is-even T terminal x (w .loads .even))
-
--- for any terminals, the pair list over all parts (02, Card 7)
+-- so the pair list over all parts, for any terminals (02, Card 7)
 pub the-pairs-of-parts-of-whole-loads : {ls : Links} {n : ℕ} → Tree ls n → {terminal c x owner : ℕ → ℕ}
     → LargestWhole ls n terminal c x owner → PairsWhole ls n terminal c x owner (pairListOfParts ls n x terminal)
 the-pairs-of-parts-of-whole-loads {ls} {n} T {terminal} {x = x} w = pairs-of-loads w (pairListOfParts ls n x terminal)

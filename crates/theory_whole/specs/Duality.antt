@@ -11,7 +11,7 @@ use lib.ListN.{length}
 use Rattle.lists.specs.Numbers.{is, differ, sum, count, over}
 use Rattle.lists.specs.Sums.{is-same, is-other, is-one, is-le, same?, differ-same, differ-other, sum-add, sum-mul, sum-eq, sum-le, sum-single}
 use Rattle.lists.specs.Places.{over-add, over-eq, over-le, over-is}
-use Rattle.model.specs.Flows.{Links, Site, Tree, Route, Multiflow, sites, one, two, sumAt, leaf, side, separates, load, total}
+use Rattle.model.specs.Flows.{Links, Site, Tree, Route, Multiflow, sites, one, two, sumAt, side, separates, load, total}
 use Rattle.model.specs.Whole.{WholePlan, WholeLoads, EndSets, setSize, piece, inPiece, leavingPiece, setSizes, oddPieces}
 use Rattle.model.specs.declared.Pair.{Pair}
 use Rattle.theory_trees.specs.Trees.{all-agree, side-link, separates-self, far-one}
@@ -273,10 +273,10 @@ module _ {ls : Links} {n : ℕ} (T : Tree ls n) (terminal owner : ℕ → ℕ) (
           )
 
 -- for any tree, any capacities, any end sets and any plan in whole circuits that fits
-pub no-sets-do-better : {ls : Links} {n : ℕ} → Tree ls n → (terminal : ℕ → ℕ) → ((v : ℕ) → Site n v → leaf ls v ≡ 1 → terminal v ≡ 1)
-    → (c owner : ℕ → ℕ) → EndSets n terminal owner → (es : List Pair) → WholePlan ls n terminal c es
+pub no-sets-do-better : {ls : Links} {n : ℕ} → Tree ls n → (terminal c owner : ℕ → ℕ) → EndSets n terminal owner
+    → (es : List Pair) → WholePlan ls n terminal c es
     → total es + oddPieces ls n c owner ≤ setSizes ls n terminal c owner
-no-sets-do-better {ls} {n} T terminal _ c owner E es w = omega (
+no-sets-do-better {ls} {n} T terminal c owner E es w = omega (
   arith,
   halved-total es (w .even),
   total-crosses T terminal owner E (halved es) (halved-routes ls n terminal es (w .routes)),

@@ -1,46 +1,64 @@
--- `pairing_walk::visit` meets its contract: each turn adds a terminal, enters a child, or settles a site and goes back.
-use mathlib.Core.Path.{refl, _∙_}
-use Prim.Native.Nat.{suc, _<_}
+-- `pairing_walk::visit` meets its contract: each turn adds a terminal, enters a site, or settles one; a root that is settled makes way for the next.
+use mathlib.Core.Path.{_≡_, refl, sym, ap, _∙_}
+use mathlib.Core.Logic.{_≢_}
+use Prim.Native.Nat.{ℕ, suc, _-_, _<_}
 use native.Mathlib.Omega.{arith}
 use native.Mathlib.Numerals.{add-one}
-use lib.ListN.{length}
+use lib.ListN.{length, set, length-set, length-replicate}
 use Rattle.model.specs.Limits.{PLACES}
 use Rattle.lists.specs.Numbers.{look}
+use Rattle.lists.specs.Sums.{pick-other}
+use Rattle.model.specs.Pairing.{lowestInner}
 use Rattle.tree.specs.Offer.{links}
-use Rattle.pairing_walk.specs.Frames.{sent, Passed}
+use Rattle.pairing_walk.specs.Frames.{bottom, sent, Passed}
+use Rattle.pairing_walk.specs.Visits.{covered, untouched}
 use Rattle.pairing_walk.proofs.Visiting.{alone-room, down-within}
-use Rattle.pairing_walk.proofs.Framing.{Framed, owed, joined, visits, child, walking-settles, few, framed-starts, framed-adds, adds-owed}
-use Rattle.pairing_walk.proofs.Framing.{framed-enters, enters-owed, framed-returns, returns-owed, framed-ends}
+use Rattle.pairing_walk.proofs.Framing.{joined, visits, child, walking-settles, Framed, Between, Long, owed, few, between-starts, between-all}
+use Rattle.pairing_walk.proofs.Framing.{root-enters, framed-roots, roots-owed, framed-adds, adds-owed, framed-enters, enters-owed, framed-ends}
+use Rattle.pairing_walk.proofs.Framing.{framed-returns, returns-owed}
 use Rattle.pairing_walk.proofs.visit.Statement.{statement}
 use Rattle.pairing_walk.proofs.visit.Tie as tie
 
 abbrev Inv-loop : tie.InvT-loop
-Inv-loop root ends last before one two capacity ups₀ downs₀ pairs₀ sites level₀ top₀ frame₀ frames₀ ups downs pairs level top frame frames =
-    Framed ends last before one two capacity root ups₀ downs₀ pairs₀ ups downs pairs level top frame frames
+Inv-loop _ ends last before one two capacity _ ups₀ downs₀ pairs₀ _ _ _ _ _ _ done ups downs pairs level root top frame frames =
+    Framed ends last before one two capacity ups₀ downs₀ pairs₀ ups downs pairs done level root top frame frames
 
 abbrev μ-loop : tie.MeasureT-loop
-μ-loop root ends last before one two capacity ups₀ downs₀ pairs₀ sites level₀ top₀ frame₀ frames₀ ups downs pairs level top frame frames =
-    owed ends last before one two capacity level frame frames
+μ-loop _ ends last before one two capacity _ _ _ _ _ _ _ _ _ _ _ _ _ _ level root _ frame frames =
+    owed ends last before one two capacity root level frame frames
 
 add-sites : tie.Need-add-sites Inv-loop μ-loop
 add-sites c = omega arith
 
-enter-requires : tie.Need-enter-requires Inv-loop μ-loop
-enter-requires c κs = let W = c .before .before .before .before .before .before .pre .0 in record {
-  tree = W .tree;
-  chained = W .chained;
-  site = omega (arith, W .site, W .tree .few);
-  within = omega arith;
-}
+-- no walk has begun
+abbrev begun : (c : tie.Start Inv-loop μ-loop) → let a = c .args in
+    Between (a .ends .now) (a .last .now) (a .before .now) (a .one .now) (a .two .now) (a .capacity .now) (a .ups .now) (a .downs .now) (a .pairs .now)
+    (a .ups .now) (a .downs .now) (a .pairs .now) untouched 0 bottom
+begun c = let a = c .args in
+    between-starts (a .ends .now) (a .last .now) (a .before .now) (a .one .now) (a .two .now) (a .capacity .now) (a .ups .now) (a .downs .now) (a .pairs .now)
+
+-- the first root is the lowest inner site
+first-low : (c : tie.Start Inv-loop μ-loop)
+    → c .args .first ≡ lowestInner (covered (look (c .args .ends .now)) untouched) (suc 0) (suc (length (c .args .one .now)) - 0)
+first-low c =
+    let all : suc (length (c .args .one .now)) - 0 ≡ suc (length (c .args .one .now)) = omega arith in
+    rw all (c .pre .1 .lowest)
+
+enter-root-requires : tie.Need-enter-root-requires Inv-loop μ-loop
+enter-root-requires c κs =
+    let s = c .before .before .before .before .before .before .before in
+    root-enters (s .pre .0) (begun s) (first-low s) (s .pre .1 .some)
 
 loop-holds : tie.Need-loop-holds Inv-loop μ-loop
 loop-holds c =
-    let s = c .before .before .before .before .before .before .before in
-    framed-starts (s .pre .0) (s .pre .1) _ (add-one (length (s .args .one .now))) (c .enter .ensures) _ refl
+    let s = c .before .before .before .before .before .before .before .before in
+    let b = s .pre .1 in
+    rw (b .marked) (framed-roots (s .pre .0) (begun s) (first-low s) (b .some) (b .ups-room) (b .downs-room) (b .pairs-room) (c .enter-root .ensures)
+    _ (add-one (length (s .args .one .now))) _ refl)
 
 -- the function's start, from the loop
 abbrev start : tie.At-loop Inv-loop μ-loop → tie.Start Inv-loop μ-loop
-start c = c .before .before .before .before .before .before .before .before
+start c = c .before .before .before .before .before .before .before .before .before
 
 child-of-requires : tie.Need-child-of-requires Inv-loop μ-loop
 child-of-requires c κs =
@@ -81,6 +99,9 @@ loop-again c =
     let e = rw (t .before .child-of .ensures) at (r .alone .ensures) in
     framed-adds (t .before .before .before .loop .inv) (t .before .before .if1 .taken) (passed t) (i .if2 .taken) (e .0) (e .1 .0) (e .1 .1)
 
+slice-write-done : tie.Need-slice-write-done Inv-loop μ-loop
+slice-write-done c = let t = c .before .before in omega (arith, t .before .before .if1 .taken, t .before .before .before .loop .inv .marked .places)
+
 mul-frames : tie.Need-mul-frames Inv-loop μ-loop
 mul-frames c = omega (arith, few (c .before .before .before .before .before .loop .inv))
 
@@ -90,8 +111,8 @@ array-set-from-frames c = omega (arith, few (c .before .before .before .before .
 sub-level : tie.Need-sub-level Inv-loop μ-loop
 sub-level c = omega (arith, few (c .before .before .before .before .before .loop .inv))
 
-enter-requires-2 : tie.Need-enter-requires-2 Inv-loop μ-loop
-enter-requires-2 c κs =
+enter-requires : tie.Need-enter-requires Inv-loop μ-loop
+enter-requires c κs =
     let t = c .before .before in
     let W = visits (t .before .before .before .loop .inv .walking) (t .before .before .if1 .taken) in
     record {
@@ -105,46 +126,34 @@ loop-less-2 : tie.Need-loop-less-2 Inv-loop μ-loop
 loop-less-2 c =
     let t = c .before .before .before in
     enters-owed (t .before .before .before .loop .inv) (t .before .before .if1 .taken) (passed t) (c .before .if2 .left)
-    (rw (t .before .child-of .ensures) at (c .enter2 .ensures))
+    (rw (t .before .child-of .ensures) at (c .enter .ensures))
 
 loop-again-2 : tie.Need-loop-again-2 Inv-loop μ-loop
 loop-again-2 c =
     let t = c .before .before .before in
     framed-enters (t .before .before .before .loop .inv) (t .before .before .if1 .taken) (passed t) (c .before .if2 .left)
-    (rw (t .before .child-of .ensures) at (c .enter2 .ensures))
+    (rw (t .before .child-of .ensures) at (c .enter .ensures))
 
 settle-requires : tie.Need-settle-requires Inv-loop μ-loop
 settle-requires c κs = let e = c .before .before .before .before in
     walking-settles (e .before .loop .inv .walking) (e .if1 .left)
 
--- a site has been settled
-abbrev settled : tie.After-slice-known8 Inv-loop μ-loop → tie.After-settle Inv-loop μ-loop
-settled c = c .before .before .before .before .before .before
+-- ---- a site has been settled
 
 abbrev past : tie.After-settle Inv-loop μ-loop → tie.Else1 Inv-loop μ-loop
 past s = s .before .before .before .before .before
 
-same-length : tie.Need-same-length Inv-loop μ-loop
-same-length c = let s = settled (c .before) in s .settle .kept .1 .0 ∙ past s .before .loop .inv .ups-long
-
-same-length-2 : tie.Need-same-length-2 Inv-loop μ-loop
-same-length-2 c = let s = settled (c .before) in s .settle .kept .1 .1 .0 ∙ past s .before .loop .inv .downs-long
-
-same-length-3 : tie.Need-same-length-3 Inv-loop μ-loop
-same-length-3 c = let s = settled (c .before) in s .settle .kept .1 .1 .1 .0 ∙ past s .before .loop .inv .pairs-long
-
-returns : tie.Need-returns Inv-loop μ-loop
-returns c =
-    let s = settled (c .before) in
-    framed-ends (past s .before .loop .inv) (past s .if1 .left) (s .settle .ensures) (omega (arith, c .if3 .taken))
+-- one that is no root
+abbrev settled : tie.Then3 Inv-loop μ-loop → tie.After-settle Inv-loop μ-loop
+settled c = c .before .before .before .before .before .before .before
 
 -- the frame above is that of a site, not above the root's
-not-root : (c : tie.Else3 Inv-loop μ-loop) → let e = past (settled (c .before)) .before in
+not-root : (c : tie.Then3 Inv-loop μ-loop) → let e = past (settled c) .before in
     (e .loop .level < suc (length (start e .args .one .now))) × (suc (length (start e .args .one .now)) < PLACES)
 not-root c =
-    let e = past (settled (c .before)) .before in
+    let e = past (settled c) .before in
     let f = few (e .loop .inv) in
-    (omega (arith, f .0, c .if3 .left), f .1)
+    (omega (arith, f .0, c .if3 .taken), f .1)
 
 add-level : tie.Need-add-level Inv-loop μ-loop
 add-level c = omega (arith, not-root c)
@@ -157,13 +166,93 @@ array-copy-out-frame c = omega (arith, not-root c)
 
 loop-less-3 : tie.Need-loop-less-3 Inv-loop μ-loop
 loop-less-3 c =
-    let s = settled (c .before .before) in
+    let s = settled (c .before) in
     returns-owed (past s .before .loop .inv) (past s .if1 .left) (s .settle .ensures) (not-root (c .before) .0) _
 
 loop-again-3 : tie.Need-loop-again-3 Inv-loop μ-loop
 loop-again-3 c =
-    let s = settled (c .before .before) in
+    let s = settled (c .before) in
     framed-returns (past s .before .loop .inv) (past s .if1 .left) (s .settle .ensures) (not-root (c .before) .0) _
+
+-- ---- a root has been settled
+
+abbrev whole : tie.Else3 Inv-loop μ-loop → tie.After-settle Inv-loop μ-loop
+whole c = c .before .before .before .before .before .before .before
+
+abbrev args : (c : tie.Else3 Inv-loop μ-loop) → tie.Start Inv-loop μ-loop
+args c = start (past (whole c) .before)
+
+between : (c : tie.Else3 Inv-loop μ-loop) → let s = whole c in let l = past s .before .loop in let a = args c .args in
+    Between (a .ends .now) (a .last .now) (a .before .now) (a .one .now) (a .two .now) (a .capacity .now) (a .ups .now) (a .downs .now) (a .pairs .now)
+    (s .settle .last .1 .0) (s .settle .last .1 .1 .0) (s .settle .last .1 .1 .1 .0) (l .done) (l .root) (s .settle .result)
+between c =
+    let s = whole c in
+    framed-ends (past s .before .loop .inv) (past s .if1 .left) (s .settle .ensures) (omega (arith, c .if3 .left))
+
+next-root-requires : tie.Need-next-root-requires Inv-loop μ-loop
+next-root-requires c κs =
+    let F = past (whole (c .before)) .before .loop .inv in
+    (omega (arith, F .roots), omega (arith, few F, F .marked .places), omega (arith, few F))
+
+-- the next root is the lowest inner site that is not done
+low : (c : tie.After-next-root Inv-loop μ-loop) → let l = past (whole (c .before .before)) .before .loop in
+    let a = args (c .before .before) .args in
+    c .next-root .result ≡ lowestInner (covered (look (a .ends .now)) (l .done)) (suc (l .root)) (suc (length (a .one .now)) - l .root)
+low c = rw (add-one (length (args (c .before .before) .args .one .now))) at (c .next-root .ensures .0)
+
+-- it is done now
+marks : (c : tie.After-next-root Inv-loop μ-loop) → c .next-root .result ≢ 0
+    → c .next-root .last .1 .1 .1 .0 ≡ set (past (whole (c .before .before)) .before .loop .done) (c .next-root .result) 1
+marks c d =
+    let done = past (whole (c .before .before)) .before .loop .done in
+    c .next-root .ensures .1 ∙ pick-other d done (set done (c .next-root .result) 1)
+
+same-length : tie.Need-same-length Inv-loop μ-loop
+same-length c =
+    let r = c .before .before .before in
+    let l = past (whole (r .before .before)) .before in
+    let a = start l in
+    r .next-root .kept .1 .1 .1 .0 ∙ l .loop .inv .marked .places
+    ∙ sym (ap length (a .pre .1 .marked) ∙ length-set untouched (a .args .first) 1 ∙ length-replicate {A = ℕ} PLACES 0)
+
+-- the three arrays are as long as they were
+abbrev long : (c : tie.Else3 Inv-loop μ-loop) → let s = whole c in let a = args c .args in
+    Long (a .ends .now) (a .last .now) (a .before .now) (a .one .now) (a .two .now) (a .capacity .now) (a .ups .now) (a .downs .now) (a .pairs .now)
+    (s .settle .last .1 .0) (s .settle .last .1 .1 .0) (s .settle .last .1 .1 .1 .0)
+long c = between c .long
+
+returns : tie.Need-returns Inv-loop μ-loop
+returns c =
+    let r = c .before .before .before in
+    let e = r .before .before in
+    between-all (args e .pre .0) (between e) (sym (c .if4 .taken) ∙ low r)
+
+enter-root-requires-2 : tie.Need-enter-root-requires-2 Inv-loop μ-loop
+enter-root-requires-2 c κs =
+    let r = c .before .before .before in
+    let e = r .before .before in
+    root-enters (args e .pre .0) (between e) (low r) (c .if4 .left)
+
+last-level : (c : tie.Else3 Inv-loop μ-loop) → past (whole c) .before .loop .level ≡ suc (length (args c .args .one .now))
+last-level c = omega (arith, few (past (whole c) .before .loop .inv), c .if3 .left)
+
+loop-less-4 : tie.Need-loop-less-4 Inv-loop μ-loop
+loop-less-4 c =
+    let i = c .before in
+    let r = i .before .before .before in
+    let e = r .before .before in
+    let b = args e .pre .1 in
+    roots-owed (args e .pre .0) (between e) (low r) (i .if4 .left) (b .ups-room) (b .downs-room) (b .pairs-room) (c .enter-root2 .ensures)
+    _ (last-level e) (past (whole e) .before .loop .frames) _ _
+
+loop-again-4 : tie.Need-loop-again-4 Inv-loop μ-loop
+loop-again-4 c =
+    let i = c .before in
+    let r = i .before .before .before in
+    let e = r .before .before in
+    let b = args e .pre .1 in
+    rw (marks r (i .if4 .left)) (framed-roots (args e .pre .0) (between e) (low r) (i .if4 .left) (b .ups-room) (b .downs-room) (b .pairs-room)
+    (c .enter-root2 .ensures) _ (last-level e) _ (past (whole e) .before .loop .inv .places))
 
 pub visit-spec : {M : Type 1} → statement M
 visit-spec =
@@ -172,7 +261,7 @@ visit-spec =
     Inv-loop
     μ-loop
     add-sites
-    enter-requires
+    enter-root-requires
     loop-holds
     child-of-requires
     pass-requires
@@ -180,19 +269,25 @@ visit-spec =
     alone-requires
     loop-less
     loop-again
+    slice-write-done
     mul-frames
     array-set-from-frames
     sub-level
-    enter-requires-2
+    enter-requires
     loop-less-2
     loop-again-2
     settle-requires
-    same-length
-    same-length-2
-    same-length-3
-    returns
     add-level
     mul-frame
     array-copy-out-frame
     loop-less-3
-    loop-again-3)
+    loop-again-3
+    next-root-requires
+    same-length
+    (λ c. long (c .before .before .before .before .before) .ups)
+    (λ c. long (c .before .before .before .before .before) .downs)
+    (λ c. long (c .before .before .before .before .before) .pairs)
+    returns
+    enter-root-requires-2
+    loop-less-4
+    loop-again-4)
