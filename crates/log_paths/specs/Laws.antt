@@ -1,7 +1,8 @@
 -- Separation in a tree, for callers: a number that is no link's separates nothing, and seen from any site r a link separates a and b just where it
--- separates one of them from r.
+-- separates one of them from r. The path of two sites by a table has links only.
 use mathlib.Core.Path.{_≡_, sym, _∙_}
-use Prim.Native.Nat.{ℕ, _+_, _≤_}
+use mathlib.Core.List.{List}
+use Prim.Native.Nat.{ℕ, _+_, _≤_, _<_}
 use native.Mathlib.Decide.{decLt}
 use native.Mathlib.Omega.{arith}
 use lib.ListN.{length}
@@ -9,6 +10,9 @@ use Rattle.lists.specs.Numbers.{differ}
 use Rattle.lists.specs.Sums.{same?, cases, differ-same, differ-other, differ-triangle}
 use Rattle.model.specs.Flows.{Links, Site, Tree, side, separates}
 use Rattle.theory_trees.specs.Trees.{separates-le, separates-comm, separates-triple, separates-same, without-none}
+use Rattle.tree_sets.specs.Members.{member}
+use Rattle.tree_sets.specs.declared.Set.{Set}
+use Rattle.log_paths.specs.Tables.{Table, PathBy}
 
 two-of-three : (x y z : ℕ) → x ≤ 1 → y ≤ 1 → z ≤ 1 → x + y + z ≤ 2 → z ≤ x + y → x ≤ y + z → y ≤ x + z → differ x y ≡ z
 two-of-three x y z a b c t p q r = same? x y
@@ -33,3 +37,9 @@ module _ {ls : Links} {n : ℕ} (T : Tree ls n) where
       (triangle j r a b))
       (λ l. let none : (x y : ℕ) → Site n x → Site n y → separates ls j x y ≡ 0 = λ x y. what-is-no-link-separates-nothing j x y (omega arith) in
       differ-same (none r a p q ∙ sym (none r b p s)) ∙ sym (none a b q s))
+
+  pub a-path-has-links-only : {rows : List ℕ} {a b : ℕ} (path : Set) → Table ls n rows → Site n a → Site n b → PathBy rows a b path
+      → (j : ℕ) → member path j ≡ 1 → j < length ls
+  a-path-has-links-only {a = a} {b = b} path table p q by j o = cases (decLt j (length ls))
+      (λ l. l)
+      (λ l. absurd (omega (arith, by ls n T table p q j, what-is-no-link-separates-nothing j a b (omega arith) p q)))

@@ -1,3 +1,4 @@
 pub mod Tables
 pub mod Laws
 pub mod Rows
+pub mod Search

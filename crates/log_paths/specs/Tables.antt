@@ -1,11 +1,13 @@
 -- The table of paths of a tree: for each site the links between it and one root, as a row of bits; the path of two sites is where their rows differ.
--- Document 02, Card 6 (a link on the path).
+-- Document 02, Cards 6 and 7 (a link on the path).
 use mathlib.Core.Path.{_≡_}
 use mathlib.Core.List.{List}
 use Prim.Native.Nat.{ℕ, _+_, _*_, _/_, _%_, _≤_, _<_}
 use Rattle.model.specs.Limits.{SITES, WORDS}
 use Rattle.lists.specs.Numbers.{look}
 use Rattle.model.specs.Flows.{Links, Site, Tree, separates}
+use Rattle.tree.specs.Offer.{links}
+use Rattle.tree.specs.Accepted.{TreeOf}
 use Rattle.tree_sets.specs.Members.{bit, member}
 use Rattle.tree_sets.specs.declared.Set.{Set}
 
@@ -20,6 +22,11 @@ pub record Table (ls : Links) (n : ℕ) (rows : List ℕ) : Type 0 where
   pub root-site : Site n root
   pub told : (j v : ℕ) → j < SITES → Site n v → inTable rows j v ≡ separates ls j root v
   pub others : (j v : ℕ) → j < SITES → (Site n v → ⊥) → inTable rows j v ≡ 0
+
+-- the links of a tree of n sites, at most SITES, with its table of paths
+pub record Mapped (n : ℕ) (one two rows : List ℕ) : Type 0 where
+  pub tree : TreeOf SITES n one two
+  pub table : Table (links one two) n rows
 
 -- the path of a and b by a table: the links that separate them, in whatever tree the table is one of
 abbrev pub PathBy : List ℕ → ℕ → ℕ → Set → Type 0

@@ -4,17 +4,22 @@ use model::PLACES;
 use model::ROWS;
 use model::SITES;
 use model::WORDS;
+use tree_sets::Found;
 use tree_sets::Set;
+ghost use mathlib.Core.Bool.{not};
 ghost use mathlib.Core.Path.{_≡_};
 ghost use mathlib.Core.Logic.{_≢_};
 ghost use Prim.Native.Nat.{ℕ, _≤_, _<_};
+ghost use lib.Dec.{eqb};
 ghost use lib.ListN.{length};
 ghost use Rattle.model.specs.Limits.{ROWS, SITES};
 ghost use Rattle.model.specs.Edition.{largest};
+ghost use Rattle.model.specs.Flows.{Site};
+ghost use Rattle.model.specs.Parts.{another, crossed, freePair};
 ghost use Rattle.lists.specs.Numbers.{look};
-ghost use Rattle.tree.specs.Accepted.{TreeWithin};
+ghost use Rattle.tree.specs.Accepted.{MarkedTree};
 ghost use Rattle.tree.specs.Offer.{links};
-ghost use Rattle.log_paths.specs.Tables.{Table, PathBy};
+ghost use Rattle.log_paths.specs.Tables.{Table, Mapped, PathBy};
 ghost use Rattle.log_paths.specs.Rows.{single, Extended, LinksUp, Outward, Spread};
 
 // Word q of the set that has only the number j.
@@ -75,11 +80,11 @@ fn outward(
 }
 
 // The table of paths of a tree: for each site the links between it and the root, the site that is taken last.
-pub fn paths(n: usize, one: &[usize], two: &[usize], capacity: &[u64]) -> [u64; ROWS]
-    requires { ⌜ TreeWithin largest n (now one) (now two) (now capacity) ⌝ }
+pub fn paths(n: usize, one: &[usize], two: &[usize], marks: &[u8], capacity: &[u64]) -> [u64; ROWS]
+    requires { ⌜ MarkedTree largest n (now one) (now two) (now marks) (now capacity) ⌝ }
     ensures { λ r. ⌜ Table (links (now (one .entry)) (now (two .entry))) n r ⌝ }
 {
-    let tree = tree::eliminate(n, one, two, capacity);
+    let tree = tree::eliminate(n, one, two, marks, capacity);
     let order = tree.sites;
     let parents = whole_parents::parents_of(n, &order, one, two, capacity);
     let child = parents.child;
@@ -98,4 +103,72 @@ pub fn between(rows: &[u64; ROWS], a: usize, b: usize) -> Set
         words[q] = rows[a * WORDS + q] ^ rows[b * WORDS + q];
     }
     Set { words }
+}
+
+// Whether a site is an end other than a and b.
+fn another(ends: &[u8; PLACES], a: usize, b: usize, site: usize) -> bool
+    requires { ⌜ site ≤ SITES ⌝ }
+    ensures { λ r. ⌜ r ≡ eqb (another (look (now (ends .entry))) a b site) 1 ⌝ }
+{
+    if site == a {
+        return false;
+    }
+    if site == b {
+        return false;
+    }
+    ends[site] == 1
+}
+
+// Whether another end stands on the path of two sites: at a link between them.
+fn crossed(
+    n: usize,
+    one: &[usize],
+    two: &[usize],
+    rows: &[u64; ROWS],
+    ends: &[u8; PLACES],
+    a: usize,
+    b: usize,
+) -> bool
+    requires { ⌜ Mapped n (now one) (now two) (now rows) × Site n a × Site n b ⌝ }
+    ensures { λ r. ⌜ r ≡ not (eqb (crossed (links (now (one .entry)) (now (two .entry))) (look (now (ends .entry))) a b) 0) ⌝ }
+{
+    let path = between(rows, a, b);
+    let mut p: usize = 0;
+    loop {
+        let Found::At(link) = path.next(p) else {
+            return false;
+        };
+        if another(ends, a, b, one[link]) {
+            return true;
+        }
+        if another(ends, a, b, two[link]) {
+            return true;
+        }
+        p = link + 1;
+    }
+}
+
+// Whether two sites are two different ends with no other end on their path.
+pub fn free(
+    n: usize,
+    one: &[usize],
+    two: &[usize],
+    rows: &[u64; ROWS],
+    ends: &[u8; PLACES],
+    a: usize,
+    b: usize,
+) -> bool
+    requires { ⌜ Mapped n (now one) (now two) (now rows) × Site n a × Site n b ⌝ }
+    ensures { λ r. ⌜ r ≡ eqb (freePair (links (now (one .entry)) (now (two .entry))) (look (now (ends .entry))) a b) 1 ⌝ }
+{
+    if ends[a] != 1 {
+        return false;
+    }
+    if ends[b] != 1 {
+        return false;
+    }
+    if a == b {
+        return false;
+    }
+    !crossed(n, one, two, rows, ends, a, b)
 }

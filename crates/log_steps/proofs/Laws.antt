@@ -24,7 +24,7 @@ use Rattle.theory_log.specs.Pairs.{grow-load, shrink-load}
 use Rattle.theory_log.specs.Answers.{overfilled-some, overfilled-by, says-15, says-16, opens-new, opens-more, says-14, gives-up}
 use Rattle.theory_log.specs.Requests.{lower-amount, lower-entry, entry-at, an-open-amount-is-at-most-twice-a-capacity}
 use Rattle.log_paths.specs.Tables.{PathBy}
-use Rattle.log_paths.specs.Laws.{what-is-no-link-separates-nothing}
+use Rattle.log_paths.specs.Laws.{what-is-no-link-separates-nothing, a-path-has-links-only}
 use Rattle.log_pairs.specs.Arrays.{none, entries, Held, FirstPlace, Growing, Shrinking}
 use Rattle.log_pairs.specs.Found.{a-pair-that-is-found-has-its-amount-open, a-pair-that-is-not-found-has-nothing-open}
 use Rattle.log_pairs.specs.Rows.{length-entries, entries-at}
@@ -75,13 +75,7 @@ module _ {n count : ℕ} {one two c rows f s m l : List ℕ} (g : Given n one tw
       on-path j = by (links one two) n (g .within .tree) (g .table) (w .entry .first-site) (w .entry .second-site) j
 
       links-only : (j : ℕ) → member path j ≡ 1 → j < length c
-      links-only j e = cases (decLt j (length c))
-          (λ i. i)
-          (λ i. absurd (omega (
-            arith,
-            on-path j,
-            what-is-no-link-separates-nothing (g .within .tree) j (p .first) (p .second) (omega (arith, many)) (w .entry .first-site) (w .entry .second-site),
-          )))
+      links-only j o = omega (arith, many, a-path-has-links-only (g .within .tree) path (g .table) (w .entry .first-site) (w .entry .second-site) by j o)
 
       pub measured : Measured path (p .amount) c l
       measured = record { few = let v = g .within in omega arith; links = links-only; capacities = g .within .limited; loads = load-small; small = w .limited }

@@ -9,15 +9,21 @@ use native.Mathlib.Omega.{arith}
 use lib.ListN.{length, take, drop, getD, length-map, List·getD-append}
 use Rattle.lists.specs.Numbers.{look, Each}
 use Rattle.model.specs.Limits.{OPEN}
-use Rattle.model.specs.Flows.{load, ends}
+use Rattle.lists.specs.Tallies.{each-both}
+use Rattle.model.specs.Flows.{Route, Multiflow, load}
+use Rattle.model.specs.Parts.{freePair}
 use Rattle.model.specs.Booking.{placesOf, answer, after, opened, givenUp, Asked, Entry}
+use Rattle.model.specs.declared.Edition.{Edition}
 use Rattle.model.specs.declared.Pair.{Pair}
 use Rattle.model.specs.declared.Request.{Request}
 use Rattle.model.specs.declared.Request.the-variants as request
+use Rattle.theory_trees.specs.FreePairs.{free-iff-route}
+use Rattle.theory_log.specs.Pairs.{Sites}
 use Rattle.theory_log.specs.Logs as theory
-use Rattle.sheet.specs.Sheet.{Network}
-use Rattle.logs.specs.Log.{lines, requestAt, requests, requestsOf, answersOf}
-use Rattle.logs.specs.LogLaws.{the-requests-can-be-asked}
+use Rattle.sheet.specs.Sheet.{Network, readSheet, accepted}
+use Rattle.sheet.specs.SheetTheorem.{an-accepted-sheet-is-a-tree}
+use Rattle.logs.specs.Log.{lines, requestAt, requests, isEnd, requestsOf, answersOf}
+use Rattle.logs.specs.LogLaws.{Free, the-requests-can-be-asked, the-requests-open-free-pairs-only}
 use Rattle.logs.specs.Causes as cause
 use Rattle.logs.specs.Outcome.{Replayed}
 use Rattle.logs.specs.Told.{AllAnswered}
@@ -29,9 +35,6 @@ at-place f (x ∷ l) zero d h = refl
 at-place f (x ∷ l) (suc i) d h = at-place f l i d (omega arith)
 
 module _ (s : List ℕ) (net : Network) (log : List ℕ) where
-  abbrev endsOf : ℕ → ℕ
-  endsOf = look (ends (net .links) (length (net .names)))
-
   abbrev capacityOf : ℕ → ℕ
   capacityOf = look (net .capacities)
 
@@ -59,11 +62,13 @@ module _ (s : List ℕ) (net : Network) (log : List ℕ) where
     pub few : length (openAfter i) ≤ OPEN
     -- each is a pair of two sites, the lower one first, with an amount above 0
     pub entries : Each (Entry (length (net .names))) (openAfter i)
+    -- its sites are two different ends with no other end on their path
+    pub free : Each (λ e. freePair (net .links) (isEnd net) (e .first) (e .second) ≡ 1) (openAfter i)
     -- and all are different
     pub once : (a b : ℕ) → placesOf a b (openAfter i) ≤ 1
 
   asked : Each (Asked (length (net .names))) (requestsOf s net log)
-  asked = the-requests-can-be-asked s (net .names) endsOf log
+  asked = the-requests-can-be-asked s (net .names) (net .links) (isEnd net) log
 
   -- after every line
   pub after-every-line : (i : ℕ) → Holds i
@@ -73,20 +78,31 @@ module _ (s : List ℕ) (net : Network) (log : List ℕ) where
     fits = theory.after-every-line-no-load-is-above-twice-the-capacity (net .links) capacityOf number (requestsOf s net log) asked i;
     few = theory.after-every-line-at-most-OPEN-pairs-are-open (net .links) capacityOf number (requestsOf s net log) asked i;
     entries = theory.after-every-line-each-open-pair-has-an-amount (net .links) capacityOf number (requestsOf s net log) asked i;
+    free = theory.after-every-line-only-what-the-lines-open-is-open (net .links) capacityOf (Free (net .links) (isEnd net)) (requestsOf s net log)
+        (the-requests-open-free-pairs-only s (net .names) (net .links) (isEnd net) log) i;
     once = theory.after-every-line-the-open-pairs-are-different (net .links) capacityOf number (requestsOf s net log) asked i;
   }
+
+  -- over an accepted sheet what is open is a plan: each entry joins two ends free to be joined (01: plan)
+  pub what-is-open-is-a-multiflow : (ed : Edition) → readSheet ed s ≡ accepted net → (i : ℕ) → Multiflow (net .links) number (isEnd net) (openAfter i)
+  what-is-open-is-a-multiflow ed e i =
+      let holds = after-every-line i in
+      each-both (Entry number) (Sites (Free (net .links) (isEnd net))) (Route (net .links) number (isEnd net))
+      (λ p here free. free-iff-route (net .links) (isEnd net) number (an-accepted-sheet-is-a-tree ed s net e .tree .ends) p
+      (here .first-site) (here .second-site) .0 free)
+      (openAfter i) (holds .entries) (holds .free)
 
   -- each line gets one answer
   pub each-line-gets-one-answer : length (answersOf s net log) ≡ length (lines log)
   unfolding requests
   each-line-gets-one-answer =
       theory.each-line-gets-one-answer (net .links) capacityOf [] (requestsOf s net log)
-      ∙ length-map (lines log) (requestAt s (net .names) endsOf log)
+      ∙ length-map (lines log) (requestAt s (net .names) (net .links) (isEnd net) log)
 
   module _ (i : ℕ) (here : i < length (lines log)) where
     counted : i < length (requestsOf s net log)
     unfolding requests
-    counted = omega (arith, length-map (lines log) (requestAt s (net .names) endsOf log))
+    counted = omega (arith, length-map (lines log) (requestAt s (net .names) (net .links) (isEnd net) log))
 
     -- a refused line moves nothing
     pub a-refused-line-moves-nothing : look (answersOf s net log) i ≢ 0 → openAfter (suc i) ≡ openAfter i
@@ -94,25 +110,26 @@ module _ (s : List ℕ) (net : Network) (log : List ℕ) where
     a-refused-line-moves-nothing = theory.a-refused-line-moves-nothing (net .links) capacityOf [] (requestsOf s net log) i counted
 
     -- its answer is that to what it asks, where the lines before it are done
-    pub the-answer-to-a-line :
-        look (answersOf s net log) i ≡ answer (net .links) capacityOf (openAfter i) (requestAt s (net .names) endsOf log (look (lines log) i))
+    pub the-answer-to-a-line : look (answersOf s net log) i
+        ≡ answer (net .links) capacityOf (openAfter i) (requestAt s (net .names) (net .links) (isEnd net) log (look (lines log) i))
     unfolding openAfter requests
     the-answer-to-a-line =
         theory.a-line-is-answered-after-those-before-it (net .links) capacityOf [] (requestsOf s net log) i counted
-        ∙ ap (answer (net .links) capacityOf (openAfter i)) (at-place (requestAt s (net .names) endsOf log) (lines log) i (request.Fault 0) here)
+        ∙ ap (answer (net .links) capacityOf (openAfter i))
+        (at-place (requestAt s (net .names) (net .links) (isEnd net) log) (lines log) i (request.Fault 0) here)
 
     -- why it gets a number
     abbrev pub Cause : ℕ → Type 0
-    Cause = cause.Cause s (net .names) endsOf (net .links) capacityOf (openAfter i) log (look (lines log) i)
+    Cause = cause.Cause s (net .names) (net .links) (isEnd net) capacityOf (openAfter i) log (look (lines log) i)
 
     -- each number just for its cause, and 0 just where no cause applies
     pub a-line-gets-a-number-just-for-its-cause : (k : ℕ) → k ≢ 0 → (look (answersOf s net log) i ≡ k) ↔ Cause k
     a-line-gets-a-number-just-for-its-cause k d = rw the-answer-to-a-line
-        (cause.a-line-gets-a-number-just-for-its-cause s (net .names) endsOf (net .links) capacityOf (openAfter i) log (look (lines log) i) k d)
+        (cause.a-line-gets-a-number-just-for-its-cause s (net .names) (net .links) (isEnd net) capacityOf (openAfter i) log (look (lines log) i) k d)
 
     pub a-line-gets-0-just-where-no-cause-applies : (look (answersOf s net log) i ≡ 0) ↔ ((k : ℕ) → ¬ (Cause k))
     a-line-gets-0-just-where-no-cause-applies = rw the-answer-to-a-line
-        (cause.a-line-gets-0-just-where-no-cause-applies s (net .names) endsOf (net .links) capacityOf (openAfter i) log (look (lines log) i))
+        (cause.a-line-gets-0-just-where-no-cause-applies s (net .names) (net .links) (isEnd net) capacityOf (openAfter i) log (look (lines log) i))
 
 -- ---- as lent back
 

@@ -1,5 +1,5 @@
--- Why a line of a log gets a number, in the order of document 02, Card 6: form faults, 3, 6, then for `-` 14, for `+` 15, then 16. Each number just for its
--- cause, and 0 just where no cause applies. By the line, the look-ups of its names, and what is open.
+-- Why a line of a log gets a number, in the order of document 02, Cards 6 and 7: form faults, 3, 6, then for `-` 14, for `+` 15, then 16. Each number just
+-- for its cause, and 0 just where no cause applies. By the line, the look-ups of its names, the path between its ends, and what is open.
 use mathlib.Core.Bool.{Bool, true, false}
 use mathlib.Core.List.{List}
 use mathlib.Core.Logic.{_⊎_, inl, inr, ⊎-elim, _↔_, _≢_}
@@ -10,10 +10,12 @@ use native.Mathlib.Decide.{decLt}
 use lib.ListN.{length}
 use Rattle.lists.specs.Sums.{same?, cases, contradiction}
 use Rattle.model.specs.Flows.{Links}
+use Rattle.model.specs.Parts.{crossed, freePair}
 use Rattle.model.specs.Pairing.{lowerFirst}
 use Rattle.model.specs.Booking.{pair, openOf, answer}
 use Rattle.model.specs.declared.Pair.{Pair}
 use Rattle.model.specs.declared.Request.the-variants as request
+use Rattle.theory_trees.specs.FreePairs.{Crossing, crossed-by, crossed-some, free-parts, free-whole}
 use Rattle.theory_log.specs.Answers.{Overfilled, NoPlace, Opening, overfills, crowds, fits, opening, says-14, says-15, gives-up, overfilled-by}
 use Rattle.theory_log.specs.Answers.{answered-16-exactly-where-nothing-is-overfilled-and-there-is-no-place}
 use Rattle.text_lines.specs.Lines.{lineAt}
@@ -28,7 +30,7 @@ use Rattle.log_lines.specs.FaultyLogLines.{a-log-line-is-a-fault-just-for-its-c
 use Rattle.log_lines.specs.declared.Line.{Line}
 use Rattle.log_lines.specs.declared.Line.the-variants.{Booking, Fault}
 use Rattle.logs.specs.Log.{requestFor, between, requestBy, requestAt}
-use Rattle.logs.specs.LogLaws.{unended-line, ended-line, first-is-no-end, second-is-no-end, one-site-twice, two-different-ends}
+use Rattle.logs.specs.LogLaws.{unended-line, ended-line, a-free-pair-is-asked-for, a-pair-that-is-not-free-gets-6}
 
 -- the line at an offset of a log is ended, well formed, and its amount is within the limit
 pub record Asking (opens : Bool) (log : List ℕ) (at : ℕ) : Type 0 where
@@ -39,15 +41,29 @@ pub record Asking (opens : Bool) (log : List ℕ) (at : ℕ) : Type 0 where
 abbrev pub amountOf : List ℕ → ℕ → ℕ
 amountOf log at = value (field (fields (lineAt log at)) 3)
 
--- over the names of the sheet s, its ends t, links and capacities c; es is what is open
-module _ (s : List ℕ) (names : List (ℕ × ℕ)) (t : ℕ → ℕ) (ls : Links) (c : ℕ → ℕ) (es : List Pair) (log : List ℕ) (at : ℕ) where
-  -- the two names are those of two different ends a and b
+-- over the names of the sheet s, its links, ends t and capacities c; es is what is open
+module _ (s : List ℕ) (names : List (ℕ × ℕ)) (ls : Links) (t : ℕ → ℕ) (c : ℕ → ℕ) (es : List Pair) (log : List ℕ) (at : ℕ) where
+  -- what the look-ups of the two names find
+  abbrev pub firstFound : Found
+  firstFound = lookup s names (field (fields (lineAt log at)) 1)
+
+  abbrev pub secondFound : Found
+  secondFound = lookup s names (field (fields (lineAt log at)) 2)
+
+  -- the two names are those of a and b, two different ends with no other end on their path
   pub record TwoEnds (a b : ℕ) : Type 0 where
-    pub first : lookup s names (field (fields (lineAt log at)) 1) ≡ At a
-    pub second : lookup s names (field (fields (lineAt log at)) 2) ≡ At b
-    pub first-end : t a ≡ 1
-    pub second-end : t b ≡ 1
-    pub different : a ≢ b
+    pub first : firstFound ≡ At a
+    pub second : secondFound ≡ At b
+    pub free : freePair ls t a b ≡ 1
+
+  -- they are not: a name is not given, or that of a site that is no end, or they are those of one site, or another end stands on the path
+  pub data NotTwoEnds : Type 0 where
+    first-not-given : firstFound ≡ Absent → NotTwoEnds
+    second-not-given : secondFound ≡ Absent → NotTwoEnds
+    first-no-end : {a : ℕ} → firstFound ≡ At a → t a ≢ 1 → NotTwoEnds
+    second-no-end : {b : ℕ} → secondFound ≡ At b → t b ≢ 1 → NotTwoEnds
+    one-site : {a : ℕ} → firstFound ≡ At a → secondFound ≡ At a → NotTwoEnds
+    another-end : {a b : ℕ} → firstFound ≡ At a → secondFound ≡ At b → Crossing ls t a b → NotTwoEnds
 
   -- the pair that the line means, the lower site first: the names may stand in either order
   abbrev pub meant : ℕ → ℕ → Pair
@@ -57,7 +73,7 @@ module _ (s : List ℕ) (names : List (ℕ × ℕ)) (t : ℕ → ℕ) (ls : Link
   pub data Cause : ℕ → Type 0 where
     unended : length log ≤ at + length (lineAt log at) → Cause 2
     malformed : {k : ℕ} → at + length (lineAt log at) < length log → LineFault (lineAt log at) k → Cause k
-    not-two-ends : {opens : Bool} → Asking opens log at → ((a b : ℕ) → ¬ (TwoEnds a b)) → Cause 6
+    not-two-ends : {opens : Bool} → Asking opens log at → NotTwoEnds → Cause 6
     less-open : {a b : ℕ} → Asking false log at → TwoEnds a b → openOf (meant a b .first) (meant a b .second) es < meant a b .amount → Cause 14
     overfilling : {a b : ℕ} → Asking true log at → TwoEnds a b → Overfilled ls c es (meant a b) → Cause 15
     no-place : {a b : ℕ} → Asking true log at → TwoEnds a b → (¬ (Overfilled ls c es (meant a b))) → NoPlace ls c es (meant a b) → Cause 16
@@ -65,7 +81,7 @@ module _ (s : List ℕ) (names : List (ℕ × ℕ)) (t : ℕ → ℕ) (ls : Link
   -- ---- what the line asks
 
   asked-by-fields : {opens : Bool} → Asking opens log at → let fs = fields (lineAt log at) in
-      requestAt s names t log at ≡ between t opens (amountOf log at) (lookup s names (field fs 1)) (lookup s names (field fs 2))
+      requestAt s names ls t log at ≡ between ls t opens (amountOf log at) (lookup s names (field fs 1)) (lookup s names (field fs 2))
   unfolding requestAt requestBy
   asked-by-fields {opens} k =
       let l = lineAt log at in
@@ -76,50 +92,54 @@ module _ (s : List ℕ) (names : List (ℕ × ℕ)) (t : ℕ → ℕ) (ls : Link
         name-is-field-2 l opens (k .asks .formed),
       )
 
-  asked-between : {opens : Bool} {a b : ℕ} → Asking opens log at → TwoEnds a b → requestAt s names t log at ≡ requestFor opens (pair a b (amountOf log at))
+  asked-between : {opens : Bool} {a b : ℕ} → Asking opens log at → TwoEnds a b → requestAt s names ls t log at ≡ requestFor opens (pair a b (amountOf log at))
   asked-between {opens} {a} {b} k z =
-      asked-by-fields k ∙ rw (z .first, z .second) (two-different-ends t opens (amountOf log at) a b (z .first-end) (z .second-end) (z .different))
+      asked-by-fields k ∙ rw (z .first, z .second) (a-free-pair-is-asked-for ls t opens (amountOf log at) a b (z .free))
 
-  asked-of-none : {opens : Bool} → Asking opens log at → ((a b : ℕ) → ¬ (TwoEnds a b)) → requestAt s names t log at ≡ request.Fault 6
+  -- names that are not those of two ends free to be joined are those of none
+  pub not-two-ends-are-none : NotTwoEnds → (a b : ℕ) → ¬ (TwoEnds a b)
+  not-two-ends-are-none (first-not-given e) p q z = let f = z .first in contradiction cc
+  not-two-ends-are-none (second-not-given e) p q z = let f = z .second in contradiction cc
+  not-two-ends-are-none (first-no-end {a} e d) p q z = let f = z .first in let u : p ≡ a = cc in d (rw u at (free-parts ls t p q (z .free) .1))
+  not-two-ends-are-none (second-no-end {b} e d) p q z = let f = z .second in let v : q ≡ b = cc in d (rw v at (free-parts ls t p q (z .free) .2))
+  not-two-ends-are-none (one-site {a} e d) p q z = let f = z .first in let g = z .second in free-parts ls t p q (z .free) .0 cc
+  not-two-ends-are-none (another-end {a} {b} e d o) p q z =
+      let f = z .first in
+      let g = z .second in
+      let u : p ≡ a = cc in
+      let v : q ≡ b = cc in
+      crossed-by ls t a b o (rw (u, v) at (free-parts ls t p q (z .free) .3))
+
+  asked-of-none : {opens : Bool} → Asking opens log at → NotTwoEnds → requestAt s names ls t log at ≡ request.Fault 6
   unfolding between
-  asked-of-none {opens} k none = asked-by-fields k ∙ by (lookup s names (field fs 1)) refl (lookup s names (field fs 2)) refl
+  asked-of-none {opens} k none = asked-by-fields k ∙ by firstFound refl secondFound refl
     where
-      fs : List (List ℕ)
-      fs = fields (lineAt log at)
-
-      x : ℕ
-      x = amountOf log at
-
-      by : (v : Found) → lookup s names (field fs 1) ≡ v → (w : Found) → lookup s names (field fs 2) ≡ w → between t opens x v w ≡ request.Fault 6
+      by : (v : Found) → firstFound ≡ v → (w : Found) → secondFound ≡ w → between ls t opens (amountOf log at) v w ≡ request.Fault 6
       by Absent e w f = refl
       by (At a) e Absent f = refl
-      by (At a) e (At b) f = same? (t a) 1
-          (λ g. same? (t b) 1
-          (λ h. same? a b
-          (one-site-twice t opens x a b g h)
-          (λ d. absurd (none a b (record { first = e; second = f; first-end = g; second-end = h; different = d }))))
-          (second-is-no-end t opens x a b g))
-          (first-is-no-end t opens x a b)
+      by (At a) e (At b) f = a-pair-that-is-not-free-gets-6 ls t opens (amountOf log at) a b
+          (λ z. not-two-ends-are-none none a b (record { first = e; second = f; free = z }))
 
-  -- whether they are two different ends
-  ends? : ((a : ℕ) × (b : ℕ) × TwoEnds a b) ⊎ ((a b : ℕ) → ¬ (TwoEnds a b))
-  ends? = by (lookup s names (field (fields (lineAt log at)) 1)) refl (lookup s names (field (fields (lineAt log at)) 2)) refl
+  -- whether they are two ends free to be joined
+  ends? : ((a : ℕ) × (b : ℕ) × TwoEnds a b) ⊎ NotTwoEnds
+  ends? = by firstFound refl secondFound refl
     where
-      by : (v : Found) → lookup s names (field (fields (lineAt log at)) 1) ≡ v → (w : Found) → lookup s names (field (fields (lineAt log at)) 2) ≡ w
-          → ((a : ℕ) × (b : ℕ) × TwoEnds a b) ⊎ ((a b : ℕ) → ¬ (TwoEnds a b))
-      by Absent e w f = inr (λ p q z. let y = z .first in contradiction cc)
-      by (At a) e Absent f = inr (λ p q z. let y = z .second in contradiction cc)
+      by : (v : Found) → firstFound ≡ v → (w : Found) → secondFound ≡ w → ((a : ℕ) × (b : ℕ) × TwoEnds a b) ⊎ NotTwoEnds
+      by Absent e w f = inr (first-not-given e)
+      by (At a) e Absent f = inr (second-not-given f)
       by (At a) e (At b) f = same? (t a) 1
           (λ g. same? (t b) 1
           (λ h. same? a b
-          (λ i. inr (λ p q z. z .different (let x = z .first in let y = z .second in cc)))
-          (λ d. inl (a, b, record { first = e; second = f; first-end = g; second-end = h; different = d })))
-          (λ d. inr (λ p q z. d (let y = z .second in let q-is : q ≡ b = cc in rw q-is at (z .second-end)))))
-          (λ d. inr (λ p q z. d (let x = z .first in let p-is : p ≡ a = cc in rw p-is at (z .first-end))))
+          (λ i. inr (one-site e (f ∙ ap At (sym i))))
+          (λ d. same? (crossed ls t a b) 0
+          (λ z. inl (a, b, record { first = e; second = f; free = free-whole ls t a b d g h z }))
+          (λ z. inr (another-end e f (crossed-some ls t a b z)))))
+          (λ h. inr (second-no-end f h)))
+          (λ g. inr (first-no-end e g))
 
   -- ---- a cause makes its number
 
-  pub a-cause-makes-its-number : {k : ℕ} → Cause k → answer ls c es (requestAt s names t log at) ≡ k
+  pub a-cause-makes-its-number : {k : ℕ} → Cause k → answer ls c es (requestAt s names ls t log at) ≡ k
   unfolding answer requestAt requestBy
   a-cause-makes-its-number (unended h) = rw (unended-line log at h)
   a-cause-makes-its-number (malformed {k} h f) = rw (ended-line log at h, a-log-line-is-a-fault-just-for-its-cause (lineAt log at) k .1 f)
@@ -149,7 +169,7 @@ module _ (s : List ℕ) (names : List (ℕ × ℕ)) (t : ℕ → ℕ) (ls : Link
   -- ---- a line has a cause, or gets 0
 
   abbrev Decided : Type 0
-  Decided = ((k : ℕ) × Cause k) ⊎ (answer ls c es (requestAt s names t log at) ≡ 0)
+  Decided = ((k : ℕ) × Cause k) ⊎ (answer ls c es (requestAt s names ls t log at) ≡ 0)
 
   two-ends-decide : (opens : Bool) {a b : ℕ} → Asking opens log at → TwoEnds a b → Decided
   unfolding answer
@@ -176,10 +196,10 @@ module _ (s : List ℕ) (names : List (ℕ × ℕ)) (t : ℕ → ℕ) (ls : Link
 
   -- ---- each number just for its cause, and 0 just without one
 
-  pub a-line-gets-a-number-just-for-its-cause : (k : ℕ) → k ≢ 0 → (answer ls c es (requestAt s names t log at) ≡ k) ↔ Cause k
+  pub a-line-gets-a-number-just-for-its-cause : (k : ℕ) → k ≢ 0 → (answer ls c es (requestAt s names ls t log at) ≡ k) ↔ Cause k
   a-line-gets-a-number-just-for-its-cause k d =
       (λ e. ⊎-elim (λ w. subst Cause (sym (a-cause-makes-its-number (w .1)) ∙ e) (w .1)) (λ z. absurd (d (sym e ∙ z))) decided, a-cause-makes-its-number)
 
-  pub a-line-gets-0-just-where-no-cause-applies : (answer ls c es (requestAt s names t log at) ≡ 0) ↔ ((k : ℕ) → ¬ (Cause k))
+  pub a-line-gets-0-just-where-no-cause-applies : (answer ls c es (requestAt s names ls t log at) ≡ 0) ↔ ((k : ℕ) → ¬ (Cause k))
   a-line-gets-0-just-where-no-cause-applies =
       (λ e k w. omega (arith, a-cause-makes-its-number w, a-cause-is-some w), λ none. ⊎-elim (λ w. absurd (none (w .0) (w .1))) (λ z. z) decided)

@@ -2,6 +2,8 @@ pub mod Log
 pub mod Outcome
 pub mod LogLaws
 pub mod Causes
+pub mod Unmarked
+pub mod Examples
 pub mod Told
 pub mod AfterLines
 pub mod Progress

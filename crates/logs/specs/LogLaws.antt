@@ -1,20 +1,26 @@
--- The lines of a log one by one, and that what a line asks can be asked: two different sites and an amount within the limit.
-use mathlib.Core.Bool.{Bool, true, false, cond, _&&_, not}
+-- The lines of a log one by one, and that what a line asks can be asked: two sites free to be joined and an amount within the limit.
+use mathlib.Core.Bool.{Bool, true, false, cond}
 use mathlib.Core.List.{List, [], _∷_, map}
 use mathlib.Core.Logic.{_≢_}
 use mathlib.Core.Path.{_≡_, refl, sym, ap}
 use Prim.Native.Nat.{ℕ, zero, suc, _+_, _-_, _≤_, _<_}
 use native.Mathlib.Nat.{sub-zero}
 use native.Mathlib.Omega.{arith}
-use borrow.Author.Tests.{eqb-false, eq-eqb, ne-eqb, lt-ltb, le-ltb}
-use lib.Dec.{eqb, ltb}
+use borrow.Author.Tests.{lt-ltb, le-ltb}
+use lib.Dec.{ltb}
 use lib.ListN.{length, drop}
-use Rattle.lists.specs.Numbers.{Each}
+use Rattle.lists.specs.Numbers.{less, Each}
+use Rattle.lists.specs.Sums.{pick-same, pick-other, pick-cases, same?}
 use Rattle.model.specs.Limits.{AMOUNT}
-use Rattle.model.specs.Flows.{Site}
+use Rattle.model.specs.Flows.{Links, Site}
+use Rattle.model.specs.Parts.{freePair}
+use Rattle.model.specs.Pairing.{lowerFirst}
 use Rattle.model.specs.Booking.{pair, Proper, Asked}
 use Rattle.model.specs.declared.Pair.{Pair}
+use Rattle.model.specs.declared.Request.{Request}
 use Rattle.model.specs.declared.Request.the-variants as request
+use Rattle.theory_trees.specs.FreePairs.{free-parts, free-turned}
+use Rattle.theory_log.specs.Requests.{OpensOnly}
 use Rattle.text_lines.specs.Lines.{lineLength, lineAt, afterLine, hasLine}
 use Rattle.text_lines.specs.LineLaws.{length-of-line, no-line-past-the-sheet, after-line-is-later}
 use Rattle.text_fields.specs.Fields.{fields, field, value}
@@ -78,24 +84,16 @@ module _ (log : List ℕ) where
   unfolding lineOf
   ended-line at h = rw (lt-ltb (at + lineLength (drop at log)) (length log) (omega (arith, length-of-line log at)))
 
--- ---- the two sites, as the code finds them
+-- ---- the two sites
 
-module _ (t : ℕ → ℕ) (opens : Bool) (x a b : ℕ) where
-  pub first-is-no-end : t a ≢ 1 → between t opens x (At a) (At b) ≡ request.Fault 6
+module _ (ls : Links) (t : ℕ → ℕ) (opens : Bool) (x a b : ℕ) where
+  pub a-pair-that-is-not-free-gets-6 : freePair ls t a b ≢ 1 → between ls t opens x (At a) (At b) ≡ request.Fault 6
   unfolding between
-  first-is-no-end d = rw (ne-eqb (t a) 1 d)
+  a-pair-that-is-not-free-gets-6 d = pick-other d _ _
 
-  pub second-is-no-end : t a ≡ 1 → t b ≢ 1 → between t opens x (At a) (At b) ≡ request.Fault 6
+  pub a-free-pair-is-asked-for : freePair ls t a b ≡ 1 → between ls t opens x (At a) (At b) ≡ requestFor opens (pair a b x)
   unfolding between
-  second-is-no-end e d = rw (eq-eqb (t a) 1 e, ne-eqb (t b) 1 d)
-
-  pub one-site-twice : t a ≡ 1 → t b ≡ 1 → a ≡ b → between t opens x (At a) (At b) ≡ request.Fault 6
-  unfolding between
-  one-site-twice e f g = rw (eq-eqb (t a) 1 e, eq-eqb (t b) 1 f, eq-eqb a b g)
-
-  pub two-different-ends : t a ≡ 1 → t b ≡ 1 → a ≢ b → between t opens x (At a) (At b) ≡ requestFor opens (pair a b x)
-  unfolding between
-  two-different-ends e f d = rw (eq-eqb (t a) 1 e, eq-eqb (t b) 1 f, ne-eqb a b d)
+  a-free-pair-is-asked-for e = pick-same e _ _
 
 -- ---- what can be asked
 
@@ -111,45 +109,63 @@ found-is-a-site s f names = by (lookup s names f) (lookup-says s f names 1)
     by (At v) h = omega arith
     by Absent h = tt
 
--- an amount between two different sites can be asked for
+-- what holds of faults, and of amounts within the limit between two ends free to be joined, holds of all that is asked
+module _ (s : List ℕ) (names : List (ℕ × ℕ)) (ls : Links) (t : ℕ → ℕ) (Q : Request → Type 0) (of-faults : (k : ℕ) → Q (request.Fault k))
+    (of-pairs : (opens : Bool) (e : Pair) → Proper (length names) e → freePair ls t (e .first) (e .second) ≡ 1 → Q (requestFor opens e)) where
+  of-between : (opens : Bool) (x : ℕ) → 1 ≤ x → x ≤ AMOUNT → (v w : Found) → Named (length names) v → Named (length names) w → Q (between ls t opens x v w)
+  unfolding between
+  of-between opens x some limited Absent w g h = of-faults 6
+  of-between opens x some limited (At a) Absent g h = of-faults 6
+  of-between opens x some limited (At a) (At b) g h = pick-cases Q (freePair ls t a b) 1 (requestFor opens (pair a b x)) (request.Fault 6)
+      (λ e. of-pairs opens (pair a b x)
+      (record { first-site = g; second-site = h; different = free-parts ls t a b e .0; some = some; limited = limited }) e)
+      (λ d. of-faults 6)
+
+  of-line : (l : List ℕ) (w : Line) → line.Tells l w → Q (requestBy s names ls t l w)
+  unfolding requestBy
+  of-line l (Booking opens a e b f x) (k, q) =
+      let amount : x ≡ value (field (fields l) 3) = cc in
+      of-between opens x (omega (arith, k .some)) (omega (arith, k .limited)) _ _ (found-is-a-site s _ names) (found-is-a-site s _ names)
+  of-line l (Fault k) h = of-faults k
+
+  pub of-a-request : (log : List ℕ) (at : ℕ) → Q (requestAt s names ls t log at)
+  unfolding requestAt requestBy lineOf
+  of-a-request log at = by (ltb (at + lineLength (drop at log)) (length log))
+    where
+      by : (z : Bool) → Q (requestBy s names ls t (lineAt log at) (cond z (logLine (lineAt log at)) (Fault 2)))
+      by true = of-line (lineAt log at) (logLine (lineAt log at)) (line.a-line-tells (lineAt log at))
+      by false = of-faults 2
+
+  of-each : (log ats : List ℕ) → Each Q (map (requestAt s names ls t log) ats)
+  of-each log [] = tt
+  of-each log (at ∷ ats) = (of-a-request log at, of-each log ats)
+
+  pub of-the-requests : (log : List ℕ) → Each Q (requests s names ls t log)
+  unfolding requests
+  of-the-requests log = of-each log (lines log)
+
 asked-for : (n : ℕ) (opens : Bool) (e : Pair) → Proper n e → Asked n (requestFor opens e)
 asked-for n true e p = p
 asked-for n false e p = p
 
-between-is-asked : (n : ℕ) (t : ℕ → ℕ) (opens : Bool) (x : ℕ) → 1 ≤ x → x ≤ AMOUNT → (v w : Found) → Named n v → Named n w → Asked n (between t opens x v w)
-unfolding between
-between-is-asked n t opens x some limited Absent w g h = tt
-between-is-asked n t opens x some limited (At a) Absent g h = tt
-between-is-asked n t opens x some limited (At a) (At b) g h = by (eqb (t a) 1) (eqb (t b) 1) (eqb a b) refl
-  where
-    by : (p q r : Bool) → eqb a b ≡ r → Asked n (cond (p && q && not r) (requestFor opens (pair a b x)) (request.Fault 6))
-    by true true false e = asked-for n opens (pair a b x)
-        (record { first-site = g; second-site = h; different = eqb-false a b e; some = some; limited = limited })
-    by true true true e = tt
-    by true false r e = tt
-    by false q r e = tt
+-- two sites free to be joined
+abbrev pub Free : Links → (ℕ → ℕ) → ℕ → ℕ → Type 0
+Free ls t a b = freePair ls t a b ≡ 1
 
-module _ (s : List ℕ) (names : List (ℕ × ℕ)) (t : ℕ → ℕ) where
-  line-is-asked : (l : List ℕ) (w : Line) → line.Tells l w → Asked (length names) (requestBy s names t l w)
-  unfolding requestBy
-  line-is-asked l (Booking opens a e b f x) (k, q) =
-      let amount : x ≡ value (field (fields l) 3) = cc in
-      between-is-asked (length names) t opens x (omega (arith, k .some)) (omega (arith, k .limited)) _ _ (found-is-a-site s _ names)
-      (found-is-a-site s _ names)
-  line-is-asked l (Fault k) h = tt
+free-opened : (ls : Links) (t : ℕ → ℕ) (opens : Bool) (e : Pair) → Free ls t (e .first) (e .second) → OpensOnly (Free ls t) (requestFor opens e)
+unfolding lowerFirst
+free-opened ls t true e f = same? (less (e .second) (e .first)) 1
+    (λ s. rw (pick-same s) (free-turned ls t (e .first) (e .second) f))
+    (λ d. rw (pick-other d) f)
+free-opened ls t false e f = tt
 
-  pub a-request-can-be-asked : (log : List ℕ) (at : ℕ) → Asked (length names) (requestAt s names t log at)
-  unfolding requestAt requestBy lineOf
-  a-request-can-be-asked log at = by (ltb (at + lineLength (drop at log)) (length log))
-    where
-      by : (z : Bool) → Asked (length names) (requestBy s names t (lineAt log at) (cond z (logLine (lineAt log at)) (Fault 2)))
-      by true = line-is-asked (lineAt log at) (logLine (lineAt log at)) (line.a-line-tells (lineAt log at))
-      by false = tt
+module _ (s : List ℕ) (names : List (ℕ × ℕ)) (ls : Links) (t : ℕ → ℕ) (log : List ℕ) where
+  pub a-request-can-be-asked : (at : ℕ) → Asked (length names) (requestAt s names ls t log at)
+  a-request-can-be-asked at = of-a-request s names ls t (Asked (length names)) (λ k. tt) (λ opens e p f. asked-for (length names) opens e p) log at
 
-  each-asked : (log ats : List ℕ) → Each (Asked (length names)) (map (requestAt s names t log) ats)
-  each-asked log [] = tt
-  each-asked log (at ∷ ats) = (a-request-can-be-asked log at, each-asked log ats)
+  pub the-requests-can-be-asked : Each (Asked (length names)) (requests s names ls t log)
+  the-requests-can-be-asked = of-the-requests s names ls t (Asked (length names)) (λ k. tt) (λ opens e p f. asked-for (length names) opens e p) log
 
-  pub the-requests-can-be-asked : (log : List ℕ) → Each (Asked (length names)) (requests s names t log)
-  unfolding requests
-  the-requests-can-be-asked log = each-asked log (lines log)
+  -- only pairs of ends free to be joined are opened
+  pub the-requests-open-free-pairs-only : Each (OpensOnly (Free ls t)) (requests s names ls t log)
+  the-requests-open-free-pairs-only = of-the-requests s names ls t (OpensOnly (Free ls t)) (λ k. tt) (λ opens e p f. free-opened ls t opens e f) log

@@ -18,7 +18,7 @@ use Rattle.sheet.specs.ListLaws.{names-are}
 use Rattle.sheet.specs.SheetTheorem.{an-accepted-sheet-is-a-tree}
 use Rattle.sheet.specs.declared.Answer.the-variants as answered
 use Rattle.sheet.specs.declared.Lists.{Lists}
-use Rattle.planner.specs.Taken.{Listed, the-lists-are-taken-apart, the-links-are-the-networks}
+use Rattle.planner.specs.Taken.{Listed, the-lists-are-taken-apart, the-marks-are-taken-apart, the-links-are-the-networks, the-ends-are-the-networks}
 use Rattle.logs.specs.Log.{lines, requests, answersOf}
 use Rattle.logs.specs.Outcome.{replayOver, replayRead, replayed}
 use Rattle.logs.specs.declared.Outcome.the-variants.{Answered, Refused}
@@ -34,8 +34,9 @@ refused-is-told s log l n k e = by (readSheet edition1 s) e
     by (accepted net) e = contradiction cc
 
 -- the same answers over the same lists
-alike : (s log : List ℕ) {ls ks : Links} {c d : List ℕ} {names others : List (ℕ × ℕ)} {n m : ℕ} → ls ≡ ks → c ≡ d → names ≡ others → n ≡ m
-    → answers ls (look c) [] (requests s names (look (ends ls n)) log) ≡ answers ks (look d) [] (requests s others (look (ends ks m)) log)
+alike : (s log : List ℕ) {ls ks : Links} {c d : List ℕ} {names others : List (ℕ × ℕ)} {t u : ℕ → ℕ}
+    → ls ≡ ks → c ≡ d → names ≡ others → t ≡ u
+    → answers ls (look c) [] (requests s names ls t log) ≡ answers ks (look d) [] (requests s others ks u log)
 alike s log e f g h = rw (e, f, g, h)
 
 module _ {s : List ℕ} {network : Lists} (r : Listed s network) where
@@ -70,11 +71,14 @@ module _ {s : List ℕ} {network : Lists} (r : Listed s network) where
   -- the answers over the lists are those over the network
   pub the-answers-are-the-networks : (log : List ℕ) → let m = network .links in let ls = links (take m (network .one)) (take m (network .two)) in
       answers ls (look (take m (network .capacity))) []
-      (requests s (ranges (network .start) (network .end) 0 (network .sites)) (look (ends ls (network .sites))) log)
+      (requests s (ranges (network .start) (network .end) 0 (network .sites)) ls
+      (look (ends ls (network .sites) (take (network .sites) (network .mark)))) log)
       ≡ answersOf s (r .net) log
   the-answers-are-the-networks log =
       let a = the-lists-are-taken-apart r in
       let told : accepted (a .net) ≡ accepted (r .net) = sym (a .read) ∙ r .read in
       let same : a .net ≡ r .net = cc in
-      alike s log (the-links-are-the-networks a) (a .sizes) (names-of-lists ∙ ap (λ n. n .names) (sym same)) (a .counted)
+      let ends-are = ap (λ marks. look (ends (links (take (network .links) (network .one)) (take (network .links) (network .two))) (network .sites) marks))
+      (the-marks-are-taken-apart r) ∙ the-ends-are-the-networks a in
+      alike s log (the-links-are-the-networks a) (a .sizes) (names-of-lists ∙ ap (λ n. n .names) (sym same)) ends-are
       ∙ ap (λ net. answersOf s net log) same

@@ -1,22 +1,23 @@
-// A booking log replayed over a sheet (document 02, Card 6): each line gets one answer.
+// A booking log replayed over a sheet (document 02, Cards 6 and 7): each line gets one answer.
 ghost use mathlib.Core.Path.{_≡_};
 ghost use mathlib.Core.List.{[], _++_};
 ghost use Prim.Native.Nat.{_≤_};
 ghost use lib.ListN.{length, take, drop};
 ghost use Rattle.lists.specs.Numbers.{look};
-ghost use Rattle.model.specs.Limits.{PLACES, SITES};
+ghost use Rattle.model.specs.Limits.{SITES};
 ghost use Rattle.model.specs.Edition.{edition1, largest};
 ghost use Rattle.model.specs.Flows.{ends};
 ghost use Rattle.model.specs.Booking.{answers};
 ghost use Rattle.tree.specs.Offer.{links};
-ghost use Rattle.tree.specs.Accepted.{TreeWithin};
+ghost use Rattle.tree.specs.Accepted.{MarkedTree};
 ghost use Rattle.tree_links.specs.Chains.{Placed};
+ghost use Rattle.log_paths.specs.Tables.{Mapped};
 ghost use Rattle.log_steps.specs.Steps.{Given};
 ghost use Rattle.text_lines.specs.Lines.{lineAt};
 ghost use Rattle.sheet_names.specs.Names.{ranges, Different, Indexes};
-ghost use Rattle.sheet.specs.StepCases.{Labelled};
 ghost use Rattle.planner.specs.Taken.{Listed};
 ghost use Rattle.logs.specs.Log.{lines, lineOf, between, requestAt, requests};
+ghost use Rattle.logs.specs.LogLaws.{Named};
 ghost use Rattle.logs.specs.Outcome.{replayed};
 use log_lines::Line;
 use model::LOGBYTES;
@@ -62,24 +63,29 @@ fn line_of(log: &[u8], line: &[u8], at: usize) -> Line
     log_lines::classify(line)
 }
 
-// An amount asked for between what the look-ups of two names found, by the ends: fault 6 unless they are two different ends.
-fn between(ends: &[u8; PLACES], opens: bool, amount: u64, one: Found, two: Found) -> Request
-    requires { ⌜ Labelled PLACES one × Labelled PLACES two ⌝ }
-    ensures { λ r. ⌜ r ≡ between (look (now (ends .entry))) opens amount one two ⌝ }
+// An amount asked for between what the look-ups of two names found, by the links, the table of paths and the ends: fault 6 unless they are two different
+// ends with no other end on their path.
+fn between(
+    n: usize,
+    one: &[usize],
+    two: &[usize],
+    rows: &[u64; ROWS],
+    ends: &[u8; PLACES],
+    opens: bool,
+    amount: u64,
+    from: Found,
+    to: Found,
+) -> Request
+    requires { ⌜ Mapped n (now one) (now two) (now rows) × Named n from × Named n to ⌝ }
+    ensures { λ r. ⌜ r ≡ between (links (now (one .entry)) (now (two .entry))) (look (now (ends .entry))) opens amount from to ⌝ }
 {
-    let Found::At(first) = one else {
+    let Found::At(first) = from else {
         return Request::Fault(6);
     };
-    let Found::At(second) = two else {
+    let Found::At(second) = to else {
         return Request::Fault(6);
     };
-    if ends[first] != 1 {
-        return Request::Fault(6);
-    }
-    if ends[second] != 1 {
-        return Request::Fault(6);
-    }
-    if first == second {
+    if !log_paths::free(n, one, two, rows, ends, first, second) {
         return Request::Fault(6);
     }
     let pair = Pair {
@@ -93,22 +99,25 @@ fn between(ends: &[u8; PLACES], opens: bool, amount: u64, one: Found, two: Found
     Request::GiveUp(pair)
 }
 
-// What the line at an offset of a log asks, over the names and the ends of a network.
+// What the line at an offset of a log asks, over the names, the links and the ends of a network.
 fn request_at(
     sheet: &[u8],
     starts: &[usize; SITES],
     stops: &[usize; SITES],
     n: usize,
     table: &[u16; TABLE],
+    one: &[usize],
+    two: &[usize],
+    rows: &[u64; ROWS],
     ends: &[u8; PLACES],
     log: &[u8],
     line: &[u8],
     at: usize,
 ) -> Request
-    requires { ⌜ (n ≤ SITES) × Indexes (now sheet) (ranges (now starts) (now stops) 0 n) (now table) × (at ≤ length (now log))
-        × (now line ≡ lineAt (now log) at) ⌝ }
-    ensures { λ r. ⌜ r ≡ requestAt (now (sheet .entry)) (ranges (now (starts .entry)) (now (stops .entry)) 0 n) (look (now (ends .entry)))
-        (now (log .entry)) at ⌝ }
+    requires { ⌜ Mapped n (now one) (now two) (now rows) × Indexes (now sheet) (ranges (now starts) (now stops) 0 n) (now table)
+        × (at ≤ length (now log)) × (now line ≡ lineAt (now log) at) ⌝ }
+    ensures { λ r. ⌜ r ≡ requestAt (now (sheet .entry)) (ranges (now (starts .entry)) (now (stops .entry)) 0 n)
+        (links (now (one .entry)) (now (two .entry))) (look (now (ends .entry))) (now (log .entry)) at ⌝ }
 {
     let kind = line_of(log, line, at);
     match kind {
@@ -123,9 +132,9 @@ fn request_at(
         } => {
             let first = sheet_names::part(line, start, end);
             let second = sheet_names::part(line, start2, end2);
-            let one = sheet_names::find(sheet, starts, stops, n, table, first);
-            let two = sheet_names::find(sheet, starts, stops, n, table, second);
-            between(ends, opens, amount, one, two)
+            let from = sheet_names::find(sheet, starts, stops, n, table, first);
+            let to = sheet_names::find(sheet, starts, stops, n, table, second);
+            between(n, one, two, rows, ends, opens, amount, from, to)
         }
     }
 }
@@ -148,7 +157,8 @@ fn answer_lines(
     requires { ⌜ Given n (now one) (now two) (now capacity) (now rows) × Indexes (now sheet) (ranges (now starts) (now stops) 0 n) (now table)
         × (length (lines (now log)) ≤ length (now list)) ⌝ }
     ensures { λ _. ⌜ now (list .exit) ≡ answers (links (now (one .entry)) (now (two .entry))) (look (now (capacity .entry))) []
-        (requests (now (sheet .entry)) (ranges (now (starts .entry)) (now (stops .entry)) 0 n) (look (now (ends .entry))) (now (log .entry)))
+        (requests (now (sheet .entry)) (ranges (now (starts .entry)) (now (stops .entry)) 0 n)
+        (links (now (one .entry)) (now (two .entry))) (look (now (ends .entry))) (now (log .entry)))
         ++ drop (length (lines (now (log .entry)))) (now (list .entry)) ⌝ }
 {
     let mut first = [0usize; OPEN];
@@ -160,7 +170,20 @@ fn answer_lines(
     let mut i = 0;
     while text_lines::has_line(log, at) {
         let line = text_lines::line(log, at);
-        let request = request_at(sheet, starts, stops, n, table, ends, log, line, at);
+        let request = request_at(
+            sheet,
+            starts,
+            stops,
+            n,
+            table,
+            one,
+            two,
+            rows,
+            ends,
+            log,
+            line,
+            at,
+        );
         let replied = log_steps::step(
             n,
             one,
@@ -181,15 +204,15 @@ fn answer_lines(
     }
 }
 
-// The ends of a tree of n sites: place v holds 1 where site v is an end, 0 elsewhere.
-fn ends_of(n: usize, one: &[usize], two: &[usize]) -> [u8; PLACES]
-    requires { ⌜ (n ≤ SITES) × Placed (now one) (now two) ⌝ }
-    ensures { λ r. ⌜ look r ≡ look (ends (links (now (one .entry)) (now (two .entry))) n) ⌝ }
+// The ends of a tree of n sites with their marks: place v holds 1 where site v is an end, 0 elsewhere.
+fn ends_of(n: usize, one: &[usize], two: &[usize], marks: &[u8]) -> [u8; PLACES]
+    requires { ⌜ (n ≤ SITES) × (n ≡ length (now marks)) × Placed (now one) (now two) ⌝ }
+    ensures { λ r. ⌜ look r ≡ look (ends (links (now (one .entry)) (now (two .entry))) n (now (marks .entry))) ⌝ }
 {
     let chains = tree_links::chain(one, two);
     let last = chains.last;
     let before = chains.before;
-    tree_links::ends(n, &last, &before, one, two)
+    tree_links::ends(n, &last, &before, one, two, marks)
 }
 
 // The answers to the lines of a log over a tree whose sites have different names, into the front of a list with a place for each: the table of names, the
@@ -201,20 +224,22 @@ fn answer_tree(
     n: usize,
     one: &[usize],
     two: &[usize],
+    marks: &[u8],
     capacity: &[u64],
     log: &[u8],
     list: &mut [u64],
 )
-    requires { ⌜ TreeWithin largest n (now one) (now two) (now capacity) × Different (now sheet) (ranges (now starts) (now stops) 0 n)
+    requires { ⌜ MarkedTree largest n (now one) (now two) (now marks) (now capacity) × Different (now sheet) (ranges (now starts) (now stops) 0 n)
         × (length (lines (now log)) ≤ length (now list)) ⌝ }
     ensures { λ _. ⌜ now (list .exit) ≡ answers (links (now (one .entry)) (now (two .entry))) (look (now (capacity .entry))) []
         (requests (now (sheet .entry)) (ranges (now (starts .entry)) (now (stops .entry)) 0 n)
-        (look (ends (links (now (one .entry)) (now (two .entry))) n)) (now (log .entry)))
+        (links (now (one .entry)) (now (two .entry)))
+        (look (ends (links (now (one .entry)) (now (two .entry))) n (now (marks .entry)))) (now (log .entry)))
         ++ drop (length (lines (now (log .entry)))) (now (list .entry)) ⌝ }
 {
     let table = sheet_names::index(sheet, starts, stops, n);
-    let ends = ends_of(n, one, two);
-    let rows = log_paths::paths(n, one, two, capacity);
+    let ends = ends_of(n, one, two, marks);
+    let rows = log_paths::paths(n, one, two, marks, capacity);
     answer_lines(
         sheet,
         starts,
@@ -231,7 +256,7 @@ fn answer_tree(
     );
 }
 
-// The same over a tree of m links, each list of links lent as far as there are links.
+// The same over a tree of n sites and m links, each list lent as far as there are sites or links.
 fn answer_parts<'a>(
     sheet: &[u8],
     starts: &'a [usize; SITES],
@@ -240,16 +265,18 @@ fn answer_parts<'a>(
     m: usize,
     one: &'a [usize],
     two: &'a [usize],
+    mark: &'a [u8],
     capacity: &'a [u64],
     log: &[u8],
     list: &mut [u64],
 )
-    requires { ⌜ TreeWithin largest n (take m (now one)) (take m (now two)) (take m (now capacity))
+    requires { ⌜ MarkedTree largest n (take m (now one)) (take m (now two)) (take n (now mark)) (take m (now capacity))
         × Different (now sheet) (ranges (now starts) (now stops) 0 n) × (length (lines (now log)) ≤ length (now list))
-        × (m ≤ length (now one)) × (m ≤ length (now two)) × (m ≤ length (now capacity)) ⌝ }
+        × (m ≤ length (now one)) × (m ≤ length (now two)) × (m ≤ length (now capacity)) × (n ≤ length (now mark)) ⌝ }
     ensures { λ _. ⌜ now (list .exit) ≡ answers (links (take m (now (one .entry))) (take m (now (two .entry)))) (look (take m (now (capacity .entry)))) []
         (requests (now (sheet .entry)) (ranges (now (starts .entry)) (now (stops .entry)) 0 n)
-        (look (ends (links (take m (now (one .entry))) (take m (now (two .entry)))) n)) (now (log .entry)))
+        (links (take m (now (one .entry))) (take m (now (two .entry))))
+        (look (ends (links (take m (now (one .entry))) (take m (now (two .entry)))) n (take n (now (mark .entry))))) (now (log .entry)))
         ++ drop (length (lines (now (log .entry)))) (now (list .entry)) ⌝ }
 {
     answer_tree(
@@ -259,6 +286,7 @@ fn answer_parts<'a>(
         n,
         &one[..m],
         &two[..m],
+        &mark[..n],
         &capacity[..m],
         log,
         list,
@@ -300,6 +328,7 @@ fn replay_network(sheet: &[u8], network: Lists, log: &[u8], list: &mut [u64]) ->
         m,
         &network.one,
         &network.two,
+        &network.mark,
         &network.capacity,
         log,
         list,

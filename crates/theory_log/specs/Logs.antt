@@ -13,7 +13,9 @@ use Rattle.model.specs.Booking.{openOf, placesOf, answer, next, after, answers,
 use Rattle.model.specs.declared.Pair.{Pair}
 use Rattle.model.specs.declared.Request.{Request}
 use Rattle.model.specs.declared.Request.the-variants.{Fault}
-use Rattle.theory_log.specs.Requests.{opensFor, givesFor, a-refused-request-moves-nothing, a-request-keeps-what-is-kept}
+use Rattle.theory_log.specs.Pairs.{Sites}
+use Rattle.theory_log.specs.Requests.{opensFor, givesFor, OpensOnly, a-refused-request-moves-nothing, a-request-keeps-what-is-kept}
+use Rattle.theory_log.specs.Requests.{a-request-opens-only-what-it-asks}
 use Rattle.theory_log.specs.Requests.{the-load-moves-by-what-is-asked, what-a-pair-has-open-moves-by-what-is-asked-for-it}
 
 -- the line at place i
@@ -72,6 +74,23 @@ module _ (ls : Links) (c : ℕ → ℕ) where
 
   -- ---- what every line keeps
 
+  each-take : (P : Request → Type 0) (rs : List Request) (i : ℕ) → Each P rs → Each P (take i rs)
+  each-take P [] zero h = tt
+  each-take P [] (suc i) h = tt
+  each-take P (r ∷ rs) zero h = tt
+  each-take P (r ∷ rs) (suc i) h = (h .0, each-take P rs i (h .1))
+
+  -- only what the lines open comes to be open
+  module _ (P : ℕ → ℕ → Type 0) where
+    sites-after : (es : List Pair) (rs : List Request) → Each (Sites P) es → Each (OpensOnly P) rs → Each (Sites P) (after ls c es rs)
+    unfolding after
+    sites-after es [] k h = k
+    sites-after es (r ∷ rs) k h = sites-after (next ls c es r) rs (a-request-opens-only-what-it-asks ls 0 c P es r k (h .0)) (h .1)
+
+    pub after-every-line-only-what-the-lines-open-is-open : (rs : List Request) → Each (OpensOnly P) rs → (i : ℕ)
+        → Each (Sites P) (after ls c [] (take i rs))
+    after-every-line-only-what-the-lines-open-is-open rs h i = sites-after [] (take i rs) tt (each-take (OpensOnly P) rs i h)
+
   module _ (n : ℕ) where
     pub kept-empty : Kept ls n c []
     unfolding placesOf load
@@ -102,27 +121,22 @@ module _ (ls : Links) (c : ℕ → ℕ) where
       open-after p q (next ls c es r) rs (a-request-keeps-what-is-kept ls n c es r k (h .0)) (h .1),
     )
 
-    each-take : (rs : List Request) (i : ℕ) → Each (Asked n) rs → Each (Asked n) (take i rs)
-    each-take [] zero h = tt
-    each-take [] (suc i) h = tt
-    each-take (r ∷ rs) zero h = tt
-    each-take (r ∷ rs) (suc i) h = (h .0, each-take rs i (h .1))
-
     module _ (rs : List Request) (asked : Each (Asked n) rs) (i : ℕ) where
       -- the open pairs after i lines
       pub after-every-line-the-open-pairs-are-kept : Kept ls n c (after ls c [] (take i rs))
-      after-every-line-the-open-pairs-are-kept = kept-after [] (take i rs) kept-empty (each-take rs i asked)
+      after-every-line-the-open-pairs-are-kept = kept-after [] (take i rs) kept-empty (each-take (Asked n) rs i asked)
 
       pub after-every-line-the-load-is-what-was-opened-less-what-was-given-up : (j : ℕ)
           → opened ls c [] (take i rs) j ≡ load ls (after ls c [] (take i rs)) j + givenUp ls c [] (take i rs) j
       unfolding load
-      after-every-line-the-load-is-what-was-opened-less-what-was-given-up j = omega (arith, load-after [] (take i rs) kept-empty (each-take rs i asked) j)
+      after-every-line-the-load-is-what-was-opened-less-what-was-given-up j =
+          omega (arith, load-after [] (take i rs) kept-empty (each-take (Asked n) rs i asked) j)
 
       pub after-every-line-a-pair-has-open-what-was-opened-for-it-less-what-was-given-up : (p q : ℕ)
           → openedFor p q [] (take i rs) ≡ openOf p q (after ls c [] (take i rs)) + givenUpFor p q [] (take i rs)
       unfolding openOf
       after-every-line-a-pair-has-open-what-was-opened-for-it-less-what-was-given-up p q =
-          omega (arith, open-after p q [] (take i rs) kept-empty (each-take rs i asked))
+          omega (arith, open-after p q [] (take i rs) kept-empty (each-take (Asked n) rs i asked))
 
       pub after-every-line-no-load-is-above-twice-the-capacity : (j : ℕ) → j < length ls → load ls (after ls c [] (take i rs)) j ≤ 2 * c j
       after-every-line-no-load-is-above-twice-the-capacity = after-every-line-the-open-pairs-are-kept .fits

@@ -138,12 +138,12 @@ moved-length (e ∷ es) = ap suc (go e es)
     go e [] = refl
     go e (f ∷ es) = ap suc (go f es)
 
-pub moved-entries : (n : ℕ) (es : List Pair) → Each (Entry n) es → Each (Entry n) (moved es)
+pub moved-each : (P : Pair → Type 0) (es : List Pair) → Each P es → Each P (moved es)
 unfolding moved lastOf frontOf
-moved-entries n [] h = tt
-moved-entries n (e ∷ es) h = go e es h
+moved-each P [] h = tt
+moved-each P (e ∷ es) h = go e es h
   where
-    go : (e : Pair) (es : List Pair) → Each (Entry n) (e ∷ es) → Each (Entry n) (lastOf e es ∷ frontOf e es)
+    go : (e : Pair) (es : List Pair) → Each P (e ∷ es) → Each P (lastOf e es ∷ frontOf e es)
     go e [] h = h
     go e (f ∷ es) h = let r = go f es (h .1) in (r .0, (h .0, r .1))
 
@@ -192,7 +192,7 @@ module _ (a b x : ℕ) where
       let none = open-none a b es (omega arith) in
       let enough : x ≤ e .amount = omega (arith, rw s at h) in
       rw (pick-same s) (same? (e .amount) x
-      (λ y. rw (pick-same y) (moved-entries n es (t .1)))
+      (λ y. rw (pick-same y) (moved-each (Entry n) es (t .1)))
       (λ y. rw (pick-other y) (
         record {
           first-site = rw (k .0) at (t .0 .first-site);
@@ -204,6 +204,28 @@ module _ (a b x : ℕ) where
       ))))
       (λ d. let z = same-other a b e d in
       rw (pick-other d) (t .0, shrink-entries n es (omega arith) (omega (arith, rw z at h)) (t .1)))
+
+-- ---- what is said of the two sites of each entry
+
+-- P holds of the sites of an entry
+abbrev pub Sites : (ℕ → ℕ → Type 0) → Pair → Type 0
+Sites P e = P (e .first) (e .second)
+
+module _ (a b x : ℕ) (P : ℕ → ℕ → Type 0) where
+  pub grow-sites : (es : List Pair) → P a b → Each (Sites P) es → Each (Sites P) (grow a b x es)
+  unfolding grow
+  grow-sites [] p h = (p, tt)
+  grow-sites (e ∷ es) p h = same? (same a b e) 1 (λ s. rw (pick-same s) (p, h .1)) (λ d. rw (pick-other d) (h .0, grow-sites es p (h .1)))
+
+  pub shrink-sites : (es : List Pair) → Each (Sites P) es → Each (Sites P) (shrink a b x es)
+  unfolding shrink
+  shrink-sites [] h = tt
+  shrink-sites (e ∷ es) h = same? (same a b e) 1
+      (λ s. let k = same-one a b e s in
+      rw (pick-same s) (same? (e .amount) x
+      (λ y. rw (pick-same y) (moved-each (Sites P) es (h .1)))
+      (λ y. rw (pick-other y) (rw (k .0, k .1) at (h .0), h .1))))
+      (λ d. rw (pick-other d) (h .0, shrink-sites es (h .1)))
 
 -- ---- what a pair has open
 

@@ -8,7 +8,7 @@ use native.Mathlib.Omega.{arith}
 use native.Mathlib.Decide.{decLt}
 use lib.ListN.{length, getD}
 use Rattle.lists.specs.Numbers.{pick, less, Each}
-use Rattle.lists.specs.Sums.{pick-same, pick-other, pick-const, same?, cases, is-same, is-other, less-one, less-lt}
+use Rattle.lists.specs.Sums.{pick-same, pick-other, pick-const, pick-cases, same?, cases, is-same, is-other, less-one, less-lt}
 use Rattle.model.specs.Limits.{OPEN}
 use Rattle.model.specs.Flows.{Links, Tree, separates, load}
 use Rattle.model.specs.Pairing.{lowerFirst}
@@ -19,7 +19,7 @@ use Rattle.model.specs.declared.Request.{Request}
 use Rattle.model.specs.declared.Request.the-variants.{Open, GiveUp, Fault}
 use Rattle.theory_trees.specs.Trees.{local-one, separates-comm, separates-le}
 use Rattle.theory_log.specs.Pairs.{open-none, grow-load, grow-length, grow-entries, grow-once, shrink-load, shrink-places, shrink-length, shrink-entries}
-use Rattle.theory_log.specs.Pairs.{grow-open, shrink-open, nothing-left}
+use Rattle.theory_log.specs.Pairs.{grow-open, shrink-open, nothing-left, Sites, grow-sites, shrink-sites}
 use Rattle.theory_log.specs.Answers.{gives-up, an-opening-is-answered-0-exactly-where-no-cause-applies}
 use Rattle.theory_log.specs.Answers.{a-giving-up-is-answered-0-exactly-where-that-much-is-open}
 
@@ -68,6 +68,12 @@ the-order-of-the-sites-does-not-matter a b x = same? a b (λ e. rw e refl) (λ d
     (λ l. pick-other {u = less b a} {v = 1} (λ s. omega (arith, less-lt s)) _ _ ∙ sym (pick-same (less-one l) _ _))
     (λ l. let m : b < a = omega arith in
     pick-same (less-one m) _ _ ∙ sym (pick-other {u = less a b} {v = 1} (λ s. omega (arith, less-lt s)) _ _)))
+
+-- a request opens only pairs whose sites, the lower one first, have P
+abbrev pub OpensOnly : (ℕ → ℕ → Type 0) → Request → Type 0
+OpensOnly P (Open e) = Sites P (lowerFirst e)
+OpensOnly P (GiveUp e) = Unit {0}
+OpensOnly P (Fault k) = Unit {0}
 
 module _ (ls : Links) (n : ℕ) (c : ℕ → ℕ) where
   -- ---- an amount opened, or given up
@@ -134,6 +140,18 @@ module _ (ls : Links) (n : ℕ) (c : ℕ → ℕ) where
       (λ z. rw (pick-same z) (kept-give es (lowerFirst e) k (lower-entry n e h) z))
       (λ d. rw (pick-other d) k)
   a-request-keeps-what-is-kept es (Fault f) k h = rw (pick-const f 0 es) k
+
+  -- only what a request opens comes to be open
+  pub a-request-opens-only-what-it-asks : (P : ℕ → ℕ → Type 0) (es : List Pair) (r : Request) → Each (Sites P) es → OpensOnly P r
+      → Each (Sites P) (next ls c es r)
+  unfolding next changed
+  a-request-opens-only-what-it-asks P es (Open e) h o =
+      let p = lowerFirst e in
+      pick-cases (Each (Sites P)) (answer ls c es (Open e)) 0 _ es (λ z. grow-sites (p .first) (p .second) (p .amount) P es o h) (λ d. h)
+  a-request-opens-only-what-it-asks P es (GiveUp e) h o =
+      let p = lowerFirst e in
+      pick-cases (Each (Sites P)) (answer ls c es (GiveUp e)) 0 _ es (λ z. shrink-sites (p .first) (p .second) (p .amount) P es h) (λ d. h)
+  a-request-opens-only-what-it-asks P es (Fault k) h o = rw (a-fault-moves-nothing es k) h
 
   -- the load moves by what is opened and given up
   pub the-load-moves-by-what-is-asked : (es : List Pair) (r : Request) → Kept ls n c es → Asked n r → (j : ℕ)

@@ -1,21 +1,20 @@
 -- `overfills` meets its contract: no link of the path below p is overfilled.
-use mathlib.Core.Path.{_≡_, sym, _∙_}
+use mathlib.Core.Path.{sym, _∙_}
 use mathlib.Core.List.{List}
 use Prim.Native.Nat.{ℕ, _+_, _-_, _*_, _≤_, _<_}
-use native.Mathlib.Decide.{decLt}
 use native.Mathlib.Omega.{arith}
 use borrow.Author.Needs.{needs}
 use lib.ListN.{length}
 use Rattle.model.specs.Limits.{AMOUNT, SITES, SIZE}
 use Rattle.lists.specs.Numbers.{look}
-use Rattle.lists.specs.Sums.{same?, cases}
 use Rattle.tree_sets.specs.Members.{member}
-use Rattle.tree_sets.specs.Laws.{First, first-at, first-absent}
+use Rattle.tree_sets.specs.Laws.{First, first-at}
+use Rattle.log_paths.specs.Search.{Clear, clear-start, clear-place, clear-next, clear-end}
 use Rattle.log_steps.proofs.overfills.Statement.{statement}
 use Rattle.log_steps.proofs.overfills.Tie as tie
 
 abbrev Inv-loop : tie.InvT-loop
-Inv-loop path x capacity load p₀ p = (p ≤ SITES) × ((j : ℕ) → j < p → member path j ≡ 1 → 2 * look capacity j < look load j + x → ⊥)
+Inv-loop path x capacity load p₀ p = Clear path (λ j. 2 * look capacity j < look load j + x) p
 
 abbrev μ-loop : tie.MeasureT-loop
 μ-loop path x capacity load p₀ p = SITES - p
@@ -45,7 +44,7 @@ small c =
     let j = c .before .link .given .0 .0 in
     let link = s .pre .links j (found c .hit) in
     record {
-      site = omega (arith, found c .to, top .loop .inv .0);
+      site = clear-place _ _ (top .loop .inv) (found c);
       link = link;
       capacity = s .pre .capacities j link;
       load = s .pre .loads j;
@@ -55,11 +54,9 @@ small c =
 returns : tie.Need-returns Inv-loop μ-loop
 returns c =
     let top = c .before .before .before in
-    let a = top .before .before .args in
-    λ o. cases (decLt (o .link) (top .loop .p))
-    (λ l. top .loop .inv .1 (o .link) l (o .on) (o .over))
-    (λ l. first-absent (member (a .path)) (top .loop .p) (SITES - top .loop .p) (sym (c .before .before .next .ensures) ∙ c .enum-told .given .1)
-    (o .link) (omega arith) (omega (arith, top .before .before .pre .few, top .before .before .pre .links (o .link) (o .on))) (o .on))
+    let s = top .before .before in
+    λ o. clear-end _ _ (top .loop .inv) (sym (c .before .before .next .ensures) ∙ c .enum-told .given .1)
+    (o .link) (omega (arith, s .pre .few, s .pre .links (o .link) (o .on))) (o .on) (o .over)
 
 returns-2 : tie.Need-returns-2 Inv-loop μ-loop
 returns-2 c =
@@ -69,13 +66,7 @@ returns-2 c =
 loop-again : tie.Need-loop-again Inv-loop μ-loop
 loop-again c =
     let d = c .before .before .before in
-    let top = d .before .before .before .before in
-    let f = found d in (
-      omega (arith, small d),
-      λ j l o over. same? j (d .before .link .given .0 .0)
-          (λ e. let under = c .if1 .left in omega (arith, rw e at over))
-          (λ e. cases (decLt j (top .loop .p)) (λ q. top .loop .inv .1 j q o over) (λ q. f .miss j (omega arith) (omega arith) o)),
-    )
+    clear-next _ _ (d .before .before .before .before .loop .inv) (found d) (λ over. let under = c .if1 .left in omega arith)
 
 pub overfills-spec : {M : Type 1} → statement M
 overfills-spec =
@@ -83,7 +74,7 @@ overfills-spec =
     (tie.spec
     Inv-loop
     μ-loop
-    (λ c. (omega arith, λ j h. absurd (omega arith)))
+    (λ c. clear-start _ _)
     (λ c κs. tt)
     (λ c. search needs)
     (λ c. search needs)

@@ -7,7 +7,9 @@ use native.Mathlib.Omega.{arith}
 use borrow.Author.Needs.{needs}
 use lib.ListN.{length}
 use Rattle.lists.specs.Numbers.{look}
+use Rattle.model.specs.Limits.{SITES}
 use Rattle.tree.specs.Offer.{links}
+use Rattle.tree.specs.Accepted.{TreeOf}
 use Rattle.text_lines.specs.Lines.{afterLine, hasLine}
 use Rattle.text_lines.specs.LineLaws.{a-line-is-on-the-sheet, no-line-is-on-the-sheet, after-line-is-later, line-stays-on-sheet, after-the-end-of-a-line}
 use Rattle.sheet_names.specs.Names.{ranges}
@@ -21,7 +23,7 @@ use Rattle.logs.proofs.answer_lines.Tie as tie
 
 abbrev Inv-loop : tie.InvT-loop
 Inv-loop sheet starts stops n table ends one two capacity rows log list₀ first₀ second₀ amount₀ load₀ count₀ at₀ i₀ list first second amount load count at i =
-    along.Progress sheet (ranges starts stops 0 n) (look ends) (links one two) (look capacity) log list₀ first second amount load count at i list
+    along.Progress sheet (ranges starts stops 0 n) (links one two) (look ends) (look capacity) log list₀ first second amount load count at i list
 
 abbrev μ-loop : tie.MeasureT-loop
 μ-loop sheet starts stops n table ends one two capacity rows log list₀ first₀ second₀ amount₀ load₀ count₀ at₀ i₀ list first second amount load count at i =
@@ -64,11 +66,15 @@ request-at-requires : tie.Need-request-at-requires Inv-loop μ-loop
 request-at-requires c κs =
     let top = c .before .before .before in
     let s = begin top in
-    (s .pre .0 .within .few, s .pre .1, top .loop .inv .on-log, c .line .ensures .bytes)
+    let w = s .pre .0 .within in
+    let tree : TreeOf SITES (s .args .n) (s .args .one .now) (s .args .two .now) =
+    record { tree = w .tree; few = w .few; firsts = w .firsts; seconds = w .seconds } in
+    (record { tree = tree; table = s .pre .0 .table }, s .pre .1, top .loop .inv .on-log, c .line .ensures .bytes)
 
 -- what is asked
 asked-is : (c : tie.After-request-at Inv-loop μ-loop) → let top = c .before .before .before .before in let s = begin top in
-    c .request-at .result ≡ requestAt (s .args .sheet .now) (names s) (look (s .args .ends .now)) (s .args .log .now) (top .loop .at)
+    c .request-at .result
+    ≡ requestAt (s .args .sheet .now) (names s) (links (s .args .one .now) (s .args .two .now)) (look (s .args .ends .now)) (s .args .log .now) (top .loop .at)
 asked-is c = c .request-at .ensures
 
 step-requires : tie.Need-step-requires Inv-loop μ-loop
@@ -76,7 +82,8 @@ step-requires c κs =
     let request = c .before .before .before .before in
     let top = request .before .before .before .before in
     let s = begin top in
-    let asked = a-request-can-be-asked (s .args .sheet .now) (names s) (look (s .args .ends .now)) (s .args .log .now) (top .loop .at) in
+    let asked = a-request-can-be-asked (s .args .sheet .now) (names s) (links (s .args .one .now) (s .args .two .now)) (look (s .args .ends .now))
+    (s .args .log .now) (top .loop .at) in
     (s .pre .0, subst (Asked (s .args .n)) (sym (asked-is request)) (rw (number s) at asked), rw (number s) at (along.standing _ _ _ _ _ _ _ (top .loop .inv)))
 
 mul-list : tie.Need-mul-list Inv-loop μ-loop

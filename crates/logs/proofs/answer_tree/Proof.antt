@@ -15,17 +15,19 @@ use Rattle.logs.proofs.answer_tree.Tie as tie
 
 ends-of-requires : tie.Need-ends-of-requires
 ends-of-requires c κs =
-    let s = c .before .before .before .before .before .before .before in
-    (omega (arith, s .pre .0 .few), offer-placed (s .pre .0))
+    let s = c .before .before .before .before .before .before .before .before in
+    let tree = s .pre .0 in
+    (omega (arith, tree .within .few), tree .marked, offer-placed (tree .within))
 
 returns : tie.Need-returns
 returns c =
     let made = c .before .before in
     let ends = made .before .before .before .before .before .before in
-    let a = ends .before .before .before .before .before .before .before .before .args in
+    let a = ends .before .before .before .before .before .before .before .before .before .args in
+    let ls = links (a .one .now) (a .two .now) in
     let names = ranges (a .starts .now) (a .stops .now) 0 (a .n) in
     made .answer-lines .ensures
-    ∙ ap (λ t. answers (links (a .one .now) (a .two .now)) (look (a .capacity .now)) [] (requests (a .sheet .now) names t (a .log .now))
+    ∙ ap (λ t. answers ls (look (a .capacity .now)) [] (requests (a .sheet .now) names ls t (a .log .now))
     ++ drop (length (lines (a .log .now))) (a .list .now)) (ends .ends-of .ensures)
 
 pub answer-tree-spec : {M : Type 1} → statement M

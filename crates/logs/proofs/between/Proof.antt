@@ -1,24 +1,15 @@
--- `between` meets its contract: look-up by look-up, then the ends, then that they differ.
-use mathlib.Core.Path.{sym, ap, subst, _∙_}
-use Prim.Native.Nat.{_<_}
+-- `between` meets its contract: look-up by look-up, then whether the sites are two ends free to be joined.
+use mathlib.Core.Bool.{Bool, true, false}
+use mathlib.Core.Path.{_≡_, sym, subst, _∙_}
 use borrow.Author.Needs.{needs}
+use borrow.Author.Tests.{eqb-true, eqb-false, not-true, not-false}
 use Rattle.lists.specs.Numbers.{look}
-use Rattle.model.specs.Limits.{PLACES}
 use Rattle.model.specs.Booking.{pair}
-use Rattle.sheet.specs.StepCases.{Labelled}
+use Rattle.tree.specs.Offer.{links}
 use Rattle.logs.specs.Log.{requestFor, between}
-use Rattle.logs.specs.LogLaws.{first-is-no-end, second-is-no-end, one-site-twice, two-different-ends}
+use Rattle.logs.specs.LogLaws.{Named, a-free-pair-is-asked-for, a-pair-that-is-not-free-gets-6}
 use Rattle.logs.proofs.between.Statement.{statement}
 use Rattle.logs.proofs.between.Tie as tie
-
--- the sites found have places among the ends
-first-site : (c : tie.After-known-told2) → c .before .before .before .before .one .given .0 .0 < PLACES
-first-site c =
-    let found = c .before .before .before .before in
-    subst (Labelled PLACES) (found .one .given .1) (found .before .before .pre .0)
-
-second-site : (c : tie.After-known-told2) → c .before .two .given .0 .0 < PLACES
-second-site c = subst (Labelled PLACES) (c .before .two .given .1) (c .before .before .before .before .before .before .pre .1)
 
 returns : tie.Need-returns
 unfolding between
@@ -26,54 +17,48 @@ returns c = rw (c .enum-told .given .1)
 
 returns-2 : tie.Need-returns-2
 unfolding between
-returns-2 c = rw (c .before .before .before .one .given .1, c .enum-told2 .given .1)
+returns-2 c = rw (c .before .before .before .from .given .1, c .enum-told2 .given .1)
+
+free-requires : tie.Need-free-requires
+free-requires c κs =
+    let found = c .before .before .before .before in
+    let s = found .before .before .before .before in (
+      s .pre .0,
+      subst (Named (s .args .n)) (found .from .given .1) (s .pre .1),
+      subst (Named (s .args .n)) (c .before .to .given .1) (s .pre .2),
+    )
 
 returns-3 : tie.Need-returns-3
 returns-3 c =
     let k = c .before .before in
-    let one = k .before .before .before .before .one .given in
-    let two = k .before .two .given in
-    let a = k .before .before .before .before .before .before .args in
-    rw (one .1, two .1) (sym (first-is-no-end (look (a .ends .now)) (a .opens) (a .amount) (one .0 .0) (two .0 .0) (c .if1 .taken)))
+    let from = k .before .before .before .before .from .given in
+    let to = k .before .to .given in
+    let a = k .before .before .before .before .before .before .before .before .args in
+    rw (from .1, to .1)
+    (sym (a-pair-that-is-not-free-gets-6 (links (a .one .now) (a .two .now)) (look (a .ends .now)) (a .opens) (a .amount) (from .0 .0) (to .0 .0)
+    (eqb-false _ 1 (sym (c .before .free .ensures) ∙ not-true (c .before .free .result) (c .if1 .taken)))))
+
+-- what is asked between two ends free to be joined
+asked : (c : tie.Else1) (o : Bool) →
+    let k = c .before .before in
+    let from = k .before .before .before .before .from .given in
+    let to = k .before .to .given in
+    let a = k .before .before .before .before .before .before .before .before .args in
+    a .opens ≡ o → requestFor o (pair (from .0 .0) (to .0 .0) (a .amount))
+    ≡ between (links (a .one .now) (a .two .now)) (look (a .ends .now)) (a .opens) (a .amount) (a .from) (a .to)
+asked c o e =
+    let k = c .before .before in
+    let from = k .before .before .before .before .from .given in
+    let to = k .before .to .given in
+    let a = k .before .before .before .before .before .before .before .before .args in
+    rw (from .1, to .1, e) (sym (a-free-pair-is-asked-for (links (a .one .now) (a .two .now)) (look (a .ends .now)) o (a .amount) (from .0 .0) (to .0 .0)
+    (eqb-true _ 1 (sym (c .before .free .ensures) ∙ not-false (c .before .free .result) (c .if1 .left)))))
 
 returns-4 : tie.Need-returns-4
-returns-4 c =
-    let k = c .before .before .before .before in
-    let one = k .before .before .before .before .one .given in
-    let two = k .before .two .given in
-    let a = k .before .before .before .before .before .before .args in
-    rw (one .1, two .1)
-    (sym (second-is-no-end (look (a .ends .now)) (a .opens) (a .amount) (one .0 .0) (two .0 .0) (c .before .before .if1 .left) (c .if2 .taken)))
+returns-4 c = asked (c .before) true (c .if2 .taken)
 
 returns-5 : tie.Need-returns-5
-returns-5 c =
-    let k = c .before .before .before .before .before in
-    let one = k .before .before .before .before .one .given in
-    let two = k .before .two .given in
-    let a = k .before .before .before .before .before .before .args in
-    rw (one .1, two .1)
-    (sym (one-site-twice (look (a .ends .now)) (a .opens) (a .amount) (one .0 .0) (two .0 .0) (c .before .before .before .if1 .left) (c .before .if2 .left)
-    (c .if3 .taken)))
-
-returns-6 : tie.Need-returns-6
-returns-6 c =
-    let k = c .before .before .before .before .before .before in
-    let one = k .before .before .before .before .one .given in
-    let two = k .before .two .given in
-    let a = k .before .before .before .before .before .before .args in
-    let asked = two-different-ends (look (a .ends .now)) (a .opens) (a .amount) (one .0 .0) (two .0 .0) (c .before .before .before .before .if1 .left)
-    (c .before .before .if2 .left) (c .before .if3 .left) in
-    rw (one .1, two .1) (sym (asked ∙ ap (λ o. requestFor o (pair (one .0 .0) (two .0 .0) (a .amount))) (c .if4 .taken)))
-
-returns-7 : tie.Need-returns-7
-returns-7 c =
-    let k = c .before .before .before .before .before .before in
-    let one = k .before .before .before .before .one .given in
-    let two = k .before .two .given in
-    let a = k .before .before .before .before .before .before .args in
-    let asked = two-different-ends (look (a .ends .now)) (a .opens) (a .amount) (one .0 .0) (two .0 .0) (c .before .before .before .before .if1 .left)
-    (c .before .before .if2 .left) (c .before .if3 .left) in
-    rw (one .1, two .1) (sym (asked ∙ ap (λ o. requestFor o (pair (one .0 .0) (two .0 .0) (a .amount))) (c .if4 .left)))
+returns-5 c = asked (c .before) false (c .if2 .left)
 
 pub between-spec : {M : Type 1} → statement M
 between-spec =
@@ -85,10 +70,7 @@ between-spec =
     (λ c. search needs)
     (λ c. search needs)
     returns-2
-    first-site
+    free-requires
     returns-3
-    (λ c. second-site (c .before .before))
     returns-4
-    returns-5
-    returns-6
-    returns-7)
+    returns-5)

@@ -4,7 +4,7 @@ use mathlib.Core.Path.{sym, ap, _∙_}
 use Prim.Native.Nat.{_≤_}
 use borrow.Author.Needs.{needs}
 use lib.ListN.{length, drop}
-use Rattle.planner.specs.Taken.{room-for-the-links, the-lists-are-taken-apart, the-network-is-a-tree-within}
+use Rattle.planner.specs.Taken.{room-for-the-links, the-lists-are-taken-apart, the-marks-are-taken-apart, the-network-is-a-marked-tree}
 use Rattle.logs.specs.Log.{lines}
 use Rattle.logs.specs.OverNetwork.{the-names-are-different, too-many-bytes, too-many-lines, too-few-places, every-line-answered}
 use Rattle.logs.specs.OverNetwork.{the-answers-are-the-networks}
@@ -41,15 +41,16 @@ places c = rw (c .before .before .count-lines .ensures) at (c .if3 .left)
 
 answer-parts-requires : tie.Need-answer-parts-requires
 answer-parts-requires c κs =
-    let else3 = c .before .before .before .before .before .before .before .before .before .before in
+    let else3 = c .before .before .before .before .before .before .before .before .before .before .before .before in
     let s = else3 .before .before .before .before .before .before .before in
     let room = room-for-the-links (s .pre) in
-    (the-network-is-a-tree-within (the-lists-are-taken-apart (s .pre)), the-names-are-different (s .pre), places else3, room .0, room .1, room .2)
+    let tree = rw (← (the-marks-are-taken-apart (s .pre))) at (the-network-is-a-marked-tree (the-lists-are-taken-apart (s .pre))) in
+    (tree, the-names-are-different (s .pre), places else3, room .0, room .1, room .2, room .3)
 
 returns-4 : tie.Need-returns-4
 returns-4 c =
     let made = c .before .before in
-    let else3 = made .before .before .before .before .before .before .before .before .before .before .before in
+    let else3 = made .before .before .before .before .before .before .before .before .before .before .before .before .before in
     let counted = else3 .before .before in
     let else1 = counted .before in
     let s = else1 .before .before .before .before in

@@ -1,25 +1,33 @@
 -- `request_at` meets its contract: a fault is passed on, and what is asked goes by the look-ups of the two names.
 use mathlib.Core.Path.{sym, subst}
-use Prim.Native.Nat.{_<_}
-use native.Mathlib.Omega.{arith}
 use borrow.Author.Needs.{needs}
 use lib.ListN.{length}
-use Rattle.model.specs.Limits.{PLACES}
 use Rattle.sheet_names.specs.Names.{part, ranges}
+use Rattle.sheet_names.specs.declared.Found.{Found}
 use Rattle.sheet_names.specs.LookupLaws.{length-ranges}
-use Rattle.sheet.specs.StepCases.{Labelled, labelled}
 use Rattle.logs.specs.Log.{between, requestBy, requestAt}
+use Rattle.logs.specs.LogLaws.{Named, found-is-a-site}
 use Rattle.logs.proofs.request_at.Statement.{statement}
 use Rattle.logs.proofs.request_at.Tie as tie
 
+find-requires : tie.Need-find-requires
+find-requires c κs =
+    let start = c .before .before .before .before .before .before .before .before .before .before .before in
+    (start .pre .0 .table .few, start .pre .1)
+
+find-requires-2 : tie.Need-find-requires-2
+find-requires-2 c κs = find-requires (c .before) κs
+
 between-requires : tie.Need-between-requires
 between-requires c κs =
-    let start = c .before .before .before .before .before .before .before .before .before .before .before in
+    let start = c .before .before .before .before .before .before .before .before .before .before .before .before .before in
     let a = start .args in
     let names = ranges (a .starts .now) (a .stops .now) 0 (a .n) in
-    let few : length names < PLACES = omega (arith, start .pre .0, length-ranges (a .starts .now) (a .stops .now) 0 (a .n)) in (
-      subst (Labelled PLACES) (sym (c .before .find .ensures)) (labelled (a .sheet .now) _ names PLACES few),
-      subst (Labelled PLACES) (sym (c .find2 .ensures)) (labelled (a .sheet .now) _ names PLACES few),
+    let number = length-ranges (a .starts .now) (a .stops .now) 0 (a .n) in
+    let named : (v : Found) → Named (length names) v → Named (a .n) v = λ v h. subst (λ k. Named k v) number h in (
+      start .pre .0,
+      named (c .before .find .result) (subst (Named (length names)) (sym (c .before .find .ensures)) (found-is-a-site (a .sheet .now) _ names)),
+      named (c .find2 .result) (subst (Named (length names)) (sym (c .find2 .ensures)) (found-is-a-site (a .sheet .now) _ names)),
     )
 
 returns : tie.Need-returns
@@ -33,7 +41,7 @@ unfolding requestAt requestBy
 returns-2 c =
     let told = c .before .before .before .before .before .before .before .before in
     let named = c .before .before .before in
-    let start = told .before .before .before .before in
+    let start = told .before .before .before .before .before .before in
     rw (
       ← (told .line-of .ensures),
       named .before .before .before .kind2 .given .1,
@@ -53,8 +61,8 @@ request-at-spec =
     (λ c. search needs)
     (λ c κs. search needs)
     (λ c κs. search needs)
-    (λ c κs. search needs)
-    (λ c κs. search needs)
+    find-requires
+    find-requires-2
     between-requires
     returns
     returns-2)
