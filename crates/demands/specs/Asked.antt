@@ -1,7 +1,7 @@
 -- What is asked of the planner, stated: the three demands, of what planning tells, of what a report says and of what the program prints.
 -- Demand 1 is asked of either report; what else is asked of the report headed `whole` is in `AskedWhole`.
 -- That it all holds is in `Demands`. What a plan is, and how a report is read off its bytes, is in `Printed`; load, fits and total are in `Flows`,
--- trimming (`balanced`) is in `Trimming`, end sets (`inCut`) in `Cuts`, reading a sheet (`readSheet`) in `Sheet`, the causes (`Refusal`) in `Causes`,
+-- trimming (`balanced`) is in `Trimming`, end sets (`inStoppedCut`) in `Cuts`, reading a sheet (`readSheet`) in `Sheet`, the causes (`Refusal`) in `Causes`,
 -- planning (`plannedBy`, with `planned` and `plannedWhole`) in `Outcome`.
 use mathlib.Core.Path.{_≡_}
 use mathlib.Core.Logic.{_≢_, _↔_, _⊎_}
@@ -12,7 +12,7 @@ use Rattle.model.specs.Edition.{edition1}
 use Rattle.lists.specs.Numbers.{count, look, Each}
 use Rattle.model.specs.Flows.{Site, Fits, sites, load, total}
 use Rattle.model.specs.Trimming.{balanced}
-use Rattle.model.specs.Cuts.{inCut}
+use Rattle.model.specs.Cuts.{inStoppedCut}
 use Rattle.model.specs.Text.{bytes}
 use Rattle.model.specs.declared.Edition.{Edition}
 use Rattle.model.specs.declared.Pair.{Pair}
@@ -70,23 +70,24 @@ pub record ShowsSheet (word : List ℕ) (net : Network) (p : Printed) : Type 0 w
 -- the largest total
 pub record Demand2 (net : Network) (p : Printed) : Type 0 where
   -- no plan that fits the usable sizes, k parts to a circuit, has a larger total: in circuits, total fs / k is at most the printed total / 2
-  pub largest : (fs : List Pair) → IsPlan (siteCount net) (isEnd net) fs → (k : ℕ) → 1 ≤ k → Fits (net .links) k (look (net .capacities)) fs
+  pub largest : (fs : List Pair) → IsPlan (net .links) (siteCount net) (isEnd net) fs → (k : ℕ) → 1 ≤ k → Fits (net .links) k (look (net .capacities)) fs
       → 2 * total fs ≤ k * p .total
   -- the printed pairs are a plan in halves, each pair once; it fits, and it reaches that total
-  pub printed-plan : IsPlan (siteCount net) (isEnd net) (p .plan)
+  pub printed-plan : IsPlan (net .links) (siteCount net) (isEnd net) (p .plan)
   pub once : (x y : ℕ) → arises (p .plan) x y ≤ 1
   pub printed-plan-fits : Fits (net .links) 2 (look (net .capacities)) (p .plan)
   pub reached : total (p .plan) ≡ p .total
   -- on no more pairs than there are links; the pair count is the number of `P` lines
   pub few : length (p .plan) ≤ length (net .links)
   pub counted : p .pairCount ≡ length (p .plan)
-  -- the printed set of an end a is what a reaches over links whose printed trimmed size is below the usable one (01: below the given size)
+  -- the printed set of an end a is what a reaches over links whose printed trimmed size is below the usable one (01: below the given size), without passing
+  -- or taking in another end (02, Card 7: end sets stop at ends other than their own)
   pub set-members : (a x : ℕ) → Site (siteCount net) a → isEnd net a ≡ 1 → Site (siteCount net) x
-      → (printedOwner p x ≡ a) ↔ (inCut (net .links) (look (net .capacities)) (printedTrimmed p) a x ≡ 1)
+      → (printedOwner p x ≡ a) ↔ (inStoppedCut (net .links) (look (net .capacities)) (printedTrimmed p) (isEnd net) a x ≡ 1)
   -- `-` exactly where no end set holds the site
   pub dash-without-set : (x : ℕ) → Site (siteCount net) x
       → (printedDash p x ≡ 1)
-      ↔ ((a : ℕ) → Site (siteCount net) a → isEnd net a ≡ 1 → inCut (net .links) (look (net .capacities)) (printedTrimmed p) a x ≢ 1)
+      ↔ ((a : ℕ) → Site (siteCount net) a → isEnd net a ≡ 1 → inStoppedCut (net .links) (look (net .capacities)) (printedTrimmed p) (isEnd net) a x ≢ 1)
   -- the `X` lines are those of the ends, with the size and the count of the printed set
   pub set-of-each-end : map (λ x. x .end) (p .sets) ≡ endsAmong (isEnd net) (sites (siteCount net))
   pub size-of-each-set : Each (λ x. (x .size ≡ setSize p (x .end)) × (x .count ≡ count (p .owners) (x .end))) (p .sets)
@@ -108,10 +109,10 @@ pub record InOrder (net : Network) (p : Printed) : Type 0 where
 -- the trimmed sizes
 pub record Demand3 (net : Network) (p : Printed) : Type 0 where
   -- whatever plan fits the usable sizes, k parts to a circuit: its load on each link is at most that link's printed trimmed size
-  pub bounded : (fs : List Pair) → IsPlan (siteCount net) (isEnd net) fs → (k : ℕ) → 1 ≤ k → Fits (net .links) k (look (net .capacities)) fs
+  pub bounded : (fs : List Pair) → IsPlan (net .links) (siteCount net) (isEnd net) fs → (k : ℕ) → 1 ≤ k → Fits (net .links) k (look (net .capacities)) fs
       → (j : ℕ) → j < length (net .links) → load (net .links) fs j ≤ k * printedTrimmed p j
   -- the printed plan fits too, and its load, in halves, is twice the printed trimmed size on every link at once
-  pub printed-plan : IsPlan (siteCount net) (isEnd net) (p .plan)
+  pub printed-plan : IsPlan (net .links) (siteCount net) (isEnd net) (p .plan)
   pub printed-plan-fits : Fits (net .links) 2 (look (net .capacities)) (p .plan)
   pub filled : (j : ℕ) → j < length (net .links) → load (net .links) (p .plan) j ≡ 2 * printedTrimmed p j
   -- the printed trimmed sizes are those that trimming gives, of which two theorems in `Demands` speak
@@ -124,13 +125,13 @@ pub record Demand3 (net : Network) (p : Printed) : Type 0 where
 abbrev pub SizesAsGiven : Edition → List ℕ → Network → Printed → Type 0
 SizesAsGiven ed s net p = (j : ℕ) → j < length (net .links) → OwnLinkLine ed s j (getD (net .links) j (0, 0)) (look (p .sizes) j)
 
--- a name f in a report is spelt as on the `N` line of its site (02, Card 4): some site has the name f, in either case, and f is the name on that
--- site's own line, byte for byte
+-- a name f in a report is spelt as on the `N` line of its site (02, Card 4; Card 7: or `T` line): some site has the name f, in either case, and f is the
+-- name on that site's own line, byte for byte
 pub record SpeltAsGiven (ed : Edition) (s : List ℕ) (net : Network) (f : List ℕ) : Type 0 where
   pub site : ℕ
   pub is-site : Site (siteCount net) site
   pub named : siteNamed s net f ≡ site
-  pub line : OwnLine ed s (site - 1) (getD (net .names) (site - 1) (0, 0))
+  pub line : OwnLine ed s (site - 1) (getD (net .names) (site - 1) (0, 0)) (look (net .marks) (site - 1))
   pub name : f ≡ field (fieldsAt s (line .offset)) 1
 
 -- so is every name in the report r: in its `L` lines, its `N` lines, where `-` stands for no owner, its `X` lines and its `P` lines

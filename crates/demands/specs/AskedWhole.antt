@@ -1,6 +1,7 @@
 -- What is asked of the report headed `whole`, stated, of a network and of what is printed for it. Document 02, Card 2: plans in whole circuits.
 -- That it all holds is in `WholeDemands`; refusals, buffers, the length and 9 are in demand 1 (`Asked`), which is asked of either report.
--- What a plan is, and how a report is read off its bytes, is in `Printed`; load, fits and total are in `Flows`, the walk (`pairList`) in `Pairing`,
+-- What a plan is, and how a report is read off its bytes, is in `Printed`; load, fits and total are in `Flows`, the walk on each part
+-- (`pairListOfParts`) in `Parts`,
 -- sets and pieces (`EndSets`, `setSizes`, `oddPieces`) in `Whole`.
 use mathlib.Core.Path.{_≡_}
 use mathlib.Core.List.{List, [], _∷_, map}
@@ -8,7 +9,7 @@ use Prim.Native.Nat.{ℕ, _+_, _*_, _≤_, _<_}
 use lib.ListN.{length}
 use Rattle.lists.specs.Numbers.{count, look, Each}
 use Rattle.model.specs.Flows.{Fits, sites, load, total}
-use Rattle.model.specs.Pairing.{pairList}
+use Rattle.model.specs.Parts.{pairListOfParts}
 use Rattle.model.specs.Text.{bytes}
 use Rattle.model.specs.Whole.{Even, EndSets, setSizes, oddPieces}
 use Rattle.model.specs.declared.Edition.{Edition}
@@ -22,7 +23,7 @@ use Rattle.demands.specs.Asked.{ShowsSheet, SizesAsGiven, NamesAsGiven, 
 
 -- a plan in whole circuits that fits the usable sizes (02: a fitting plan whose amounts are all even in halves)
 pub record FittingWhole (net : Network) (fs : List Pair) : Type 0 where
-  pub plan : IsPlan (siteCount net) (isEnd net) fs
+  pub plan : IsPlan (net .links) (siteCount net) (isEnd net) fs
   pub even : Each (λ e. Even (e .amount)) fs
   pub fits : Fits (net .links) 2 (look (net .capacities)) fs
 
@@ -35,8 +36,8 @@ pub record LargestPlan (net : Network) (p : Printed) : Type 0 where
   pub largest : (fs : List Pair) → FittingWhole net fs → total fs ≤ p .total
   -- `L` lines show the load in place of the trimmed size: in circuits, so that the load of the printed plan, in halves, is twice the printed one on every link
   pub loaded : (j : ℕ) → j < length (net .links) → load (net .links) (p .plan) j ≡ 2 * printedLoad p j
-  -- given the loads, pairs follow 01's walk, with loads in the place of trimmed sizes
-  pub walked : p .plan ≡ pairList (net .links) (siteCount net) (printedLoad p) (isEnd net)
+  -- given the loads, pairs follow 01's walk on each part, with loads in the place of trimmed sizes
+  pub walked : p .plan ≡ pairListOfParts (net .links) (siteCount net) (printedLoad p) (isEnd net)
   -- each pair once, and at most one pair a link; the pair count is the number of `P` lines
   pub once : (x y : ℕ) → arises (p .plan) x y ≤ 1
   pub few : length (p .plan) ≤ length (net .links)

@@ -11,15 +11,13 @@ use lib.ListN.{length}
 use Rattle.model.specs.Limits.{REPORT}
 use Rattle.model.specs.Edition.{edition1}
 use Rattle.lists.specs.Numbers.{look}
-use Rattle.model.specs.Flows.{Links, Tree, Fits, ends}
+use Rattle.model.specs.Flows.{Links, Tree, Fits}
 use Rattle.model.specs.Trimming.{balanced}
 use Rattle.model.specs.Text.{bytes}
 use Rattle.model.specs.declared.Edition.{Edition}
 use Rattle.model.specs.declared.Pair.{Pair}
 use Rattle.lists.specs.Sums.{cases}
 use Rattle.theory_trees.specs.Greatest.{balanced-again}
-use Rattle.theory_trees.specs.Leaves.{Outer}
-use Rattle.theory_trees.specs.Ends.{ends-are-outer}
 use Rattle.sheet.specs.Sheet.{Network, Read, refused, accepted, readSheet}
 use Rattle.sheet.specs.SheetTheorem.{an-accepted-sheet-is-a-tree}
 use Rattle.report.specs.Report.{report}
@@ -79,17 +77,11 @@ a-report-fits-65536-bytes s net read = a-report-is-small (an-accepted-sheet-is-a
 -- ---- demand 3, of two lists of sizes
 
 -- whichever two lists of sizes the links of one tree are given: the plans that fit the first are the plans that fit the second, in whatever
--- fraction of a circuit, exactly if their trimmed sizes agree on every link; for any ends that have one link each
-pub the-same-plans-fit-exactly-if-the-trimmed-sizes-agree : {ls : Links} {n : ℕ} → Tree ls n → (end : ℕ → ℕ) → Outer ls n end → (c d : List ℕ)
-    → ((fs : List Pair) → IsPlan n end fs → (k : ℕ) → 1 ≤ k → Fits ls k (look c) fs ↔ Fits ls k (look d) fs)
+-- fraction of a circuit, exactly if their trimmed sizes agree on every link; for any ends
+pub the-same-plans-fit-exactly-if-the-trimmed-sizes-agree : {ls : Links} {n : ℕ} → Tree ls n → (end : ℕ → ℕ) (c d : List ℕ)
+    → ((fs : List Pair) → IsPlan ls n end fs → (k : ℕ) → 1 ≤ k → Fits ls k (look c) fs ↔ Fits ls k (look d) fs)
     ↔ ((j : ℕ) → j < length ls → look (balanced ls n end c) j ≡ look (balanced ls n end d) j)
-the-same-plans-fit-exactly-if-the-trimmed-sizes-agree T end O c d = same-plans-fit-iff-trimmed-agree T end O c d
-
--- so for the ends of the tree itself
-pub the-same-plans-fit-a-tree-exactly-if-its-trimmed-sizes-agree : {ls : Links} {n : ℕ} → Tree ls n → (c d : List ℕ) → let end = look (ends ls n) in
-    ((fs : List Pair) → IsPlan n end fs → (k : ℕ) → 1 ≤ k → Fits ls k (look c) fs ↔ Fits ls k (look d) fs)
-    ↔ ((j : ℕ) → j < length ls → look (balanced ls n end c) j ≡ look (balanced ls n end d) j)
-the-same-plans-fit-a-tree-exactly-if-its-trimmed-sizes-agree T = same-plans-fit-iff-trimmed-agree T (look (ends _ _)) (ends-are-outer T)
+the-same-plans-fit-exactly-if-the-trimmed-sizes-agree = same-plans-fit-iff-trimmed-agree
 
 -- trimming, handed its own answer as sizes, gives that answer back; for any ends
 pub trimming-gives-its-own-answer-back : {ls : Links} {n : ℕ} → Tree ls n → (end : ℕ → ℕ) (c : List ℕ)
@@ -118,13 +110,13 @@ module _ (ed : Edition) (s b : List ℕ) (net : Network) (read : readSheet ed s 
   pub demand-3 : Demand3 net (printedBy s net (planned ed s b))
   demand-3 = rw (the-plan-is-printed ed s b net read success) (plan-meets-demand-3 (an-accepted-sheet-is-a-tree ed s net read))
 
--- two accepted sheets of one tree, their reports printed: the plans that fit the usable sizes of the first are those that fit the usable sizes of the
--- second exactly if the printed trimmed sizes agree on every link (02, Card 5: a fact about usable sizes)
+-- two accepted sheets of one tree with the same marks, their reports printed: the plans that fit the usable sizes of the first are those that fit the
+-- usable sizes of the second exactly if the printed trimmed sizes agree on every link (02, Card 5: a fact about usable sizes)
 module _ (ed : Edition) (s b t d : List ℕ) (net other : Network) (read : readSheet ed s ≡ accepted net) (read-other : readSheet ed t ≡ accepted other)
     (success : number (planned ed s b .outcome) ≡ 0) (success-other : number (planned ed t d .outcome) ≡ 0)
-    (links : other .links ≡ net .links) (sites : siteCount other ≡ siteCount net) where
+    (links : other .links ≡ net .links) (sites : siteCount other ≡ siteCount net) (marks : other .marks ≡ net .marks) where
   pub two-sheets-of-a-tree-admit-the-same-plans-exactly-if-the-printed-trimmed-sizes-agree :
-      ((fs : List Pair) → IsPlan (siteCount net) (isEnd net) fs → (k : ℕ) → 1 ≤ k
+      ((fs : List Pair) → IsPlan (net .links) (siteCount net) (isEnd net) fs → (k : ℕ) → 1 ≤ k
       → Fits (net .links) k (look (net .capacities)) fs ↔ Fits (net .links) k (look (other .capacities)) fs)
       ↔ ((j : ℕ) → j < length (net .links)
       → printedTrimmed (printedBy s net (planned ed s b)) j ≡ printedTrimmed (printedBy t other (planned ed t d)) j)
@@ -132,8 +124,8 @@ module _ (ed : Edition) (s b t d : List ℕ) (net other : Network) (read : readS
       let T = an-accepted-sheet-is-a-tree ed s net read .tree in
       let own = demand-3 ed s b net read success .trimmed in
       let same : printedBy t other (planned ed t d) .shown ≡ balanced (net .links) (siteCount net) (isEnd net) (other .capacities)
-      = demand-3 ed t d other read-other success-other .trimmed ∙ rw (links, sites) in
-      let law = the-same-plans-fit-a-tree-exactly-if-its-trimmed-sizes-agree T (net .capacities) (other .capacities) in (
+      = demand-3 ed t d other read-other success-other .trimmed ∙ rw (links, sites, marks) in
+      let law = the-same-plans-fit-exactly-if-the-trimmed-sizes-agree T (isEnd net) (net .capacities) (other .capacities) in (
         λ plans j l. ap (λ t. look t j) own ∙ law .0 plans j l ∙ sym (ap (λ t. look t j) same),
         λ agree. law .1 (λ j l. sym (ap (λ t. look t j) own) ∙ agree j l ∙ ap (λ t. look t j) same),
       )

@@ -14,6 +14,7 @@ sheet = bytes "network\t1\nN\thub\nN\ta\nN\tb\nN\tc\nL\thub\ta\t5\nL\thub\tb\t1\
 abbrev net : Network
 net = record {
   names = (12, 15) ∷ (18, 19) ∷ (22, 23) ∷ (26, 27) ∷ [];
+  marks = 0 ∷ 0 ∷ 0 ∷ 0 ∷ [];
   links = (1, 2) ∷ (1, 3) ∷ (1, 4) ∷ [];
   capacities = 5 ∷ 1 ∷ 1 ∷ [];
 }

@@ -13,11 +13,9 @@ use Rattle.model.specs.Text.{bytes}
 use Rattle.model.specs.declared.Edition.{Edition}
 use Rattle.lists.specs.Sums.{contradiction}
 use Rattle.lists.specs.Maps.{map-map}
-use Rattle.theory_trees.specs.Ends.{ends-are-outer}
-use Rattle.theory_trees.specs.Leaves.{Outer}
 use Rattle.theory_trees.specs.TerminalCuts.{cut-sizes-sum-to-the-terminals}
 use Rattle.theory_trees.specs.Bounds.{what-fits-fits-the-balanced, a-full-multiflow-has-the-greatest-total}
-use Rattle.theory_walk.specs.PairingTheorem.{pair-list-ascends, pair-list-lower-first}
+use Rattle.theory_walk.specs.PartsTheorem.{pair-list-of-parts-ascends, pair-list-of-parts-lower-first}
 use Rattle.sheet_kinds.specs.LineKinds.{field}
 use Rattle.sheet.specs.Sheet.{Network, Read, refused, accepted, readSheet}
 use Rattle.sheet.specs.OwnLines.{a-link-stands-on-its-own-line}
@@ -29,7 +27,7 @@ use Rattle.demands.specs.Printed.{siteCount, isEnd, endsAmong, readRepor
 use Rattle.demands.specs.Asked.{WithoutCause, Demand1, ShowsSheet, SizesAsGiven, Demand2, InOrder, Demand3, IsReport, IsRefusal}
 use Rattle.demands.specs.Asked.{faulty-sheet, long-report, full-report, Prints, a-full-report, a-refusal}
 use Rattle.demands.specs.Lists.{map-own}
-use Rattle.demands.specs.Plans.{multiflow-is-plan, plan-is-multiflow, fullPlan, trimmed-is-greatest, full-plan-is-sound, full-plan-fits}
+use Rattle.demands.specs.Plans.{fullPlan, trimmed-is-greatest, full-plan-is-sound, full-plan-fits}
 use Rattle.demands.specs.Records.{refusal-line, refusal-fields, refusal-number, refusal-at}
 use Rattle.demands.specs.ReadBack.{figuresSay, planSays, report-read-back}
 use Rattle.demands.specs.Spelling.{the-report-spells-names-as-given}
@@ -78,15 +76,12 @@ pub a-set-is-told-for-each-end : (net : Network) (f : Figures) → let ends = en
 a-set-is-told-for-each-end net f = map-map _ _ (endsAmong (isEnd net) (sites (siteCount net))) ∙ map-own (endsAmong (isEnd net) (sites (siteCount net)))
 
 module _ {ed : Edition} {s : List ℕ} {net : Network} (N : IsNetwork ed s net) where
-  abbrev O : Outer (net .links) (siteCount net) (isEnd net)
-  O = ends-are-outer (N .tree)
-
   pub figures-are-in-order : (f : Figures) → Showable net f → InOrder net (figuresSay net f)
   unfolding figuresSay
   figures-are-in-order f h = record {
     positive = figures-have-sound-pairs net (N .tree) f h .positive;
-    lower-first = pair-list-lower-first (N .tree) (isEnd net) (look (f .shown)) O (h .balanced);
-    ascending = pair-list-ascends (N .tree) (isEnd net) (look (f .shown)) O (h .balanced);
+    lower-first = pair-list-of-parts-lower-first (N .tree) (isEnd net) (look (f .shown)) (h .balanced);
+    ascending = pair-list-of-parts-ascends (N .tree) (isEnd net) (look (f .shown)) (h .balanced);
     owner-of-each-site = an-owner-is-told-for-each-site (siteCount net) (f .owner);
     dash-or-end = λ x q. owners-are-told-or-dashes (siteCount net) (f .owner) x q (isEnd net) (h .owned x q);
     dash-is-none = a-dash-tells-no-owner (siteCount net) (f .owner);
@@ -109,15 +104,15 @@ module _ {ed : Edition} {s : List ℕ} {net : Network} (N : IsNetwork ed s net) 
       let ls = net .links in
       let n = siteCount net in
       let end = isEnd net in
-      let plan = fullPlan T end O (net .capacities) in
-      let greatest = trimmed-is-greatest T end O (net .capacities) in
-      let full = full-plan-is-sound T end O (net .capacities) in
+      let plan = fullPlan T end (net .capacities) in
+      let greatest = trimmed-is-greatest T end (net .capacities) in
+      let full = full-plan-is-sound T end (net .capacities) in
       record {
         largest =
-            λ fs h k _ f. a-full-multiflow-has-the-greatest-total T end greatest plan (full .routes) 2 (full .loads) fs (plan-is-multiflow T end O fs h) k f;
-        printed-plan = multiflow-is-plan ls n end plan (full .routes);
+            λ fs h k _ f. a-full-multiflow-has-the-greatest-total T end greatest plan (full .routes) 2 (full .loads) fs h k f;
+        printed-plan = full .routes;
         once = full .once;
-        printed-plan-fits = full-plan-fits T end O (net .capacities);
+        printed-plan-fits = full-plan-fits T end (net .capacities);
         reached = refl;
         few = full .few;
         counted = refl;
@@ -136,11 +131,11 @@ module _ {ed : Edition} {s : List ℕ} {net : Network} (N : IsNetwork ed s net) 
   plan-meets-demand-3 =
       let T = N .tree in
       let end = isEnd net in
-      let full = full-plan-is-sound T end O (net .capacities) in
+      let full = full-plan-is-sound T end (net .capacities) in
       record {
-        bounded = λ fs h k _ f. what-fits-fits-the-balanced T end (trimmed-is-greatest T end O (net .capacities)) fs (plan-is-multiflow T end O fs h) k f;
-        printed-plan = multiflow-is-plan (net .links) (siteCount net) end (fullPlan T end O (net .capacities)) (full .routes);
-        printed-plan-fits = full-plan-fits T end O (net .capacities);
+        bounded = λ fs h k _ f. what-fits-fits-the-balanced T end (trimmed-is-greatest T end (net .capacities)) fs h k f;
+        printed-plan = full .routes;
+        printed-plan-fits = full-plan-fits T end (net .capacities);
         filled = full .loads;
         trimmed = refl;
       }

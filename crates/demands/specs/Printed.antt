@@ -1,44 +1,35 @@
 -- What the demands speak of: plans; and what a report says, read off its bytes alone: lines, fields and numbers, and from them the printed
 -- total, sizes, end sets and plan; and what the line of a refusal says. Document 01, "Plans, trimmed sizes, end sets" and "The report, given whole";
 -- 02, Card 2 (the report headed `whole`).
-use mathlib.Core.Path.{_≡_}
-use mathlib.Core.Logic.{_≢_}
 use mathlib.Core.Bool.{cond}
 use mathlib.Core.List.{List, [], _∷_, map}
 use Prim.Native.Nat.{ℕ, _+_, _-_}
 use lib.Dec.{eqb}
 use lib.ListN.{length, getD, take}
-use Rattle.lists.specs.Numbers.{pick, look, Each}
-use Rattle.model.specs.Flows.{Links, Site, ends}
+use Rattle.lists.specs.Numbers.{pick, look}
+use Rattle.model.specs.Flows.{Links, Multiflow}
 use Rattle.model.specs.Text.{bytes}
 use Rattle.model.specs.Whole.{setSize as sizeBy}
 use Rattle.model.specs.declared.Pair.{Pair}
 use Rattle.sheet_kinds.specs.LineKinds.{push, fields, field, same, value}
-use Rattle.sheet.specs.Sheet.{Network, lookup}
+use Rattle.sheet.specs.Sheet.{Network, endsOf, lookup}
 use Rattle.sheet_names.specs.declared.Found.{Found}
 use Rattle.sheet_names.specs.declared.Found.the-variants.{At, Absent}
 use Rattle.planner.specs.Outcome.{Planned, lengthOf, Answer}
 
 -- ---- plans
 
--- an entry joins two different ends (01: each pair of different ends); `end` is 1 at an end
-pub record JoinsEnds (n : ℕ) (end : ℕ → ℕ) (e : Pair) : Type 0 where
-  pub first-site : Site n (e .first)
-  pub second-site : Site n (e .second)
-  pub first-end : end (e .first) ≡ 1
-  pub second-end : end (e .second) ≡ 1
-  pub different : e .first ≢ e .second
-
--- a plan of a tree with n sites: amounts for pairs of different ends; in which parts of a circuit is said beside it (01: plan)
-abbrev pub IsPlan : ℕ → (ℕ → ℕ) → List Pair → Type 0
-IsPlan n end fs = Each (JoinsEnds n end) fs
+-- a plan of a tree with n sites, `end` being 1 at an end: amounts for pairs of different ends (01: plan), of which none has another end on its path
+-- (02, Card 7: such a pair takes no amount); in which parts of a circuit is said beside it
+abbrev pub IsPlan : Links → ℕ → (ℕ → ℕ) → List Pair → Type 0
+IsPlan = Multiflow
 
 -- the number of sites of a network, and its ends: 1 at an end
 abbrev pub siteCount : Network → ℕ
 siteCount net = length (net .names)
 
 abbrev pub isEnd : Network → ℕ → ℕ
-isEnd net = look (ends (net .links) (siteCount net))
+isEnd net = look (endsOf net)
 
 -- ---- lines and fields
 

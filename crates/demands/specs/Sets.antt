@@ -9,12 +9,13 @@ use lib.ListN.{length, length-map}
 use Rattle.lists.specs.Numbers.{is, differ, over, count, look, Each}
 use Rattle.model.specs.Flows.{Links, Site, Tree, sites, one, two}
 use Rattle.model.specs.Trimming.{Greatest}
-use Rattle.model.specs.Cuts.{group, inCut, cutSize, cutCount, owner}
+use Rattle.model.specs.Cuts.{group, inCut, cutSize, cutCount, owner, inStoppedCut}
 use Rattle.model.specs.Whole.{setSize, setCount}
 use Rattle.lists.specs.Sums.{same?, pick-same, pick-other, is-same, is-other, is-one, is-iff, sum-eq}
 use Rattle.lists.specs.Places.{over-eq, length-upfrom}
 use Rattle.theory_trees.specs.Sites.{look-site}
 use Rattle.theory_trees.specs.Owners.{owner-or-none, without-owner-in-no-cut, owner-iff-in-cut}
+use Rattle.theory_trees.specs.Stopping.{stopping-changes-nothing}
 use Rattle.planner.specs.Figures.{Figures}
 use Rattle.demands.specs.Printed.{EndSet, sizeSum, endsAmong}
 use Rattle.demands.specs.Lists.{each-site}
@@ -112,16 +113,20 @@ module _ {ls : Links} {n : ℕ} (T : Tree ls n) (terminal : ℕ → ℕ) {c t : 
       let w = owner-iff-in-cut T terminal g a p e x in
       is-iff (own x) a (group ls c t x) (group ls c t a) (λ o. is-one (w .0 o)) (λ i. w .1 (is-same i))
 
-  -- so the owners told say what is in a cut
-  pub owners-tell-the-cuts : (a x : ℕ) → Site n a → terminal a ≡ 1 → Site n x → (look (owners n own) (x - 1) ≡ a) ↔ (inCut ls c t a x ≡ 1)
-  owners-tell-the-cuts a x p e q = rw (the-owner-told-is-the-owner n own x q) (owner-iff-in-cut T terminal g a p e x)
+  -- so the owners told say what is in a cut; cuts stop at other ends of themselves
+  pub owners-tell-the-cuts : (a x : ℕ) → Site n a → terminal a ≡ 1 → Site n x → (look (owners n own) (x - 1) ≡ a) ↔ (inStoppedCut ls c t terminal a x ≡ 1)
+  owners-tell-the-cuts a x p e q = rw (the-owner-told-is-the-owner n own x q, stopping-changes-nothing T terminal g a p e x)
+      (owner-iff-in-cut T terminal g a p e x)
 
   -- `-` just where no cut holds the site
   pub a-dash-tells-that-no-cut-holds-the-site : (x : ℕ) → Site n x
-      → (look (dashes n own) (x - 1) ≡ 1) ↔ ((a : ℕ) → Site n a → terminal a ≡ 1 → inCut ls c t a x ≢ 1)
+      → (look (dashes n own) (x - 1) ≡ 1) ↔ ((a : ℕ) → Site n a → terminal a ≡ 1 → inStoppedCut ls c t terminal a x ≢ 1)
   a-dash-tells-that-no-cut-holds-the-site x q = rw (look-site (λ x. is (own x) 0) n x q) (
-    λ none a p e i. absurd (omega (arith, without-owner-in-no-cut ls c t terminal x n (is-one none) a p e)),
-    λ none. elim (owner-or-none ls c t terminal x n) [ inl r ↦ is-same (r .0) | inr r ↦ absurd (none _ (r .0) (r .1) (r .2)) ],
+    λ none a p e i. absurd (omega (arith, without-owner-in-no-cut ls c t terminal x n (is-one none) a p e, stopping-changes-nothing T terminal g a p e x)),
+    λ none. elim (owner-or-none ls c t terminal x n) [
+      | inl r ↦ is-same (r .0)
+      | inr r ↦ absurd (none _ (r .0) (r .1) (stopping-changes-nothing T terminal g _ (r .0) (r .1) x ∙ r .2))
+    ],
   )
 
   -- the size and the count of the sites that an end owns are those of its cut

@@ -7,8 +7,7 @@ use Rattle.model.specs.Flows.{Links, Site, Tree, sites, total}
 use Rattle.model.specs.Whole.{WholePlan, EndSets, setSizes, oddPieces}
 use Rattle.model.specs.declared.Edition.{Edition}
 use Rattle.model.specs.declared.Pair.{Pair}
-use Rattle.theory_trees.specs.Ends.{ends-are-outer, an-end-is-a-leaf}
-use Rattle.theory_whole.specs.Circuits.{PairsWhole, the-pairs-of-whole-loads}
+use Rattle.theory_whole.specs.Circuits.{PairsWhole, the-pairs-of-parts-of-whole-loads}
 use Rattle.theory_whole.specs.Duality.{no-sets-do-better}
 use Rattle.sheet.specs.Sheet.{Network, accepted, readSheet}
 use Rattle.sheet.specs.SheetTheorem.{IsNetwork, an-accepted-sheet-is-a-tree}
@@ -18,7 +17,6 @@ use Rattle.planner.specs.WholeFigures.{wholes-are-largest, wholes-can-be-shown}
 use Rattle.demands.specs.Printed.{siteCount, isEnd, endsAmong, Printed, readReport, sizeSum}
 use Rattle.demands.specs.AskedWhole.{FittingWhole, LargestPlan, PrintedSets, IsWholeReport}
 use Rattle.demands.specs.Agree.{odd-pieces-agree}
-use Rattle.demands.specs.Plans.{multiflow-is-plan, plan-is-multiflow}
 use Rattle.demands.specs.ReadBack.{figuresSay, figures-read-back}
 use Rattle.demands.specs.Spelling.{the-whole-report-spells-names-as-given}
 use Rattle.demands.specs.Sets.{setBy, sizes-summed, told-sets-are-owned, the-owner-told-is-the-owner}
@@ -50,22 +48,22 @@ module _ (net : Network) (T : Tree (net .links) (siteCount net)) where
 
   -- a plan as the card speaks of it, and as the theory does
   fitting-is-whole : (fs : List Pair) → FittingWhole net fs → WholePlan ls n end c fs
-  fitting-is-whole fs h = record { routes = plan-is-multiflow T end (ends-are-outer T) fs (h .plan); even = h .even; fits = h .fits }
+  fitting-is-whole fs h = record { routes = h .plan; even = h .even; fits = h .fits }
 
   whole-is-fitting : (fs : List Pair) → WholePlan ls n end c fs → FittingWhole net fs
-  whole-is-fitting fs w = record { plan = multiflow-is-plan ls n end fs (w .routes); even = w .even; fits = w .fits }
+  whole-is-fitting fs w = record { plan = w .routes; even = w .even; fits = w .fits }
 
   -- whatever end sets, and whatever fitting plan in whole circuits: set sizes less odd pieces are no less than the total
   pub no-whole-plan-passes-any-sets : (owner : ℕ → ℕ) → EndSets n end owner → (fs : List Pair) → FittingWhole net fs
       → total fs + oddPieces ls n c owner ≤ setSizes ls n end c owner
-  no-whole-plan-passes-any-sets owner sets fs h = no-sets-do-better T end (λ v p e. an-end-is-a-leaf T v ∙ e) c owner sets fs (fitting-is-whole fs h)
+  no-whole-plan-passes-any-sets owner sets fs h = no-sets-do-better T end c owner sets fs (fitting-is-whole fs h)
 
   -- the pairs of the loads taken
   abbrev taken : List Pair
   taken = pairsBy net (wholes net)
 
   pairs : PairsWhole ls n end c (look (wholes net .shown)) own taken
-  pairs = the-pairs-of-whole-loads T (ends-are-outer T) (wholes-are-largest net T)
+  pairs = the-pairs-of-parts-of-whole-loads T (wholes-are-largest net T)
 
   pub whole-has-a-largest-plan : LargestPlan net (wholeSays net)
   unfolding figuresSay

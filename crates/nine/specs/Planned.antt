@@ -1,15 +1,16 @@
 -- The definitions give each of the nine sheets exactly its report: one proof, by computation, over the list.
 use mathlib.Core.Path.{_≡_, refl}
-use mathlib.Core.List.{map}
+use mathlib.Core.List.{map, flatMap}
 use lib.ListN.{length, replicate}
 use native.Mathlib.Decide.{ℕ-discrete, decLe, decLt}
 use Rattle.model.specs.Edition.{edition1}
 use Rattle.lists.specs.Numbers.{pick, is, differ, less, sum, over, count, upfrom}
-use Rattle.model.specs.Flows.{at, sumAt, leaf, ends, relabel, label, joined, total}
+use Rattle.model.specs.Flows.{at, sumAt, leaf, endAt, ends, relabel, label, joined, total}
 use Rattle.model.specs.Trimming.{cutAt, cutSite, cutSites, unvisited, first, remove, taken, elimination, balancedAlong, balanced}
 use Rattle.model.specs.Cuts.{kept, group, inCut, cutSize, cutCount, ownerAmong, owner}
 use Rattle.model.specs.Pairing.{put, takeHalves, dropHalves, halves, give, match, joins, between, children, gather, alone, settle, walk, pairsFrom}
-use Rattle.model.specs.Pairing.{lowestInner, pairs, lowerFirst, before, insert, ordered, pairList}
+use Rattle.model.specs.Pairing.{lowestInner, lowerFirst, before, insert, ordered}
+use Rattle.model.specs.Parts.{within, single, region, member, home, lowest, root, pairsOfPart, pairOfLink, pairsOfParts, pairListOfParts}
 use Rattle.text_lines.specs.Lines.{lineLength, lineAt, afterLine, hasLine}
 use Rattle.sheet_kinds.specs.LineKinds.{same, push, fields, all, isName, isNumber, valueFrom, isHeading, checkedFields, checked, faultOf, judged}
 use Rattle.sheet_kinds.specs.LineKinds.{sizeOf, capacityOf, siteLine as sheetSite, sizedLink, linkLine as sheetLink, kindOf, kind}
@@ -30,10 +31,11 @@ unfoldable pub expected : Example → Planned
 expected e = record { outcome = Report (length (e .report)); buffer = e .report }
 
 nine-sheets : map (plannedFor report) sheets ≡ map expected sheets
-unfolding plannedFor expected plannedBy planRead deliver ℕ-discrete decLe decLt pick is differ less sum over count upfrom at sumAt leaf ends relabel label
-    joined total cutAt cutSite cutSites unvisited first remove taken elimination balancedAlong balanced kept group inCut cutSize cutCount ownerAmong owner put
-    takeHalves dropHalves halves give match joins between children gather alone settle walk pairsFrom lowestInner pairs lowerFirst before insert ordered
-    pairList lineLength lineAt afterLine hasLine same push fields all isName isNumber valueFrom isHeading checkedFields checked faultOf judged
+unfolding plannedFor expected plannedBy planRead deliver ℕ-discrete decLe decLt pick is differ less sum over count upfrom at sumAt leaf endAt ends relabel
+    label joined total cutAt cutSite cutSites unvisited first remove taken elimination balancedAlong balanced kept group inCut cutSize cutCount ownerAmong owner
+    put takeHalves dropHalves halves give match joins between children gather alone settle walk pairsFrom lowestInner lowerFirst before insert ordered
+    within single region member home lowest root pairsOfPart pairOfLink pairsOfParts pairListOfParts flatMap
+    lineLength lineAt afterLine hasLine same push fields all isName isNumber valueFrom isHeading checkedFields checked faultOf judged
     sizeOf capacityOf sheetSite sizedLink sheetLink kindOf kind capitals lookupFrom siteStep linkStep headingStep recordStep stepOf readLine andThen
     readLines allJoined finish readSheet digits decimal line lines planOf
     ownerName headRecord linkRecord linkLine siteRecord siteLine cutRecord cutLine pairLine

@@ -1,7 +1,8 @@
--- What Cards 1, 4 and 5 changed in planning (document 02), for either report, every sheet and every buffer. By the numbering from before, which gave 2 for
--- each fault of form, outcome and buffer are today's, but that 2 stands for 10, 11 and 12; by the look-up from before, which went by the bytes of names, they
--- are today's wherever no two names differ in case alone; by the link lines from before, of four fields, they are today's wherever no link line has a
--- reserve. Since sheets are read so, and a report that is too long is told as 9.
+-- What Cards 1, 4, 5 and 7 changed in reading, for planning (document 02), for either report, every sheet and every buffer. By the numbering from before,
+-- which gave 2 for each fault of form, outcome and buffer are today's, but that 2 stands for 10, 11 and 12; by the look-up from before, which went by the
+-- bytes of names, they are today's wherever no two names differ in case alone; by the site lines from before, with the letter `N`, they are today's wherever
+-- no line has the letter `T`; by the link lines from before, of four fields, they are today's wherever no link line has a reserve either. Since sheets are
+-- read so, and a report that is too long is told as 9.
 use mathlib.Core.Bool.{Bool, true, false, cond}
 use mathlib.Core.List.{List}
 use mathlib.Core.Path.{_≡_, refl}
@@ -10,8 +11,9 @@ use lib.Dec.{leb}
 use lib.ListN.{length}
 use Rattle.model.specs.declared.Edition.{Edition}
 use Rattle.sheet.specs.Sheet.{Read, refused, accepted, readSheet, lookup}
-use Rattle.sheet.specs.Earlier.{Kinds, kind, kindBefore, kindUnreserved, Lookup, lookupBytes, readSheetBy}
+use Rattle.sheet.specs.Earlier.{Kinds, kind, kindBefore, kindUnmarked, kindUnreserved, Lookup, lookupBytes, readSheetBy}
 use Rattle.sheet.specs.Renumbered.{numberBefore, readBefore, a-sheet-is-read-by-its-kinds, a-sheet-is-read-as-before}
+use Rattle.sheet.specs.Marks.{WithoutMarks, a-sheet-without-marks-is-read-as-before}
 use Rattle.sheet.specs.Reserves.{WithoutReserves, a-sheet-without-reserves-is-read-as-before}
 use Rattle.sheet.specs.Spelling.{SpeltAlike, a-sheet-spelt-alike-is-read-as-before}
 use Rattle.planner.specs.Outcome.{Planned, Reporter, deliver, planRead, plannedBy}
@@ -59,7 +61,13 @@ module _ (text : Reporter) (ed : Edition) (s b : List ℕ) where
   unfolding plannedReading plannedBy
   a-sheet-spelt-alike-is-planned-as-before alike = rw (a-sheet-spelt-alike-is-read-as-before ed s alike)
 
-  -- a sheet without reserves gets the outcome and the buffer that it had
-  pub a-sheet-without-reserves-is-planned-as-before : WithoutReserves s → plannedReading kindUnreserved lookup text ed s b ≡ plannedBy text ed s b
+  -- a sheet without marks gets the outcome and the buffer that it had by the site lines from before
+  pub a-sheet-without-marks-is-planned-as-before : WithoutMarks s → plannedReading kindUnmarked lookup text ed s b ≡ plannedBy text ed s b
   unfolding plannedReading plannedBy
-  a-sheet-without-reserves-is-planned-as-before none = rw (a-sheet-without-reserves-is-read-as-before ed s none)
+  a-sheet-without-marks-is-planned-as-before none = rw (a-sheet-without-marks-is-read-as-before ed s none)
+
+  -- and one without reserves and marks gets those that it had by the link lines from before
+  pub a-sheet-without-reserves-is-planned-as-before : WithoutReserves s → WithoutMarks s
+      → plannedReading kindUnreserved lookup text ed s b ≡ plannedBy text ed s b
+  unfolding plannedReading plannedBy
+  a-sheet-without-reserves-is-planned-as-before none unmarked = rw (a-sheet-without-reserves-is-read-as-before ed s none unmarked)

@@ -8,22 +8,21 @@ use native.Mathlib.Omega.{arith}
 use native.Mathlib.Nat.{mul-le-mul-right}
 use lib.ListN.{length, getD}
 use Rattle.lists.specs.Numbers.{differ, sum, over, look, Each}
-use Rattle.model.specs.Flows.{Links, Site, Tree, Below, sites, one, two, ends}
+use Rattle.model.specs.Flows.{Links, Site, Tree, Below, sites, one, two}
 use Rattle.model.specs.Trimming.{Greatest, Balanced, balanced}
 use Rattle.model.specs.Cuts.{inCut, cutSize, cutCount, owner}
-use Rattle.model.specs.Pairing.{pairList}
+use Rattle.model.specs.Parts.{pairListOfParts}
 use Rattle.model.specs.Text.{bytes}
 use Rattle.model.specs.Whole.{setSize, setCount, oddPieces}
 use Rattle.model.specs.WholeLoads.{wholeLoads, wholeOwner}
 use Rattle.model.specs.declared.Pair.{Pair}
 use Rattle.lists.specs.Sums.{is-le, differ-le, sum-le}
 use Rattle.lists.specs.Places.{length-upfrom, over-le, over-one}
-use Rattle.theory_trees.specs.Ends.{ends-are-outer}
 use Rattle.theory_trees.specs.Greatest.{balanced-is-greatest, balanced-has-each-link}
 use Rattle.theory_trees.specs.Owners.{owner-or-none}
 use Rattle.theory_walk.specs.Sound.{Sound}
-use Rattle.theory_walk.specs.PairingTheorem.{pair-list-is-sound}
-use Rattle.sheet.specs.Sheet.{Network, part}
+use Rattle.theory_walk.specs.PartsTheorem.{pair-list-of-parts-is-sound}
+use Rattle.sheet.specs.Sheet.{Network, endsOf, part}
 use Rattle.report.specs.Report.{Plan, lines, oddLine, planOf, wholeOf, reportOf, report, wholeReport}
 
 -- ---- figures
@@ -48,43 +47,50 @@ module _ (net : Network) where
   abbrev c : ℕ → ℕ
   c = look (net .capacities)
 
-  abbrev pub terminal : ℕ → ℕ
-  terminal = look (ends ls n)
+  -- in halves, with these ends: trimmed sizes and end sets
+  abbrev pub halvesBy : (ℕ → ℕ) → Figures
+  halvesBy end =
+      let trimmed = balanced ls n end (net .capacities) in
+      record {
+        word = bytes "plan";
+        shown = trimmed;
+        owner = owner ls c (look trimmed) end n;
+        size = cutSize ls c (look trimmed);
+        count = cutCount ls c (look trimmed) n;
+        pieces = [];
+      }
 
-  abbrev trimmed : List ℕ
-  trimmed = balanced ls n terminal (net .capacities)
-
-  -- in halves: trimmed sizes and end sets
-  abbrev pub halves : Figures
-  halves = record {
-    word = bytes "plan";
-    shown = trimmed;
-    owner = owner ls c (look trimmed) terminal n;
-    size = cutSize ls c (look trimmed);
-    count = cutCount ls c (look trimmed) n;
-    pieces = [];
-  }
-
-  -- in whole circuits: loads, the sets that go with them, the count of odd pieces
-  abbrev pub wholes : Figures
-  wholes =
-      let owner = wholeOwner ls n terminal c in
+  -- in whole circuits, with these ends: loads, the sets that go with them, the count of odd pieces
+  abbrev pub wholesBy : (ℕ → ℕ) → Figures
+  wholesBy end =
+      let owner = wholeOwner ls n end c in
       record {
         word = bytes "whole";
-        shown = wholeLoads ls n terminal c;
+        shown = wholeLoads ls n end c;
         owner = owner;
         size = setSize ls c owner;
         count = setCount n owner;
         pieces = oddPieces ls n c owner ∷ [];
       }
 
+  -- the ends are those of the network
+  abbrev pub terminal : ℕ → ℕ
+  terminal = look (endsOf net)
+
+  abbrev pub halves : Figures
+  halves = halvesBy terminal
+
+  abbrev pub wholes : Figures
+  wholes = wholesBy terminal
+
+  abbrev trimmed : List ℕ
+  trimmed = halves .shown
+
   -- ---- the plan that shows figures
 
-  abbrev pub pairsBy : Figures → List Pair
-  pairsBy f = pairList ls n (look (f .shown)) terminal
-
-  abbrev pub planShowing : List ℕ → Figures → Plan
-  planShowing s f = record {
+  -- with these ends and these pairs
+  abbrev pub planWith : List ℕ → List Pair → List ℕ → Figures → Plan
+  planWith ends pairs s f = record {
     word = f .word;
     names = λ v. part s (getD (net .names) (v - 1) (0, 0));
     size = n;
@@ -92,13 +98,20 @@ module _ (net : Network) where
     twos = map (λ l. l .1) ls;
     capacities = net .capacities;
     shown = f .shown;
-    ends = ends ls n;
+    ends = ends;
     owners = map (f .owner) (sites n);
     cutSizes = map (f .size) (sites n);
     cutCounts = map (f .count) (sites n);
     before = lines oddLine (f .pieces);
-    pairs = pairsBy f;
+    pairs = pairs;
   }
+
+  -- with the ends of the network, and the pairs over all parts
+  abbrev pub pairsBy : Figures → List Pair
+  pairsBy f = pairListOfParts ls n (look (f .shown)) terminal
+
+  abbrev pub planShowing : List ℕ → Figures → Plan
+  planShowing s f = planWith (endsOf net) (pairsBy f) s f
 
   pub the-report-shows-halves : (s : List ℕ) → report s net ≡ reportOf (planShowing s halves)
   unfolding report planOf lines
@@ -126,7 +139,7 @@ module _ (net : Network) where
     pub few-pieces : Each (λ k. k ≤ n) (f .pieces)
 
   pub figures-have-sound-pairs : Tree ls n → (f : Figures) → Showable f → Sound ls n terminal (look (f .shown)) (pairsBy f)
-  figures-have-sound-pairs T f h = pair-list-is-sound T terminal (look (f .shown)) (ends-are-outer T) (h .balanced)
+  figures-have-sound-pairs T f h = pair-list-of-parts-is-sound T terminal (look (f .shown)) (h .balanced)
 
   -- links with just one site among some have no more than all links
   pub leaving-within : (among : ℕ → ℕ) → sum (length ls) (λ j. differ (among (one ls j)) (among (two ls j)) * c j) ≤ sum (length ls) c

@@ -11,3 +11,4 @@ pub mod Works
 pub mod WholeWorks
 pub mod Fits
 pub mod Earlier
+pub mod Unmarked

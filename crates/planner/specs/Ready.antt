@@ -6,12 +6,11 @@ use Prim.Native.Nat.{ℕ}
 use lib.ListN.{length, take}
 use Rattle.model.specs.Edition.{edition1}
 use Rattle.lists.specs.Numbers.{look}
-use Rattle.model.specs.Flows.{ends}
 use Rattle.model.specs.Trimming.{elimination}
 use Rattle.model.specs.declared.Pairs.{Pairs}
 use Rattle.tree.specs.Offer.{links}
 use Rattle.tree_links.specs.Chains.{Chained}
-use Rattle.sheet.specs.Sheet.{Network, accepted, readSheet}
+use Rattle.sheet.specs.Sheet.{Network, endsOf, accepted, readSheet}
 use Rattle.report.specs.Report.{Plan, reportOf, report}
 use Rattle.report.specs.Shown.{CanWrite}
 use Rattle.planner.specs.Outcome.{Reporter}
@@ -32,10 +31,11 @@ pub record TakenApart (s starting stopping : List ℕ) (n : ℕ) (one two c : Li
 abbrev pub Ordered : ℕ → List ℕ → List ℕ → List ℕ → Type 0
 Ordered n one two order = take n order ≡ elimination (links one two) n
 
--- the elimination order, the ends and the chains of a tree of n sites
-pub record Charted (n : ℕ) (one two order marks last before : List ℕ) : Type 0 where
+-- the elimination order, the ends and the chains of the tree of a network taken apart
+pub record Charted {s starting stopping : List ℕ} {n : ℕ} {one two c : List ℕ} (a : TakenApart s starting stopping n one two c)
+    (order terminals last before : List ℕ) : Type 0 where
   pub ordered : Ordered n one two order
-  pub marked : look marks ≡ look (ends (links one two) n)
+  pub marked : look terminals ≡ look (endsOf (a .net))
   pub chained : Chained one two last before
 
 -- the report of the plan p is that of an accepted sheet, and can be written

@@ -8,12 +8,12 @@ use native.Mathlib.Omega.{arith}
 use lib.ListN.{length, getD, take}
 use Rattle.model.specs.Limits.{SITES}
 use Rattle.lists.specs.Numbers.{look, upfrom}
-use Rattle.model.specs.Flows.{sites, ends}
+use Rattle.model.specs.Flows.{sites}
 use Rattle.model.specs.declared.Pair.{Pair}
 use Rattle.model.specs.declared.Pairs.{Pairs}
 use Rattle.lists.specs.Sums.{pick-other, same?}
 use Rattle.lists.specs.Places.{look-from}
-use Rattle.sheet.specs.Sheet.{Network, part}
+use Rattle.sheet.specs.Sheet.{Network, endsOf, part}
 use Rattle.sheet.specs.Reading.{padded}
 use Rattle.sheet.specs.ListLaws.{look-padded}
 use Rattle.report.specs.Report.{lines, oddLine, siteLine, cutLine, Plan, reportOf}
@@ -57,15 +57,15 @@ module _ (net : Network) (f : Figures) where
   size = length (net .names)
 
   -- lists that hold the figures of each site, the lines before the pairs, and pairs that are the pair list
-  pub record Works (marks owners sizes counts before : List ℕ) (pairs : List Pair) : Type 0 where
-    pub marked : look marks ≡ terminal net
+  pub record Works (terminals owners sizes counts before : List ℕ) (pairs : List Pair) : Type 0 where
+    pub marked : look terminals ≡ terminal net
     pub own : (i : ℕ) → i < size → look owners i ≡ f .owner (1 + i)
     pub cut : (i : ℕ) → i < size → terminal net (1 + i) ≡ 1 → look sizes i ≡ f .size (1 + i)
     pub members : (i : ℕ) → i < size → terminal net (1 + i) ≡ 1 → look counts i ≡ f .count (1 + i)
     pub lined : before ≡ lines oddLine (f .pieces)
     pub paired : pairs ≡ pairsBy net f
 
-  module _ (name : ℕ → List ℕ) {marks owners sizes counts before : List ℕ} {pairs : List Pair} (w : Works marks owners sizes counts before pairs) where
+  module _ (name : ℕ → List ℕ) {terminals owners sizes counts before : List ℕ} {pairs : List Pair} (w : Works terminals owners sizes counts before pairs) where
     -- a site's place is its number less 1
     place : (i : ℕ) → 1 + i - 1 ≡ i
     place i = omega arith
@@ -83,10 +83,10 @@ module _ (net : Network) (f : Figures) where
     abbrev cutCounts : List ℕ
     cutCounts = map (f .count) (sites size)
 
-    cut-lines : lines (cutLine name marks sizes counts) (sites size) ≡ lines (cutLine name (ends (net .links) size) cutSizes cutCounts) (sites size)
+    cut-lines : lines (cutLine name terminals sizes counts) (sites size) ≡ lines (cutLine name (endsOf net) cutSizes cutCounts) (sites size)
     unfolding cutLine
     cut-lines = lines-same _ _ 1 size (λ i l.
-        let here : look marks (1 + i) ≡ terminal net (1 + i) = ap (λ (f : ℕ → ℕ). f (1 + i)) (w .marked) in
+        let here : look terminals (1 + i) ≡ terminal net (1 + i) = ap (λ (f : ℕ → ℕ). f (1 + i)) (w .marked) in
         rw (here, place i, look-from (f .size) 1 size i l, look-from (f .count) 1 size i l)
         (same? (terminal net (1 + i)) 1
         (λ e. rw (w .cut i l e, w .members i l e) refl)
@@ -94,13 +94,13 @@ module _ (net : Network) (f : Figures) where
 
   -- the plan that such lists show
   abbrev pub planBy : List ℕ → List ℕ → List ℕ → List ℕ → List ℕ → List ℕ → Pairs → Plan
-  planBy s marks owners sizes counts before pairs = shownBy (f .word) before s (starts net) (stops net) size
-      (map (λ l. l .0) (net .links)) (map (λ l. l .1) (net .links)) (net .capacities) (f .shown) marks owners sizes counts pairs
+  planBy s terminals owners sizes counts before pairs = shownBy (f .word) before s (starts net) (stops net) size
+      (map (λ l. l .0) (net .links)) (map (λ l. l .1) (net .links)) (net .capacities) (f .shown) terminals owners sizes counts pairs
 
   -- the report written from such lists is that of the figures
-  pub the-lists-show-the-figures : (s : List ℕ) {marks owners sizes counts before : List ℕ} (pairs : Pairs)
-      → Works marks owners sizes counts before (take (pairs .count) (pairs .list))
-      → reportOf (planBy s marks owners sizes counts before pairs) ≡ reportOf (planShowing net s f)
+  pub the-lists-show-the-figures : (s : List ℕ) {terminals owners sizes counts before : List ℕ} (pairs : Pairs)
+      → Works terminals owners sizes counts before (take (pairs .count) (pairs .list))
+      → reportOf (planBy s terminals owners sizes counts before pairs) ≡ reportOf (planShowing net s f)
   unfolding reportOf
   the-lists-show-the-figures s pairs w =
       let name : ℕ → List ℕ = λ v. part s (getD (net .names) (v - 1) (0, 0)) in

@@ -19,7 +19,7 @@ use Rattle.lists.specs.Tallies.{each-map}
 use Rattle.theory_trees.specs.Sites.{look-site}
 use Rattle.theory_trees.specs.Leaves.{sums-at-sites-count-links-twice}
 use Rattle.theory_walk.specs.Sound.{Sound}
-use Rattle.theory_walk.specs.PairingTheorem.{amounts-are-bounded}
+use Rattle.theory_walk.specs.PartsTheorem.{amounts-are-bounded}
 use Rattle.text_fields.specs.Fields.{isName}
 use Rattle.text_fields.specs.FieldLaws.{name-length}
 use Rattle.sheet_names.specs.Names.{nameAt}

@@ -7,11 +7,12 @@ use lib.ListN.{length, take, replicate, length-append, length-map, length-replic
 use lib.Seq.{take-at}
 use Rattle.model.specs.Limits.{LINKS, SITES}
 use Rattle.model.specs.Edition.{edition1, largest}
-use Rattle.model.specs.Flows.{Links}
+use Rattle.lists.specs.Numbers.{look}
+use Rattle.model.specs.Flows.{Links, ends}
 use Rattle.tree.specs.Offer.{links, offer}
-use Rattle.tree.specs.Accepted.{TreeWithin, a-tree-within-the-limits-is-accepted}
+use Rattle.tree.specs.Accepted.{TreeWithin, MarkedTree, a-tree-within-the-limits-is-accepted}
 use Rattle.tree.specs.declared.Offer.the-variants.{Accepted}
-use Rattle.sheet.specs.Sheet.{Network, Read, refused, accepted, readSheet}
+use Rattle.sheet.specs.Sheet.{Network, endsOf, Read, refused, accepted, readSheet}
 use Rattle.sheet.specs.Reading.{padded, lists, reading}
 use Rattle.sheet.specs.SheetTheorem.{IsNetwork, an-accepted-sheet-is-a-tree}
 use Rattle.sheet.specs.declared.Answer.the-variants as answered
@@ -76,8 +77,9 @@ module _ {s : List ℕ} {network : Lists} (r : Listed s network) where
   seconds : length (map (λ l. l .1) (net .links)) ≡ length (net .links)
   seconds = length-map (net .links) (λ l. l .1)
 
-  -- there is a place for each link
+  -- there is a place for each link, and for the mark of each site
   pub room-for-the-links : (m ≤ length (network .one)) × (m ≤ length (network .two)) × (m ≤ length (network .capacity))
+      × (network .sites ≤ length (network .mark))
   unfolding lists
   room-for-the-links =
       let few : length (net .links) ≤ LINKS = omega (arith, given .tree .links, given .few) in
@@ -85,21 +87,35 @@ module _ {s : List ℕ} {network : Lists} (r : Listed s network) where
         omega (arith, padded-length SITES (map (λ l. l .0) (net .links)) (omega (arith, firsts))),
         omega (arith, padded-length SITES (map (λ l. l .1) (net .links)) (omega (arith, seconds))),
         omega (arith, padded-length SITES (net .capacities) (omega (arith, given .capacities))),
+        omega (arith, padded-length SITES (net .marks) (omega (arith, given .marks, given .few)), given .few),
       )
+
+  -- the lists are those of the network, and the marks too
+  taken-apart : let at = network .sites in
+      (a : TakenApart s (network .start) (network .end) at (take m (network .one)) (take m (network .two)) (take m (network .capacity)))
+      × (take at (network .mark) ≡ a .net .marks)
+  unfolding lists
+  taken-apart = rw (r .listed) (
+    record {
+      net = net;
+      read = r .read;
+      started = refl;
+      stopped = refl;
+      counted = refl;
+      firsts = padded-front SITES (length (net .links)) (map (λ l. l .0) (net .links)) firsts;
+      seconds = padded-front SITES (length (net .links)) (map (λ l. l .1) (net .links)) seconds;
+      sizes = padded-front SITES (length (net .links)) (net .capacities) (given .capacities);
+    },
+    padded-front SITES (length (net .names)) (net .marks) (given .marks),
+  )
 
   pub the-lists-are-taken-apart :
       TakenApart s (network .start) (network .end) (network .sites) (take m (network .one)) (take m (network .two)) (take m (network .capacity))
-  unfolding lists
-  the-lists-are-taken-apart = rw (r .listed) (record {
-    net = net;
-    read = r .read;
-    started = refl;
-    stopped = refl;
-    counted = refl;
-    firsts = padded-front SITES (length (net .links)) (map (λ l. l .0) (net .links)) firsts;
-    seconds = padded-front SITES (length (net .links)) (map (λ l. l .1) (net .links)) seconds;
-    sizes = padded-front SITES (length (net .links)) (net .capacities) (given .capacities);
-  })
+  the-lists-are-taken-apart = taken-apart .0
+
+  pub the-marks-are-taken-apart : take (network .sites) (network .mark) ≡ the-lists-are-taken-apart .net .marks
+  unfolding the-lists-are-taken-apart
+  the-marks-are-taken-apart = taken-apart .1
 
 -- ---- a tree within the limits
 
@@ -130,5 +146,12 @@ module _ {s starting stopping : List ℕ} {n : ℕ} {one two c : List ℕ} (a : 
         limited = rw (a .sizes) (g .sizes);
       }
 
-  pub the-network-is-accepted : offer largest n one two c ≡ Accepted
-  the-network-is-accepted = a-tree-within-the-limits-is-accepted largest n one two c the-network-is-a-tree-within
+  -- its marks are one for each site
+  pub the-network-is-a-marked-tree : MarkedTree largest n one two (a .net .marks) c
+  the-network-is-a-marked-tree = record { within = the-network-is-a-tree-within; marked = a .counted ∙ sym (the-network-is-given .marks) }
+
+  pub the-network-is-accepted : offer largest n one two (a .net .marks) c ≡ Accepted
+  the-network-is-accepted = a-tree-within-the-limits-is-accepted largest n one two (a .net .marks) c the-network-is-a-marked-tree
+
+  pub the-ends-are-the-networks : look (ends (links one two) n (a .net .marks)) ≡ look (endsOf (a .net))
+  the-ends-are-the-networks = rw (the-links-are-the-networks, a .counted)

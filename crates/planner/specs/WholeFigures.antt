@@ -14,7 +14,7 @@ use Rattle.model.specs.WholeLoads.{from, upward, linkLoad, loading, wholeLoad, 
 use Rattle.lists.specs.Sums.{cases, is-le, is-other}
 use Rattle.lists.specs.Places.{length-upfrom, look-values, over-eq, over-mul}
 use Rattle.theory_trees.specs.Sites.{sumAt-none}
-use Rattle.theory_trees.specs.Ends.{an-end-is-a-leaf}
+use Rattle.theory_trees.specs.Ends.{a-leaf-is-an-end}
 use Rattle.theory_whole.specs.Circuits.{the-loads-taken-are-largest}
 use Rattle.sheet.specs.Sheet.{Network}
 use Rattle.planner.specs.Figures.{terminal, wholes, Showable, leaving-within, members-within}
@@ -61,7 +61,7 @@ module _ (net : Network) (T : Tree (net .links) (length (net .names))) where
   -- all that the card says holds of the loads and the sets shown
   pub wholes-are-largest : LargestWhole ls n (terminal net) c (look (wholes net .shown)) own
   wholes-are-largest = rw (fun-ext load-of-each-link)
-      (the-loads-taken-are-largest T (terminal net) (λ v p e. an-end-is-a-leaf T v ∙ e) c)
+      (the-loads-taken-are-largest T (terminal net) (λ v p e. a-leaf-is-an-end ls n (net .marks) v (p .1) e) c)
 
   odd-or-not : (p : ℕ) → inPiece ls c own p p * (leavingPiece ls c own p % 2) ≤ 1
   unfolding inPiece

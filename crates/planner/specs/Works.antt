@@ -8,19 +8,17 @@ use native.Mathlib.Numerals.{one-add}
 use lib.ListN.{length, getD, take, drop, length-append, length-map, List·getD-map}
 use lib.Seq.{take-at, getD-take, length-take-le}
 use Rattle.model.specs.Limits.{SITES}
-use Rattle.model.specs.Edition.{edition1, largest}
+use Rattle.model.specs.Edition.{edition1}
 use Rattle.lists.specs.Numbers.{look, Each}
-use Rattle.model.specs.Flows.{Links, Site, Route, one, two, ends}
+use Rattle.model.specs.Flows.{Links, Site, Route, one, two, ends as ends-of}
 use Rattle.model.specs.Trimming.{Balanced, balanced}
 use Rattle.model.specs.Cuts.{cutSize, cutCount, owner}
-use Rattle.model.specs.Pairing.{pairList, ordered}
+use Rattle.model.specs.Pairing.{ordered}
+use Rattle.model.specs.Parts.{pairListOfParts}
 use Rattle.model.specs.Text.{bytes}
 use Rattle.model.specs.declared.Pair.{Pair}
 use Rattle.model.specs.declared.Pairs.{Pairs}
-use Rattle.theory_trees.specs.Leaves.{Outer}
-use Rattle.theory_trees.specs.Ends.{ends-are-outer}
 use Rattle.tree.specs.Offer.{links}
-use Rattle.tree.specs.Accepted.{TreeWithin}
 use Rattle.trimming.specs.Outcome.{capacities}
 use Rattle.trimming.specs.Promise.{Promise, capacities-keep-the-promise, promised-within}
 use Rattle.cuts_groups.specs.Places.{places, ofTerminal, length-places, look-places, of-terminal}
@@ -38,6 +36,7 @@ use Rattle.planner.specs.Figures.{Figures, Showable, terminal, halves, p
 use Rattle.planner.specs.Small.{few-links, pairs-shown-are-sound, total-shown-within, figures-are-small}
 use Rattle.planner.specs.Shows.{starts, stops, ranges, Works, planBy, the-lists-show-the-figures}
 use Rattle.planner.specs.Taken.{padded-length, the-network-is-given, the-links-are-the-networks}
+use Rattle.planner.specs.Taken.{the-network-is-a-marked-tree, the-ends-are-the-networks}
 use Rattle.planner.specs.Ready.{TakenApart, Charted, ReadyBy, Ready}
 
 module _ {s : List ℕ} {net : Network} (N : IsNetwork edition1 s net) (f : Figures) (h : Showable net f) where
@@ -92,7 +91,7 @@ module _ {s : List ℕ} {net : Network} (N : IsNetwork edition1 s net) (f : Figu
 
   -- ---- all of it
 
-  module _ {marks owners sizes counts before : List ℕ} (ps : Pairs) (w : Works net f marks owners sizes counts before (take (ps .count) (ps .list)))
+  module _ {terminals owners sizes counts before : List ℕ} (ps : Pairs) (w : Works net f terminals owners sizes counts before (take (ps .count) (ps .list)))
       (places : (SITES ≤ length owners) × (SITES ≤ length sizes) × (SITES ≤ length counts))
       (held : ps .count ≤ length (ps .list)) where
     pairs-are-few : ps .count ≤ length ls
@@ -118,7 +117,7 @@ module _ {s : List ℕ} {net : Network} (N : IsNetwork edition1 s net) (f : Figu
     }
 
     pub figures-are-ready : {text : Reporter} → text s net ≡ reportOf (planShowing net s f) → readSheet edition1 s ≡ accepted net
-        → ReadyBy text s (starts net) (stops net) (planBy net f s marks owners sizes counts before ps) ps
+        → ReadyBy text s (starts net) (stops net) (planBy net f s terminals owners sizes counts before ps) ps
     figures-are-ready told read =
         let shows = the-lists-show-the-figures net f s ps w in
         record {
@@ -156,11 +155,11 @@ module _ {s : List ℕ} {net : Network} (N : IsNetwork edition1 s net) where
   pub terminal-place : (g : ℕ → ℕ) (i : ℕ) → i < count → terminal net (1 + i) ≡ 1 → look (places count (ofTerminal (terminal net) g)) i ≡ g (1 + i)
   terminal-place g i l e = place (ofTerminal (terminal net) g) i l ∙ of-terminal (terminal net) g (1 + i) e
 
-  halves-are-worked-out : (marks : List ℕ) (cuts : Owned) (ps : List Pair) → look marks ≡ terminal net
+  halves-are-worked-out : (terminals : List ℕ) (cuts : Owned) (ps : List Pair) → look terminals ≡ terminal net
       → cuts ≡ owned (net .links) count (terminal net) c t → ps ≡ pairsBy net (halves net)
-      → Works net (halves net) marks (cuts .owner) (cuts .size) (cuts .count) [] ps
+      → Works net (halves net) terminals (cuts .owner) (cuts .size) (cuts .count) [] ps
   unfolding owned lines
-  halves-are-worked-out marks cuts ps marked cut listed = record {
+  halves-are-worked-out terminals cuts ps marked cut listed = record {
     marked = marked;
     own = λ i l. rw cut (place (owner (net .links) c t (terminal net) count) i l);
     cut = λ i l e. rw cut (terminal-place (cutSize (net .links) c t) i l e);
@@ -180,48 +179,47 @@ owned-has-places ls n terminal c t few cuts e = rw e (
 )
 
 -- the lists of an accepted sheet, and what is worked out of them in halves
-pub what-is-worked-out-is-ready : {s starting stopping : List ℕ} {n : ℕ} {one two c : List ℕ} → TakenApart s starting stopping n one two c
-    → (shown marks : List ℕ) (cuts : Owned) (ps : Pairs)
-    → look marks ≡ look (ends (links one two) n)
-    → shown ≡ balanced (links one two) n (look marks) c
-    → cuts ≡ owned (links one two) n (look marks) (look c) (look shown)
-    → take (ps .count) (ps .list) ≡ pairList (links one two) n (look shown) (look marks)
+pub what-is-worked-out-is-ready : {s starting stopping : List ℕ} {n : ℕ} {one two c : List ℕ} (a : TakenApart s starting stopping n one two c)
+    → (shown terminals : List ℕ) (cuts : Owned) (ps : Pairs)
+    → look terminals ≡ terminal (a .net)
+    → shown ≡ balanced (links one two) n (look terminals) c
+    → cuts ≡ owned (links one two) n (look terminals) (look c) (look shown)
+    → take (ps .count) (ps .list) ≡ pairListOfParts (links one two) n (look shown) (look terminals)
     → ps .count ≤ length (ps .list)
-    → Ready s starting stopping (shownBy (bytes "plan") [] s starting stopping n one two c shown marks (cuts .owner) (cuts .size) (cuts .count) ps) ps
-what-is-worked-out-is-ready {s} {starting} {stopping} {n} {one} {two} {c} a shown marks cuts ps marked =
+    → Ready s starting stopping (shownBy (bytes "plan") [] s starting stopping n one two c shown terminals (cuts .owner) (cuts .size) (cuts .count) ps) ps
+what-is-worked-out-is-ready {s} {starting} {stopping} {n} {one} {two} {c} a shown terminals cuts ps told =
     let ls = the-links-are-the-networks a in
     let N = the-network-is-given a in
-    let told : look marks ≡ terminal (a .net) = rw (ls, a .counted) at marked in
     rw (ls, told, a .counted, a .sizes, a .started, a .stopped, a .firsts, a .seconds) (λ e. rw e (λ cut listed held.
     figures-are-ready N (halves (a .net)) (halves-can-be-shown (a .net) (N .tree)) ps
-    (halves-are-worked-out N marks cuts (take (ps .count) (ps .list)) told cut listed)
+    (halves-are-worked-out N terminals cuts (take (ps .count) (ps .list)) told cut listed)
     (owned-has-places (a .net .links) (length (a .net .names)) (terminal (a .net)) (look (a .net .capacities))
     (look (halves (a .net) .shown)) (N .few) cuts cut)
     held (the-report-shows-halves (a .net) s) (a .read)))
 
 -- ---- from what the inner functions promise
 
-module _ {n : ℕ} {one two c : List ℕ} (w : TreeWithin largest n one two c) where
+module _ {s starting stopping : List ℕ} {n : ℕ} {one two c : List ℕ} (a : TakenApart s starting stopping n one two c) where
   -- the front of a list that begins with the balanced capacities keeps the promise of trimming
-  pub the-front-keeps-the-promise : (terminal : ℕ → ℕ) → terminal ≡ look (ends (links one two) n) → (list rest : List ℕ)
-      → list ≡ balanced (links one two) n terminal c ++ rest
-      → (take (length one) list ≡ balanced (links one two) n terminal c) × Promise n one two c (take (length one) list)
+  pub the-front-keeps-the-promise : (ends : ℕ → ℕ) → ends ≡ terminal (a .net) → (list rest : List ℕ)
+      → list ≡ balanced (links one two) n ends c ++ rest
+      → (take (length one) list ≡ balanced (links one two) n ends c) × Promise n one two (a .net .marks) c (take (length one) list)
   unfolding capacities
-  the-front-keeps-the-promise terminal marked list rest e =
-      let promise = capacities-keep-the-promise w in
-      let long : length (balanced (links one two) n terminal c) ≡ length one = rw marked (promise .each) in
-      let front : take (length one) list ≡ balanced (links one two) n terminal c =
-      ap (take (length one)) e ∙ take-at (balanced (links one two) n terminal c) rest (length one) long in
-      (front, rw (front, marked) promise)
+  the-front-keeps-the-promise ends marked list rest e =
+      let promise = capacities-keep-the-promise (the-network-is-a-marked-tree a) in
+      let same : ends ≡ look (ends-of (links one two) n (a .net .marks)) = marked ∙ sym (the-ends-are-the-networks a) in
+      let long : length (balanced (links one two) n ends c) ≡ length one = rw same (promise .each) in
+      let front : take (length one) list ≡ balanced (links one two) n ends c =
+      ap (take (length one)) e ∙ take-at (balanced (links one two) n ends c) rest (length one) long in
+      (front, rw (front, same) promise)
 
   -- what keeps the promise of trimming can be walked
-  pub the-promised-can-be-walked : {order marks last before : List ℕ} → Charted n one two order marks last before
-      → (t : List ℕ) → Promise n one two c t → Walkable n marks last before one two t
+  pub the-promised-can-be-walked : {order terminals last before : List ℕ} → Charted a order terminals last before
+      → (t : List ℕ) → Promise n one two (a .net .marks) c t → Walkable n terminals last before one two t
   the-promised-can-be-walked chart t p = record {
-    tree = promised-within w t p;
+    tree = promised-within (the-network-is-a-marked-tree a) t p .within;
     chained = chart .chained;
-    outer = subst (Outer (links one two) n) (sym (chart .marked)) (ends-are-outer (w .tree));
-    balanced = subst (λ (f : ℕ → ℕ). Balanced (links one two) f (look t)) (sym (chart .marked)) (p .greatest .balanced);
+    balanced = subst (λ (f : ℕ → ℕ). Balanced (links one two) f (look t)) (the-ends-are-the-networks a ∙ sym (chart .marked)) (p .greatest .balanced);
   }
 
 -- pairs put in order are the pair list

@@ -163,8 +163,8 @@ fn plan_charted(
     before: &[usize; CHAINS],
     report: &mut [u8],
 ) -> Outcome
-    requires { ⌜ TakenApart (now sheet) (now start) (now end) n (now one) (now two) (now capacity)
-        × Charted n (now one) (now two) (now order) (now ends) (now last) (now before) ⌝ }
+    requires { ⌜ ((a : TakenApart (now sheet) (now start) (now end) n (now one) (now two) (now capacity))
+        × Charted a (now order) (now ends) (now last) (now before)) ⌝ }
     ensures told { λ r. ⌜ r ≡ planned edition1 (now (sheet .entry)) (now (report .entry)) .outcome ⌝ }
     ensures left { λ r. ⌜ now (report .exit) ≡ planned edition1 (now (sheet .entry)) (now (report .entry)) .buffer ⌝ }
 {
@@ -210,8 +210,8 @@ fn whole_charted(
     before: &[usize; CHAINS],
     report: &mut [u8],
 ) -> Outcome
-    requires { ⌜ TakenApart (now sheet) (now start) (now end) n (now one) (now two) (now capacity)
-        × Charted n (now one) (now two) (now order) (now ends) (now last) (now before) ⌝ }
+    requires { ⌜ ((a : TakenApart (now sheet) (now start) (now end) n (now one) (now two) (now capacity))
+        × Charted a (now order) (now ends) (now last) (now before)) ⌝ }
     ensures told { λ r. ⌜ r ≡ plannedWhole edition1 (now (sheet .entry)) (now (report .entry)) .outcome ⌝ }
     ensures left { λ r. ⌜ now (report .exit) ≡ plannedWhole edition1 (now (sheet .entry)) (now (report .entry)) .buffer ⌝ }
 {
@@ -254,18 +254,19 @@ fn plan_chained<'a>(
     n: usize,
     one: &[usize],
     two: &[usize],
+    marks: &[u8],
     capacity: &[u64],
     order: &[usize; SITES],
     last: &'a [usize; PLACES],
     before: &'a [usize; CHAINS],
     buf: &mut [u8],
 ) -> Outcome
-    requires { ⌜ TakenApart (now sheet) (now start) (now end) n (now one) (now two) (now capacity)
-        × Ordered n (now one) (now two) (now order) × Chained (now one) (now two) (now last) (now before) ⌝ }
+    requires { ⌜ ((a : TakenApart (now sheet) (now start) (now end) n (now one) (now two) (now capacity)) × (now marks ≡ a .net .marks)
+        × Ordered n (now one) (now two) (now order) × Chained (now one) (now two) (now last) (now before)) ⌝ }
     ensures told { λ r. ⌜ r ≡ plannedBy (reporter whole) edition1 (now (sheet .entry)) (now (buf .entry)) .outcome ⌝ }
     ensures left { λ r. ⌜ now (buf .exit) ≡ plannedBy (reporter whole) edition1 (now (sheet .entry)) (now (buf .entry)) .buffer ⌝ }
 {
-    let ends = tree_links::ends(n, last, before, one, two);
+    let ends = tree_links::ends(n, last, before, one, two, marks);
     if whole {
         return whole_charted(
             sheet,
@@ -308,14 +309,15 @@ fn plan_lists(
     n: usize,
     one: &[usize],
     two: &[usize],
+    marks: &[u8],
     capacity: &[u64],
     report: &mut [u8],
 ) -> Outcome
-    requires { ⌜ TakenApart (now sheet) (now start) (now end) n (now one) (now two) (now capacity) ⌝ }
+    requires { ⌜ ((a : TakenApart (now sheet) (now start) (now end) n (now one) (now two) (now capacity)) × (now marks ≡ a .net .marks)) ⌝ }
     ensures told { λ r. ⌜ r ≡ plannedBy (reporter whole) edition1 (now (sheet .entry)) (now (report .entry)) .outcome ⌝ }
     ensures left { λ r. ⌜ now (report .exit) ≡ plannedBy (reporter whole) edition1 (now (sheet .entry)) (now (report .entry)) .buffer ⌝ }
 {
-    let tree = tree::eliminate(n, one, two, capacity);
+    let tree = tree::eliminate(n, one, two, marks, capacity);
     let chains = tree_links::chain(one, two);
     plan_chained(
         whole,
@@ -325,6 +327,7 @@ fn plan_lists(
         n,
         one,
         two,
+        marks,
         capacity,
         &tree.sites,
         &chains.last,
@@ -333,7 +336,7 @@ fn plan_lists(
     )
 }
 
-// The lists of an accepted sheet with m links, each list of links lent as far as there are links, planned in whole circuits or in halves.
+// The lists of an accepted sheet with n sites and m links, each list lent as far as there are sites or links, planned in whole circuits or in halves.
 fn plan_parts<'a>(
     whole: bool,
     sheet: &[u8],
@@ -343,11 +346,13 @@ fn plan_parts<'a>(
     m: usize,
     one: &'a [usize],
     two: &'a [usize],
+    mark: &'a [u8],
     capacity: &'a [u64],
     report: &mut [u8],
 ) -> Outcome
-    requires { ⌜ TakenApart (now sheet) (now start) (now end) n (take m (now one)) (take m (now two)) (take m (now capacity))
-        × (m ≤ length (now one)) × (m ≤ length (now two)) × (m ≤ length (now capacity)) ⌝ }
+    requires { ⌜ ((a : TakenApart (now sheet) (now start) (now end) n (take m (now one)) (take m (now two)) (take m (now capacity)))
+        × (take n (now mark) ≡ a .net .marks) × (m ≤ length (now one)) × (m ≤ length (now two)) × (m ≤ length (now capacity))
+        × (n ≤ length (now mark))) ⌝ }
     ensures told { λ r. ⌜ r ≡ plannedBy (reporter whole) edition1 (now (sheet .entry)) (now (report .entry)) .outcome ⌝ }
     ensures left { λ r. ⌜ now (report .exit) ≡ plannedBy (reporter whole) edition1 (now (sheet .entry)) (now (report .entry)) .buffer ⌝ }
 {
@@ -359,6 +364,7 @@ fn plan_parts<'a>(
         n,
         &one[..m],
         &two[..m],
+        &mark[..n],
         &capacity[..m],
         report,
     )
@@ -381,6 +387,7 @@ fn plan_network(whole: bool, sheet: &[u8], network: Lists, report: &mut [u8]) ->
         m,
         &network.one,
         &network.two,
+        &network.mark,
         &network.capacity,
         report,
     )

@@ -3,15 +3,15 @@ use mathlib.Core.List.{List, [], _∷_, _++_, map}
 use Prim.Native.Nat.{ℕ, _-_}
 use lib.ListN.{length, getD}
 use Rattle.lists.specs.Numbers.{pick, look, upfrom}
-use Rattle.model.specs.Flows.{sites, ends, total}
+use Rattle.model.specs.Flows.{sites, total}
 use Rattle.model.specs.Trimming.{balanced}
 use Rattle.model.specs.Cuts.{cutSize, cutCount, owner}
-use Rattle.model.specs.Pairing.{pairList}
+use Rattle.model.specs.Parts.{pairListOfParts}
 use Rattle.model.specs.Whole.{setSize, setCount, oddPieces}
 use Rattle.model.specs.WholeLoads.{wholeLoads, wholeOwner}
 use Rattle.model.specs.Text.{bytes}
 use Rattle.model.specs.declared.Pair.{Pair}
-use Rattle.sheet.specs.Sheet.{Network, part}
+use Rattle.sheet.specs.Sheet.{Network, endsOf, part}
 unfoldable pub use Rattle.text_writers.specs.Fields.{digits, decimal, line}
 
 -- the lines that f gives for each element of a list
@@ -38,13 +38,13 @@ pub record Plan : Type 0 where
   pub pairs : List Pair
 
 -- the plan of a network whose names stand in the sheet s: it shows the balanced capacities (01: trimmed sizes), the ends,
--- the owner of each site (0 for none) and the size and count of each terminal cut (01: end sets), no further line, and the pair list
+-- the owner of each site (0 for none) and the size and count of each terminal cut (01: end sets), no further line, and the pair list over all parts
 unfoldable pub planOf : List ℕ → Network → Plan
 planOf s net =
     let n = length (net .names) in
     let ls = net .links in
     let c = look (net .capacities) in
-    let terminal = look (ends ls n) in
+    let terminal = look (endsOf net) in
     let trimmed = balanced ls n terminal (net .capacities) in
     record {
       word = bytes "plan";
@@ -54,12 +54,12 @@ planOf s net =
       twos = map (λ l. l .1) ls;
       capacities = net .capacities;
       shown = trimmed;
-      ends = ends ls n;
+      ends = endsOf net;
       owners = map (owner ls c (look trimmed) terminal n) (sites n);
       cutSizes = map (cutSize ls c (look trimmed)) (sites n);
       cutCounts = map (cutCount ls c (look trimmed) n) (sites n);
       before = [];
-      pairs = pairList ls n (look trimmed) terminal;
+      pairs = pairListOfParts ls n (look trimmed) terminal;
     }
 
 -- the line `Q`: the count of odd pieces (02, Card 2)
@@ -73,7 +73,7 @@ wholeOf s net =
     let n = length (net .names) in
     let ls = net .links in
     let c = look (net .capacities) in
-    let terminal = look (ends ls n) in
+    let terminal = look (endsOf net) in
     let loads = wholeLoads ls n terminal c in
     let owner = wholeOwner ls n terminal c in
     record {
@@ -84,12 +84,12 @@ wholeOf s net =
       twos = map (λ l. l .1) ls;
       capacities = net .capacities;
       shown = loads;
-      ends = ends ls n;
+      ends = endsOf net;
       owners = map owner (sites n);
       cutSizes = map (setSize ls c owner) (sites n);
       cutCounts = map (setCount n owner) (sites n);
       before = oddLine (oddPieces ls n c owner);
-      pairs = pairList ls n (look loads) terminal;
+      pairs = pairListOfParts ls n (look loads) terminal;
     }
 
 -- ---- its lines

@@ -196,18 +196,18 @@ fn cut_line(
     start: &[usize],
     end: &[usize],
     a: usize,
-    mark: u8,
+    terminal: u8,
     size: u64,
     count: usize,
     buf: &mut [u8],
     at: usize,
 ) -> usize
-    requires { ⌜ Room at (pick mark 1 (cutRecord (nameBy (now sheet) (now start) (now end)) a size count) [])
+    requires { ⌜ Room at (pick terminal 1 (cutRecord (nameBy (now sheet) (now start) (now end)) a size count) [])
         × Named (now sheet) (now start) (now end) a ⌝ }
     ensures { λ r. ⌜ Wrote (now (buf .entry)) at
-        (pick mark 1 (cutRecord (nameBy (now (sheet .entry)) (now (start .entry)) (now (end .entry))) a size count) []) (now (buf .exit)) r ⌝ }
+        (pick terminal 1 (cutRecord (nameBy (now (sheet .entry)) (now (start .entry)) (now (end .entry))) a size count) []) (now (buf .exit)) r ⌝ }
 {
-    if mark != 1 {
+    if terminal != 1 {
         return at;
     }
     let next = put_site(sheet, start, end, b'X', a, buf, at);

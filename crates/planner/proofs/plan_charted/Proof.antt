@@ -8,7 +8,7 @@ use borrow.Author.Needs.{needs}
 use Rattle.model.specs.Limits.{SITES}
 use Rattle.lists.specs.Numbers.{look}
 use Rattle.model.specs.Trimming.{balanced}
-use Rattle.model.specs.Pairing.{pairList}
+use Rattle.model.specs.Parts.{pairListOfParts}
 use Rattle.model.specs.Text.{bytes}
 use Rattle.tree.specs.Offer.{links}
 use Rattle.trimming.specs.Promise.{Promise}
@@ -32,10 +32,10 @@ promised : (c : tie.After-balance) → let s = c .before .before .before .before
     let a = s .args in
     let front = take (length (a .one .now)) (c .balance .last .1 .1 .1 .1 .1 .1 .1 .1 .0) in
     (front ≡ balanced (links (a .one .now) (a .two .now)) (a .n) (look (a .ends .now)) (a .capacity .now))
-    × Promise (a .n) (a .one .now) (a .two .now) (a .capacity .now) front
+    × Promise (a .n) (a .one .now) (a .two .now) (s .pre .0 .net .marks) (a .capacity .now) front
 promised c =
     let s = c .before .before .before .before .before .before .before .before .before in
-    the-front-keeps-the-promise (the-network-is-a-tree-within (s .pre .0)) (look (s .args .ends .now)) (s .pre .1 .marked) _ _ (c .balance .ensures)
+    the-front-keeps-the-promise (s .pre .0) (look (s .args .ends .now)) (s .pre .1 .marked) _ _ (c .balance .ensures)
 
 slice-aggregate-trimmed : tie.Need-slice-aggregate-trimmed
 slice-aggregate-trimmed c = sym (promised (c .before .before) .1 .each)
@@ -50,7 +50,7 @@ decompose-requires : tie.Need-decompose-requires
 decompose-requires c κs =
     let balanced = c .before .before .before in
     let s = balanced .before .before .before .before .before .before .before .before .before in
-    the-promised-can-be-walked (the-network-is-a-tree-within (s .pre .0)) (s .pre .1) _ (promised balanced .1)
+    the-promised-can-be-walked (s .pre .0) (s .pre .1) _ (promised balanced .1)
 
 -- what is worked out stands ready
 ready : (c : tie.After-ordered) → let cut = c .before .before in
@@ -61,7 +61,7 @@ ready : (c : tie.After-ordered) → let cut = c .before .before in
     (shownBy (bytes "plan") [] (a .sheet .now) (a .start .now) (a .end .now) (a .n) (a .one .now) (a .two .now) (a .capacity .now)
     (take (length (a .one .now)) (cut .before .before .before .balance .last .1 .1 .1 .1 .1 .1 .1 .1 .0)) (a .ends .now) (made .owner) (made .size)
     (made .count) (c .ordered .result)) (c .ordered .result)
-unfolding pairList
+unfolding pairListOfParts
 ready c =
     let cut = c .before .before in
     let balanced = cut .before .before .before in

@@ -9,17 +9,21 @@ use Rattle.planner.proofs.plan_lists.Statement.{statement}
 use Rattle.planner.proofs.plan_lists.Tie as tie
 
 chain-requires : tie.Need-chain-requires
-chain-requires c κs = let s = c .before .before .before .before .before .before .before .before in offer-placed (the-network-is-a-tree-within (s .pre))
+chain-requires c κs =
+    let s = c .before .before .before .before .before .before .before .before .before in
+    offer-placed (the-network-is-a-tree-within (s .pre .0))
 
 chained : tie.Need-plan-chained-requires
 chained c κs =
     let made = c .before .before .before .before .before .before in
     let told = made .before in
-    let s = told .before .before .before .before .before .before .before .before in
-    let a = s .args in (
-      s .pre,
+    let s = told .before .before .before .before .before .before .before .before .before in
+    let a = s .args in
+    let accepted = rw (← (s .pre .1)) at (the-network-is-accepted (s .pre .0)) in (
+      s .pre .0,
+      s .pre .1,
       ap (λ r. take (a .n) (r .sites)) (told .eliminate .ensures)
-          ∙ eliminated-in-order (a .n) (a .one .now) (a .two .now) (a .capacity .now) (the-network-is-accepted (s .pre)),
+          ∙ eliminated-in-order (a .n) (a .one .now) (a .two .now) (a .marks .now) (a .capacity .now) accepted,
       made .chain .ensures,
     )
 

@@ -1,14 +1,14 @@
 -- `whole_charted` meets its contract: the loads taken are the largest, so they can be walked, and what is worked out is ready.
-use mathlib.Core.Path.{_≡_, refl, sym, ap, fun-ext, _∙_}
+use mathlib.Core.Path.{_≡_, sym, ap, fun-ext, _∙_}
 use Prim.Native.Nat.{ℕ, _≤_}
 use native.Mathlib.Omega.{arith}
 use lib.ListN.{length, take, length-take, length-replicate}
 use lib.Seq.{length-take-le}
 use borrow.Author.Needs.{needs}
 use Rattle.model.specs.Limits.{SITES}
-use Rattle.model.specs.Pairing.{pairList}
+use Rattle.model.specs.Parts.{pairListOfParts}
 use Rattle.model.specs.Text.{bytes}
-use Rattle.model.specs.WholeLoads.{wholeLoads, wholeOwner}
+use Rattle.model.specs.WholeLoads.{wholeLoads}
 use Rattle.lists.specs.Numbers.{look}
 use Rattle.text_writers.specs.Writing.{same-size}
 use Rattle.tree.specs.Offer.{links}
@@ -20,7 +20,7 @@ use Rattle.planner.specs.Fits.{ready-is-delivered}
 use Rattle.planner.specs.Ready.{ReadyBy}
 use Rattle.planner.specs.Taken.{the-network-is-a-tree-within}
 use Rattle.planner.specs.Works.{pairs-in-order}
-use Rattle.planner.specs.WholeWorks.{every-leaf-is-marked, whole-loads-can-be-walked, the-front-is-the-loads, the-labels-are-end-sets}
+use Rattle.planner.specs.WholeWorks.{every-leaf-is-an-end, whole-loads-can-be-walked, the-front-is-the-loads, the-labels-are-end-sets}
 use Rattle.planner.specs.WholeWorks.{the-text-stands-at-the-front, whole-circuits-are-ready}
 use Rattle.planner.proofs.whole_charted.Statement.{statement}
 use Rattle.planner.proofs.whole_charted.Tie as tie
@@ -29,7 +29,7 @@ solve-requires : tie.Need-solve-requires
 solve-requires c κs =
     let s = c .before .before .before .before .before .before .before .before .before in
     let tree = the-network-is-a-tree-within (s .pre .0) in
-    let marked = every-leaf-is-marked (s .pre .0) (s .pre .1) in
+    let marked = every-leaf-is-an-end (s .pre .0) (s .pre .1) in
     (tree, s .pre .1 .ordered, marked, omega (arith, tree .firsts, tree .few, length-replicate {A = ℕ} SITES 0))
 
 -- the loads stand at the front of the list
@@ -73,7 +73,7 @@ ready : (c : tie.After-write-odd) → let ordered = c .before .before in
     (shownBy (bytes "whole") (take (c .write-odd .result) (c .write-odd .last .1 .0)) (a .sheet .now) (a .start .now) (a .end .now) (a .n) (a .one .now)
     (a .two .now) (a .capacity .now) (take (length (a .one .now)) (solved .solve .last .1 .1 .1 .1 .1 .1 .0)) (a .ends .now) (made .sets-of .result .owner)
     (made .sets-of .result .size) (made .sets-of .result .count) (ordered .ordered .result)) (ordered .ordered .result)
-unfolding pairList
+unfolding pairListOfParts
 ready c =
     let ordered = c .before .before in
     let made = ordered .before .before in
