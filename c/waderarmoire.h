@@ -87,7 +87,8 @@ uint64_t waderarmoire_order(const uint8_t *sheet, size_t sheet_len, size_t *list
  *  11  a name is not 1 to 12 letters or digits
  *  12  a number is not written in decimal without a leading zero
  *   3  amount 0 or above 2,000,000
- *   6  the names are not those of two different ends (a-z read as A-Z)
+ *   6  the names are not those of two different ends (a-z read as A-Z), or another
+ *      end stands on the path between them
  *  14  of "-": less than that is open between them
  *  15  of "+": a link on the path would carry more than twice its usable size
  *  16  of "+": 512 other pairs are open

@@ -210,6 +210,35 @@ P e f 2
 ",
     };
 
+    const MARKED: Case = Case {
+        sheet: "network 1\nN h\nN k\nT m\nN a\nN b\nN c\nN d\n\
+                L h m 1\nL h a 1\nL h b 1\nL k m 1\nL k c 1\nL k d 1\n",
+        report: "\
+whole 4 2
+L h m 1 0
+L h a 1 1
+L h b 1 1
+L k m 1 0
+L k c 1 1
+L k d 1 1
+N h -
+N k -
+N m m
+N a a
+N b b
+N c c
+N d d
+X m 2 1
+X a 1 1
+X b 1 1
+X c 1 1
+X d 1 1
+Q 2
+P a b 2
+P c d 2
+",
+    };
+
     fn checked(sheet: &str, report: &str) -> Result<Checked, String> {
         let [sheet, report] = [sheet, report].map(|text| text.replace(' ', "\t"));
         check(sheet.as_bytes(), report.as_bytes())
@@ -217,7 +246,12 @@ P e f 2
 
     #[test]
     fn right_reports() {
-        for (case, total, odd_pieces) in [(&STAR, 2, 1), (&EVEN_STAR, 6, 0), (&TWO_STARS, 4, 2)] {
+        for (case, total, odd_pieces) in [
+            (&STAR, 2, 1),
+            (&EVEN_STAR, 6, 0),
+            (&TWO_STARS, 4, 2),
+            (&MARKED, 4, 2),
+        ] {
             let due = Ok(Checked { total, odd_pieces });
             assert_eq!(checked(case.sheet, case.report), due);
         }
@@ -302,6 +336,29 @@ P e f 2
             let due = "the odd pieces are counted wrongly";
             wrong(&TWO_STARS, &[("Q 2", joined)], due);
         }
+    }
+
+    #[test]
+    fn wrong_at_a_marked_site() {
+        for (from, to, due) in [
+            ("N m m", "T m m", "a line N of 2 fields is missing"),
+            ("N m m", "N m -", "an end is not in its own set"),
+            ("N m m", "N m a", "an end is not in its own set"),
+            ("X m 2 1\n", "", "an end set has another name"),
+            ("X m 2 1", "X m 1 1", "an end set has another size"),
+            ("Q 2", "Q 1", "the odd pieces are counted wrongly"),
+            (
+                "P a b 2\nP c d 2",
+                "P a c 2\nP b d 2",
+                "a pair has another end on its path",
+            ),
+        ] {
+            wrong(&MARKED, &[(from, to)], due);
+        }
+        // Without the mark the same report has a set of a joint.
+        let sheet = MARKED.sheet.replace("T m", "N m");
+        let due = Err("an owner is no end".to_string());
+        assert_eq!(checked(&sheet, MARKED.report), due);
     }
 
     #[test]

@@ -2,7 +2,6 @@
 
 use crate::card::{self, Checked};
 use crate::compare::{Answer, Planners};
-use second::REPORT_BYTES;
 
 /// Compares the planners on a sheet. Loads and end sets are free, so each report is checked against
 /// the card by itself; the totals must agree. Returns the proved report, and what it says.
@@ -10,7 +9,7 @@ pub fn accepted<'buffer>(
     planners: &'buffer mut Planners,
     sheet: &[u8],
 ) -> Result<(&'buffer [u8], Checked), String> {
-    let reports = match planners.whole(sheet, REPORT_BYTES)? {
+    let reports = match planners.whole(sheet, planners.room())? {
         Answer::Report(reports) => reports,
         Answer::Refused(number, line) => {
             return Err(format!("whole: a tree is refused: {number} at line {line}"));

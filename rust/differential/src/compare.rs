@@ -130,14 +130,25 @@ fn outcome<Place>(function: Proved<Place>, sheet: &[u8], lent: &mut [Place]) -> 
 }
 
 impl Planners {
+    /// Planners with buffers for every report.
     pub fn new() -> Self {
+        Self::with_room(REPORT_BYTES)
+    }
+
+    /// Planners for small trees, with buffers of so many bytes.
+    pub fn with_room(room: usize) -> Self {
         // No byte of the pattern occurs in a report, and no place of the other in an order.
-        let bytes = (0..REPORT_BYTES).map(|place| 0x80 | (place % 127) as u8);
+        let bytes = (0..room).map(|place| 0x80 | (place % 127) as u8);
         let places = (0..LIST_PLACES).map(|place| usize::MAX - place);
         Planners {
             reports: Both::new(bytes.collect()),
             orders: Both::new(places.collect()),
         }
+    }
+
+    /// The bytes that there are for a report.
+    pub fn room(&self) -> usize {
+        self.reports.second.places.len()
     }
 
     /// Lets both planners plan in halves with a report buffer of `length` bytes, and compares what
@@ -159,9 +170,10 @@ impl Planners {
     /// alone, as the other has a buffer for every report.
     pub fn whole(&mut self, sheet: &[u8], length: usize) -> Result<Answer<Reports<'_>>, String> {
         let whole = |sheet: &[u8], buffer: &mut [u8]| outcome(waderarmoire::whole, sheet, buffer);
+        let room = self.room();
         let reports = &mut self.reports;
         let proved = reports.proved.run(whole, sheet, length)?;
-        let second = reports.second.run(second::whole, sheet, REPORT_BYTES)?;
+        let second = reports.second.run(second::whole, sheet, room)?;
         match (proved, second) {
             (Outcome::Report { .. }, Outcome::Report { .. }) => Ok(Answer::Report(Reports {
                 proved: reports.proved.answer(),

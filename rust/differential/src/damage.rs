@@ -87,7 +87,7 @@ fn near_the_limit(random: &mut Random) -> Damaged {
     let (mut text, mut number) = match random.below(8) {
         0 => (vec![], 2),
         1 => ([b"N", name.as_slice(), b""].join(&b'\t'), 10),
-        2 => (b"N\t".to_vec(), 11),
+        2 => (site_line(b"", random), 11),
         3 => ([b"L", name.as_slice(), &name, b"0"].join(&b'\t'), 12),
         4 => ([b"L", name.as_slice(), &name, b"1", b"0"].join(&b'\t'), 12),
         5 => ([b"L", name.as_slice(), &name, b"1", b""].join(&b'\t'), 3),
@@ -110,20 +110,20 @@ fn near_the_limit(random: &mut Random) -> Damaged {
 /// A 257th site line, of the wrong form or with a name already given, in either case, or not.
 fn too_many_sites(random: &mut Random) -> Damaged {
     let names = *random.pick(&[Names::Counted, Names::Any]);
-    let network = Network::random(Shape::Attached, SITES, Sizes::Small, names, random);
+    let mut network = Network::random(Shape::Attached, SITES, Sizes::Small, names, random);
+    if random.once_in(2) {
+        network.mark(random);
+    }
     let mut lines = network.lines(Layout::any(random), random);
     let last_site = lines
         .iter()
-        .rposition(|line| line.starts_with(b"N"))
+        .rposition(|line| is_site(line))
         .expect("there are sites");
     let place = random.between(last_site + 1, lines.len());
     let (text, number) = match random.below(4) {
         0 => (site_in_either_case(&lines[last_site], random), 4),
         1 => wrong_form(&lines[last_site], random),
-        _ => (
-            [b"N", unknown_name(&network.names, random).as_slice()].join(&b'\t'),
-            4,
-        ),
+        _ => (site_line(&unknown_name(&network.names, random), random), 4),
     };
     lines.insert(place, text);
     Damaged {
@@ -134,11 +134,14 @@ fn too_many_sites(random: &mut Random) -> Damaged {
 
 /// Pieces of lines put together at random.
 fn sheet_of_pieces(random: &mut Random) -> Damaged {
-    const LINES: [&[u8]; 16] = [
+    const LINES: [&[u8]; 19] = [
         b"N\ta\n",
         b"N\tb\n",
         b"N\tc\n",
         b"N\tA\n",
+        b"T\ta\n",
+        b"T\tb\n",
+        b"T\tC\n",
         b"L\ta\tb\t1\n",
         b"L\tb\tc\t2\n",
         b"L\tc\ta\t0\n",
@@ -152,16 +155,19 @@ fn sheet_of_pieces(random: &mut Random) -> Damaged {
         b"L\tc\tb\t1\t2\n",
         b"L\tA\tq\t1\t1000001\n",
     ];
-    const PIECES: [&[u8]; 22] = [
+    const PIECES: [&[u8]; 25] = [
         b"L\ta\tb\t01\n",
         b"L\ta\tb\t1\t\n",
         b"L\ta\tb\t5\t1\t1\n",
         b"L\ta\tb\n",
         b"N\tc\tc\n",
         b"N\tc c\n",
+        b"T\tc\tc\n",
+        b"T\t-\n",
         b" ",
         b"L\t",
         b"N\t",
+        b"T\t",
         b"a",
         b"b",
         b"abcdefghijkl",
@@ -198,12 +204,13 @@ fn random_bytes(random: &mut Random) -> Damaged {
     let mut sheet = HEADING.to_vec();
     sheet.truncate(random.below(HEADING.len() + 1));
     if random.once_in(2) {
-        sheet = b"network\t1\nN\t".to_vec();
+        sheet = b"network\t1\n".to_vec();
+        sheet.extend(*random.pick(&[b"N\t", b"T\t"]));
     }
     let few = random.once_in(2);
     for _ in 0..random.below(200) {
         sheet.push(if few {
-            *random.pick(b"NL\t\n01ab\r")
+            *random.pick(b"NTL\t\n01ab\r")
         } else {
             random.bits() as u8
         });
@@ -221,7 +228,7 @@ fn edited(random: &mut Random) -> Damaged {
         let place = random.below(sheet.len());
         let byte = match random.below(4) {
             0 => random.bits() as u8,
-            1 => *random.pick(b"\t\n0NL"),
+            1 => *random.pick(b"\t\n0NTL"),
             2 => sheet[place] ^ 0x20,
             _ => *random.pick(&sheet),
         };
@@ -263,7 +270,7 @@ fn unended(random: &mut Random) -> Damaged {
         let line = random.pick(&lines[1..]).clone();
         let (mut line, _) = wrong_form(&line, random);
         if line.is_empty() {
-            line.push(*random.pick(b"NL"));
+            line.push(*random.pick(b"NTL"));
         }
         lines.push(line);
     }
@@ -286,7 +293,7 @@ fn with_carriage_returns(random: &mut Random) -> Damaged {
     let only_first = random.once_in(2);
     // It becomes part of the line's last field.
     let number = match lines[first][0] {
-        b'N' => 11,
+        b'N' | b'T' => 11,
         b'L' => 12,
         _ => 2,
     };
@@ -331,11 +338,11 @@ fn not_joined(random: &mut Random) -> Damaged {
     match random.below(4) {
         0 => lines.truncate(random.between(1, 2)),
         1 => {
-            let line = [b"N", unknown_name(&network.names, random).as_slice()].join(&b'\t');
+            let line = site_line(&unknown_name(&network.names, random), random);
             lines.insert(random.between(1, lines.len()), line);
         }
         _ => {
-            let links: Vec<usize> = places(&lines, b'L');
+            let links: Vec<usize> = places(&lines, |line| !is_site(line));
             lines.remove(*random.pick(&links));
         }
     }
@@ -345,16 +352,28 @@ fn not_joined(random: &mut Random) -> Damaged {
     }
 }
 
-/// The places of the lines with a letter.
-fn places(lines: &[Vec<u8>], letter: u8) -> Vec<usize> {
-    (0..lines.len())
-        .filter(|&place| lines[place].starts_with(&[letter, b'\t']))
+/// Whether a line, of the right form, is that of a site.
+fn is_site(line: &[u8]) -> bool {
+    line.starts_with(b"N\t") || line.starts_with(b"T\t")
+}
+
+/// The places of lines behind the heading, all of the right form.
+fn places(lines: &[Vec<u8>], are: impl Fn(&[u8]) -> bool) -> Vec<usize> {
+    (1..lines.len())
+        .filter(|&place| are(&lines[place]))
         .collect()
 }
 
-/// A site line with its name in either case.
+/// A line of a site, marked or not.
+fn site_line(name: &[u8], random: &mut Random) -> Vec<u8> {
+    let letter = *random.pick(&[b"N", b"T"]);
+    [letter, name].join(&b'\t')
+}
+
+/// A site line, marked or not, with the name of another in either case.
 fn site_in_either_case(line: &[u8], random: &mut Random) -> Vec<u8> {
-    [b"N", in_either_case(&line[2..], random).as_slice()].join(&b'\t')
+    let name = in_either_case(&line[2..], random);
+    site_line(&name, random)
 }
 
 /// A name given to no site in either case: a new one, or one that looks much like one given.
@@ -410,7 +429,7 @@ fn fields(line: &[u8]) -> Lines {
 fn wrong_form(line: &[u8], random: &mut Random) -> (Vec<u8>, u8) {
     let mut fields = fields(line);
     let number = *random.pick(&[2, 10, 10, 10, 11, 11, 11, 12, 12, 12]);
-    if number == 12 && fields[0] == b"N" {
+    if number == 12 && fields[0] != b"L" {
         let name = fields[1].clone();
         fields = vec![b"L".to_vec(), name.clone(), name, b"1".to_vec()];
     }
@@ -547,10 +566,10 @@ fn spoil_letter(fields: &mut Lines, random: &mut Random) {
         0 => *fields = vec![Vec::new()],
         1 => *fields = vec![b"network".to_vec(), b"1".to_vec()],
         2 => fields[0][0] ^= 0x20,
-        3 => fields[0][0] = *random.pick(b"PX#\x80"),
-        4 => fields[0].insert(0, *random.pick(b"\r N")),
+        3 => fields[0][0] = *random.pick(b"PXSU#\x80"),
+        4 => fields[0].insert(0, *random.pick(b"\r NT")),
         5 => fields.insert(0, Vec::new()),
-        6 => fields[0].push(*random.pick(b"N1 \r\0a")),
+        6 => fields[0].push(*random.pick(b"NT1 \r\0a")),
         _ => {
             // A space typed for the first tab.
             fields[0].push(b' ');
@@ -589,8 +608,8 @@ fn wrong_heading(lines: &[Vec<u8>], random: &mut Random) -> Vec<u8> {
 fn with_faulty_line(random: &mut Random) -> (Lines, u8, usize) {
     let network = small_network(random);
     let mut lines = network.lines(Layout::any(random), random);
-    let sites = places(&lines, b'N');
-    let links = places(&lines, b'L');
+    let sites = places(&lines, is_site);
+    let links = places(&lines, |line| !is_site(line));
     match random.below(28) {
         0 => {
             lines[0] = wrong_heading(&lines, random);

@@ -34,7 +34,8 @@ fn trimmed(network: &Network) -> Vec<u64> {
     trimmed
 }
 
-/// The sites reached from an end over links whose trimmed size is below the usable size.
+/// The sites reached from an end over links whose trimmed size is below the usable size. Sets stop at other
+/// ends; here they go on, and must not come to one, as it would be in two sets.
 fn end_set(network: &Network, end: usize, trimmed: &[u64]) -> Vec<usize> {
     let mut reached = vec![end];
     let mut came_from = vec![usize::MAX];
@@ -98,4 +99,64 @@ pub fn check(sheet: &[u8], report: &[u8]) -> Result<u64, String> {
         "a load is not the trimmed size",
     )?;
     Ok(total)
+}
+
+#[cfg(test)]
+mod tests {
+    use super::check;
+    use sheets::tried::ACCEPTED;
+
+    #[test]
+    fn reports_written_by_hand() {
+        for tried in &ACCEPTED {
+            let checked = check(&tried.sheet(), &tried.report());
+            assert!(checked.is_ok(), "{}: {checked:?}", tried.title);
+        }
+    }
+
+    /// A sheet whose link is trimmed beyond a marked site, and its report.
+    const SHEET: &str = "network 1\nN a\nT m\nN h\nN b\nN c\nL m a 5\nL m h 9\nL h b 1\nL h c 2\n";
+    const REPORT: &str = "plan 16 3\nL m a 5 5\nL m h 9 3\nL h b 1 1\nL h c 2 2\n\
+        N a a\nN m m\nN h m\nN b b\nN c c\nX a 5 1\nX m 8 2\nX b 1 1\nX c 2 1\n\
+        P a m 10\nP m b 2\nP m c 4\n";
+
+    #[test]
+    fn wrong_at_a_marked_site() {
+        let check = |report: &str| {
+            let [sheet, report] = [SHEET, report].map(|text| text.replace(' ', "\t"));
+            check(sheet.as_bytes(), report.as_bytes())
+        };
+        assert_eq!(check(REPORT), Ok(16));
+        for (from, to, due) in [
+            (
+                "L m a 5 5",
+                "L m a 5 3",
+                "a trimmed size is not the greatest",
+            ),
+            (
+                "L m h 9 3",
+                "L m h 9 9",
+                "a trimmed size is not the greatest",
+            ),
+            ("N h m", "N h -", "a site has another owner"),
+            ("N a a", "N a m", "a site has another owner"),
+            ("N m m", "T m m", "a line N of 2 fields is missing"),
+            ("X m 8 2\n", "", "an end set has another name"),
+            ("X m 8 2", "X m 3 2", "an end set has another size"),
+            (
+                "P a m 10\nP m b 2\nP m c 4",
+                "P a m 10\nP a c 4\nP m b 2",
+                "a pair has another end on its path",
+            ),
+            (
+                "16 3\nL m a 5 5\nL m h 9 3",
+                "16 2\nL m a 5 5\nL m h 9 3",
+                "the report goes on after its pairs",
+            ),
+        ] {
+            assert!(REPORT.contains(from), "{from:?}");
+            let found = check(&REPORT.replacen(from, to, 1));
+            assert_eq!(found, Err(due.to_string()), "{from:?} to {to:?}");
+        }
+    }
 }

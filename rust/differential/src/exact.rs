@@ -1,8 +1,8 @@
 //! The greatest total of a small tree by linear programming, in exact fractions.
 //!
-//! Nothing of trimming, end sets or pairing is used here: the amounts of all pairs of ends are
-//! the unknowns, the usable sizes of the links are the bounds, and the simplex method finds the greatest
-//! total. It comes with a price per link that shows no plan has more.
+//! Nothing of trimming, end sets, parts or pairing is used here: the amounts of all pairs of ends with no
+//! other end on their path are the unknowns, the usable sizes of the links are the bounds, and the
+//! simplex method finds the greatest total. It comes with a price per link that shows no plan has more.
 
 use sheets::Network;
 use std::cmp::Ordering;
@@ -86,18 +86,18 @@ impl Ord for Fraction {
     }
 }
 
-/// The links on the path between each two ends.
+/// The links on the path between each two ends with no other end on it.
 pub fn paths(network: &Network) -> Vec<Vec<usize>> {
-    let sites = network.names.len();
-    let mut degree = vec![0; sites];
-    for &site in network.links.iter().flatten() {
-        degree[site] += 1;
-    }
-    let ends: Vec<usize> = (0..sites).filter(|&site| degree[site] == 1).collect();
+    let sites = 0..network.names.len();
+    let ends: Vec<usize> = sites.filter(|&site| network.is_end(site)).collect();
     let mut paths = Vec::new();
     for (position, &from) in ends.iter().enumerate() {
         for &to in &ends[position + 1..] {
-            paths.extend(path(network, from, to, usize::MAX));
+            let is_free = |path: &Vec<usize>| {
+                let mut on_path = path.iter().flat_map(|&link| network.links[link]);
+                on_path.all(|site| site == from || site == to || !ends.contains(&site))
+            };
+            paths.extend(path(network, from, to, usize::MAX).filter(is_free));
         }
     }
     paths
@@ -119,8 +119,8 @@ fn path(network: &Network, from: usize, to: usize, except: usize) -> Option<Vec<
     })
 }
 
-/// The greatest total of amounts between ends of a tree, none less than 0, whose loads pass no
-/// usable size.
+/// The greatest total of amounts between ends of a tree with no other end between them, none less than 0,
+/// whose loads pass no usable size.
 ///
 /// # Panics
 ///

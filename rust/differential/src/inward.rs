@@ -6,7 +6,6 @@
 
 use crate::compare::{Answer, LIST_PLACES, Planners};
 use crate::printed::{Lines, Network, demand};
-use second::REPORT_BYTES;
 use sheets::Random;
 
 /// Compares the planners on a sheet with a list of so many places, given what is due with a list
@@ -129,7 +128,7 @@ fn printed_sizes(
     sheet: &[u8],
     network: &Network,
 ) -> Result<Vec<u64>, String> {
-    let Answer::Report(report) = planners.plan(sheet, REPORT_BYTES)? else {
+    let Answer::Report(report) = planners.plan(sheet, planners.room())? else {
         return Err("both planners refuse a tree".to_string());
     };
     let mut lines = Lines { rest: report };

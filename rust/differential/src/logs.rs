@@ -7,7 +7,7 @@
 use crate::{Failure, damage};
 use second::{LOG_LINES, REPORT_BYTES, Replayed};
 use sheets::Random;
-use sheets::ledger::{self, is_too_long};
+use sheets::ledger::{self, Seen, is_too_long};
 use sheets::logs::{Case, case, every_small_log};
 use std::cell::Cell;
 use std::path::{Path, PathBuf};
@@ -24,6 +24,8 @@ const THREADS: u64 = 2;
 const ENOUGH_FOR_SHARES: u64 = 10_000;
 /// At least one in this many logs must have each answer in one of its lines.
 const LEAST_SHARE: u64 = 100;
+/// At least one in this many logs must have a line for two ends with another one between them.
+const LEAST_ACROSS_SHARE: u64 = 10;
 /// All answers that a line can get.
 const ANSWERS: [usize; 10] = [0, 2, 3, 6, 10, 11, 12, 14, 15, 16];
 
@@ -144,6 +146,8 @@ struct Tally {
     refused: [u64; 3],
     /// How many logs had 511, and 512, pairs open.
     crowded: [u64; 2],
+    /// How many logs have a line for two ends with another one between them.
+    across: u64,
 }
 
 impl Tally {
@@ -154,9 +158,10 @@ impl Tally {
             *count += more;
         }
         self.lines += other.lines;
+        self.across += other.across;
     }
 
-    fn see(&mut self, answers: &[u64], most_open: usize) {
+    fn see(&mut self, answers: &[u64], seen: Seen) {
         let mut occurs = [0; 17];
         for &answer in answers {
             occurs[answer as usize] = 1;
@@ -166,8 +171,9 @@ impl Tally {
         }
         self.lines += answers.len() as u64;
         for (count, least) in self.crowded.iter_mut().zip([511, 512]) {
-            *count += u64::from(most_open >= least);
+            *count += u64::from(seen.most_open >= least);
         }
+        self.across += u64::from(seen.across > 0);
     }
 
     /// Whether each answer and each refusal occurred in enough of so many logs.
@@ -179,6 +185,7 @@ impl Tally {
             .chain([&self.refused[0], &self.refused[2]])
             .all(|&logs| logs >= least)
             && self.refused[1] >= least / 4
+            && self.across >= count / LEAST_ACROSS_SHARE
     }
 }
 
@@ -199,9 +206,9 @@ fn compare(lists: &mut Lists, case: &Case, places: usize, tally: &mut Tally) -> 
         tally.refused[2] += 1;
         refused(9)
     } else {
-        let most_open = ledger::check(&case.network, &case.log, answers)
+        let seen = ledger::check(&case.network, &case.log, answers)
             .map_err(|what| format!("both planners: {what}"))?;
-        tally.see(answers, most_open);
+        tally.see(answers, seen);
         Replayed::Answered { count }
     };
     lists.clear(count_of(outcome));
@@ -373,8 +380,9 @@ pub fn compare_all(seed: u64, count: u64) -> Result<(), Different> {
         ANSWERS.map(|answer| tally.logs[answer])
     );
     println!(
-        "  511 pairs open, 512: {:?}; refused for the sheet, their length, the list: {:?}",
-        tally.crowded, tally.refused
+        "  511 pairs open, 512: {:?}; another end on a path: {}; refused for the sheet, their length, the \
+         list: {:?}",
+        tally.crowded, tally.across, tally.refused
     );
     if count >= ENOUGH_FOR_SHARES && !tally.has_shares(count) {
         return Err(Different {

@@ -6,8 +6,8 @@
 //!              [--logs N] [--log INDEX] [--replay FILE]
 //! ```
 //!
-//! The sheets of the scope document come first, then small sheets with names in either case and with
-//! reserves, then all small trees, then random trees and damaged sheets from a seed, then the programs over
+//! The sheets of the scope document come first, then small sheets with names in either case, with
+//! reserves and with marks, then all small trees, then random trees and damaged sheets from a seed, then the programs over
 //! standard input and output. Reports headed `plan` are compared byte for byte. Of those headed
 //! `whole` loads and end sets are free: totals are compared, and pairs with those that the walk gives
 //! for the printed loads. Of every accepted sheet the reports are checked against the demands on
@@ -28,6 +28,7 @@ mod demands;
 mod exact;
 mod inward;
 mod logs;
+mod marks;
 mod printed;
 mod programs;
 mod random;
@@ -154,7 +155,9 @@ fn run(options: &Options) -> ExitCode {
         small::tried_sheets()
             .and_then(|()| small::names_in_either_case())
             .and_then(|()| small::reserves())
+            .and_then(|()| small::site_lines())
             .and_then(|()| small::small_trees())
+            .and_then(|()| small::marked_trees())
             .and_then(|()| random::compare_all(options.seed, options.sheets))
             .and_then(|()| options.programs.compare(options.seed, options.runs))
             .and_then(|()| compare_logs(options))
@@ -175,7 +178,9 @@ fn run(options: &Options) -> ExitCode {
 
 /// Whether a planted error is one in the replay of logs.
 fn is_of_logs(number: u64) -> bool {
-    number >= second::planted::Error::FirstLinkOnly as u64
+    use second::planted::Error::{AcrossAccepted, FirstLinkOnly, UnendedLeftOut};
+    let first_of_logs = FirstLinkOnly as u64..=UnendedLeftOut as u64;
+    first_of_logs.contains(&number) || number == AcrossAccepted as u64
 }
 
 /// Compares the planners on booking logs: on a single one, on random ones, or on all.

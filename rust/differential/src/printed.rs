@@ -9,6 +9,8 @@ use std::collections::HashMap;
 pub struct Network<'sheet> {
     /// The name of each site as its own line spells it.
     pub names: Vec<&'sheet [u8]>,
+    /// Whether the line of each site marks it.
+    is_marked: Vec<bool>,
     /// The site of each name, in capitals.
     number: HashMap<[u8; NAME_BYTES], usize>,
     pub links: Vec<Link>,
@@ -18,6 +20,9 @@ pub struct Network<'sheet> {
 
 /// The most bytes a name may have.
 const NAME_BYTES: usize = 12;
+
+/// Two sites, and the amount between them.
+pub type Pair = ([usize; 2], u64);
 
 pub struct Link {
     pub sites: [usize; 2],
@@ -34,6 +39,7 @@ impl<'sheet> Network<'sheet> {
     fn read_lines(sheet: &'sheet [u8]) -> Option<Self> {
         let mut network = Network {
             names: Vec::new(),
+            is_marked: Vec::new(),
             number: HashMap::new(),
             links: Vec::new(),
             around: Vec::new(),
@@ -41,9 +47,10 @@ impl<'sheet> Network<'sheet> {
         for line in sheet.split(|&byte| byte == b'\n').skip(1) {
             let fields: Vec<&[u8]> = line.split(|&byte| byte == b'\t').collect();
             match fields[..] {
-                [b"N", name] => {
+                [letter @ (b"N" | b"T"), name] => {
                     network.number.insert(capitals(name)?, network.names.len());
                     network.names.push(name);
+                    network.is_marked.push(letter == b"T");
                     network.around.push(Vec::new());
                 }
                 [b"L", first, second, ref sizes @ ..] => {
@@ -91,12 +98,18 @@ impl<'sheet> Network<'sheet> {
         Ok(())
     }
 
+    /// Whether a site is an end: has just one link, or is marked.
     pub fn is_end(&self, site: usize) -> bool {
-        self.around[site].len() == 1
+        self.around[site].len() == 1 || self.is_marked[site]
     }
 
     pub fn ends(&self) -> impl Iterator<Item = usize> {
         (0..self.names.len()).filter(|&site| self.is_end(site))
+    }
+
+    /// Whether there is an end with more than one link.
+    pub fn has_inner_end(&self) -> bool {
+        self.ends().any(|end| self.around[end].len() > 1)
     }
 
     /// For each site its parent and the link to it, counted from site 0, and its depth.
@@ -116,21 +129,37 @@ impl<'sheet> Network<'sheet> {
         (parent, depth)
     }
 
-    /// The load of each link, given the amount between each pair of sites.
-    pub fn loads(&self, pairs: &[([usize; 2], u64)]) -> Vec<u64> {
+    /// Calls `see` with each link on the path of each pair of sites, the site it leads to on the way from
+    /// one of these, and the pair with its amount.
+    fn walk(&self, pairs: &[Pair], mut see: impl FnMut(usize, usize, &Pair)) {
         let (parent, depth) = self.parents();
-        let mut loads = vec![0; self.links.len()];
-        for &([mut one, mut other], amount) in pairs {
+        for pair in pairs {
+            let [mut one, mut other] = pair.0;
             while one != other {
                 if depth[one] < depth[other] {
                     (one, other) = (other, one);
                 }
                 let (above, link) = parent[one];
-                loads[link] += amount;
+                see(link, above, pair);
                 one = above;
             }
         }
+    }
+
+    /// The load of each link, given the amount between each pair of sites.
+    pub fn loads(&self, pairs: &[Pair]) -> Vec<u64> {
+        let mut loads = vec![0; self.links.len()];
+        self.walk(pairs, |link, _, (_, amount)| loads[link] += amount);
         loads
+    }
+
+    /// Whether no pair has an end on its path other than its own two.
+    fn are_free(&self, pairs: &[Pair]) -> bool {
+        let mut are_free = true;
+        self.walk(pairs, |_, site, (ends, _)| {
+            are_free &= ends.contains(&site) || !self.is_end(site);
+        });
+        are_free
     }
 }
 
@@ -226,18 +255,14 @@ impl<'report> Lines<'report> {
         Ok(sizes.iter().sum())
     }
 
-    /// The pairs that end the report: two ends each, the lower number first, ascending, at most as
-    /// many as links, with amounts above 0.
-    pub fn pairs(
-        &mut self,
-        network: &Network,
-        count: u64,
-    ) -> Result<Vec<([usize; 2], u64)>, String> {
+    /// The pairs that end the report: two ends each with no other end between them, the lower number first,
+    /// ascending, at most as many as links, with amounts above 0.
+    pub fn pairs(&mut self, network: &Network, count: u64) -> Result<Vec<Pair>, String> {
         demand(
             count <= network.links.len() as u64,
             "there are more pairs than links",
         )?;
-        let mut pairs: Vec<([usize; 2], u64)> = Vec::new();
+        let mut pairs: Vec<Pair> = Vec::new();
         for _ in 0..count {
             let [first, second, amount] = self.next("P")?;
             let [Some(first), Some(second)] = [first, second].map(|name| network.site(name)) else {
@@ -257,6 +282,10 @@ impl<'report> Lines<'report> {
             demand(read(amount)? > 0, "a pair has nothing")?;
         }
         demand(self.rest.is_empty(), "the report goes on after its pairs")?;
+        demand(
+            network.are_free(&pairs),
+            "a pair has another end on its path",
+        )?;
         Ok(pairs)
     }
 }

@@ -4,7 +4,7 @@ use crate::compare::{Answer, LIST_PLACES, Planners};
 use crate::damage::{self, Damaged};
 use crate::printed;
 use crate::small::accepted;
-use crate::{Failure, circuits, demands, inward, spelling, usable};
+use crate::{Failure, circuits, demands, inward, marks, spelling, usable};
 use second::REPORT_BYTES;
 use sheets::{Layout, Network, Random};
 use std::cell::Cell;
@@ -24,6 +24,11 @@ const OFTEN: [usize; 5] = [2, 10, 11, 12, 13];
 const LEAST_OFTEN_SHARE: u64 = 12;
 /// One in this many sheets must at least be accepted and have a reserve.
 const LEAST_RESERVE_SHARE: u64 = 8;
+/// One in this many sheets must at least be accepted and have an end with several links; and each cause of
+/// a site line must be told of a line that starts with `T` for one in so many others.
+const LEAST_MARKED_SHARE: u64 = 8;
+const OF_SITE_LINES: [usize; 5] = [2, 10, 11, 4, 5];
+const LEAST_MARKED_SHARES: u64 = 2_000;
 /// One in this many sheets must at least have odd pieces when planned in whole circuits.
 const LEAST_ODD_SHARE: u64 = 20;
 /// One in this many sheets must at least have another answer when names are read by bytes, and one in
@@ -52,18 +57,24 @@ pub struct Tally {
     spelt: [u64; 14],
     /// How many accepted sheets with reserves are compared with the same without.
     reserved: u64,
+    /// How many accepted sheets have an end with several links.
+    marked: u64,
+    /// How many sheets are refused for a line that starts with `T`, by the number of the refusal.
+    marked_lines: [u64; 14],
 }
 
 impl Tally {
     fn add(&mut self, other: &Tally) {
-        let counts = self.outcomes.iter_mut().chain(&mut self.spelt);
-        for (count, more) in counts.zip(other.outcomes.iter().chain(&other.spelt)) {
+        let counts = |tally: &Tally| [tally.outcomes, tally.spelt, tally.marked_lines].concat();
+        let own = self.outcomes.iter_mut().chain(&mut self.spelt);
+        for (count, more) in own.chain(&mut self.marked_lines).zip(counts(other)) {
             *count += more;
         }
         self.solved += other.solved;
         self.odd += other.odd;
         self.ordered += other.ordered;
         self.reserved += other.reserved;
+        self.marked += other.marked;
     }
 }
 
@@ -110,6 +121,7 @@ impl Case {
                 let whole = whole.to_vec();
                 tally.odd += u64::from(checked.odd_pieces > 0);
                 tally.reserved += u64::from(usable::compare(planners, &self.sheet)?);
+                tally.marked += u64::from(marks::compare(planners, &self.sheet)?);
                 tally.outcomes[0] += 1;
                 tally.spelt[0] += u64::from(spelling::matters(&self.sheet, None));
                 tally.solved += u64::from(solve);
@@ -223,6 +235,7 @@ impl Case {
         let Some(due) = refusal.filter(|&(number, _)| number != 9) else {
             let report = circuits::accepted(planners, &self.sheet)?.0.to_vec();
             usable::compare(planners, &self.sheet)?;
+            marks::compare(planners, &self.sheet)?;
             return self.check_whole_buffer(&report, length, planners);
         };
         match planners.whole(&self.sheet, length)? {
@@ -231,6 +244,14 @@ impl Case {
                 "whole: the answer is {answer:?} where {due:?} is due"
             )),
         }
+    }
+
+    /// Whether a refusal is for a line that starts with `T`.
+    fn is_for_marked(&self, refusal: Option<(u8, u32)>) -> bool {
+        let mut lines = self.sheet.split(|&byte| byte == b'\n');
+        let place = refusal.and_then(|(_, line)| line.checked_sub(1));
+        let line = place.and_then(|place| lines.nth(place as usize));
+        line.is_some_and(|line| line.starts_with(b"T"))
     }
 
     fn check_damaged(
@@ -255,6 +276,7 @@ impl Case {
         self.check_damaged_order(answer, planners)?;
         let outcome = answer.map_or(0, |(number, _)| usize::from(number));
         tally.outcomes[outcome] += 1;
+        tally.marked_lines[outcome] += u64::from(self.is_for_marked(answer));
         tally.spelt[outcome] += u64::from(spelling::matters(&self.sheet, answer));
         if refusal.is_some() && answer != refusal {
             return Err(format!(
@@ -355,6 +377,12 @@ pub fn compare_all(seed: u64, count: u64) -> Result<(), Failure> {
         "  {} trees with reserves, reports as on their usable sizes",
         tally.reserved
     );
+    println!(
+        "  {} trees with ends inside, orders as without marks; lines of marked sites refused with \
+         {OF_SITE_LINES:?}: {:?}",
+        tally.marked,
+        OF_SITE_LINES.map(|number| tally.marked_lines[number])
+    );
     let has_share = |(number, &sheets): (usize, &u64)| {
         let share = if OFTEN.contains(&number) {
             LEAST_OFTEN_SHARE
@@ -366,6 +394,10 @@ pub fn compare_all(seed: u64, count: u64) -> Result<(), Failure> {
     let has_shares = tally.outcomes.iter().enumerate().all(has_share)
         && tally.odd >= count / LEAST_ODD_SHARE
         && tally.reserved >= count / LEAST_RESERVE_SHARE
+        && tally.marked >= count / LEAST_MARKED_SHARE
+        && OF_SITE_LINES
+            .iter()
+            .all(|&number| tally.marked_lines[number] >= count / LEAST_MARKED_SHARES)
         && tally.spelt.iter().sum::<u64>() >= count / LEAST_SPELT_SHARE
         && SPELT.map(|outcome| tally.spelt[outcome] >= count / LEAST_SPELT_SHARES) == [true; 3];
     if count >= ENOUGH_FOR_SHARES && !has_shares {

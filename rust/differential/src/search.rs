@@ -1,7 +1,7 @@
 //! The largest total of a small tree in whole circuits, by trying all plans.
 //!
-//! Nothing of loads, end sets or pieces is used here: every pair of ends in turn gets each amount
-//! that the links of its path have left.
+//! Nothing of loads, end sets or pieces is used here: every pair of ends with no other end between them in
+//! turn gets each amount that the links of its path have left.
 
 use crate::exact::paths;
 use sheets::Network;
@@ -10,7 +10,7 @@ use sheets::Network;
 struct Search {
     /// The links on the path of each pair of ends.
     paths: Vec<Vec<usize>>,
-    /// What the links of the ends are, one for each end.
+    /// The links of all ends, one end after the other.
     end_links: Vec<usize>,
     /// What is left of each link.
     left: Vec<u32>,
@@ -22,7 +22,7 @@ impl Search {
     /// Tries all amounts of the pairs from `pair` on, those before having `total` together.
     fn go_on(&mut self, pair: usize, total: u32) {
         self.largest = self.largest.max(total);
-        // Every further circuit takes one of the link of each of its two ends.
+        // Every further circuit takes one of a link of each of its two ends.
         let ends_left: u32 = self.end_links.iter().map(|&link| self.left[link]).sum();
         if pair == self.paths.len() || total + ends_left / 2 <= self.largest {
             return;
@@ -43,18 +43,14 @@ impl Search {
 
 /// The largest total, in circuits, of a plan that gives whole circuits to each pair of ends.
 pub fn largest_total(network: &Network) -> u32 {
-    let links_at = |site: usize| {
-        let links = network.links.iter().enumerate();
-        let at_site = links.filter(move |(_, sites)| sites.contains(&site));
-        at_site.map(|(link, _)| link).collect::<Vec<usize>>()
-    };
-    let at_sites = (0..network.names.len()).map(links_at);
+    let links = network.links.iter().enumerate();
+    let at_ends = links.flat_map(|(link, sites)| {
+        let ends = sites.iter().filter(|&&site| network.is_end(site));
+        ends.map(move |_| link)
+    });
     let mut search = Search {
         paths: paths(network),
-        end_links: at_sites
-            .filter(|links| links.len() == 1)
-            .flatten()
-            .collect(),
+        end_links: at_ends.collect(),
         left: network.usable_sizes(),
         largest: 0,
     };

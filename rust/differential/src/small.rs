@@ -3,12 +3,13 @@
 use crate::card::Checked;
 use crate::compare::{Answer, LIST_PLACES, Planners};
 use crate::exact::{self, Fraction};
-use crate::{Failure, circuits, demands, inward, search};
+use crate::{Failure, circuits, demands, inward, marks, search};
 use second::REPORT_BYTES;
 use sheets::cases::{self, Due};
 use sheets::{Layout, Names, Network, Random, SHAPES, Sizes, Spelling};
-use sheets::{order, prufer_links, reserve, tried, whole};
+use sheets::{marks as site_lines, order, prufer_links, reserve, tried, whole};
 use std::collections::HashSet;
+use std::time::Instant;
 
 /// Both planners on the sheets of the scope document, against answers written by hand.
 pub fn tried_sheets() -> Result<(), Failure> {
@@ -104,6 +105,17 @@ pub fn reserves() -> Result<(), Failure> {
     Ok(())
 }
 
+/// Both planners on small sheets with site lines of either letter, against what is due by the words of
+/// the card.
+pub fn site_lines() -> Result<(), Failure> {
+    let mut planners = Planners::new();
+    let count = site_lines::every_sheet(|sheet, due| {
+        two_sites(&mut planners, sheet, due).map_err(|what| failure(sheet, what))
+    })?;
+    println!("marks: {count} sheets of two sites, answers by the words of the card");
+    Ok(())
+}
+
 /// Both planners on a sheet of two sites, with what is due of it.
 fn two_sites(planners: &mut Planners, sheet: &[u8], due: &Due) -> Result<(), String> {
     let answer = match planners.plan(sheet, REPORT_BYTES)? {
@@ -142,7 +154,7 @@ fn two_sites(planners: &mut Planners, sheet: &[u8], due: &Due) -> Result<(), Str
 /// sizes 0 to 3; and in whole circuits on some of 6 to 8 sites.
 pub fn small_trees() -> Result<(), Failure> {
     let mut planners = Planners::new();
-    let counts = every_tree(3, |network, sheet| {
+    let counts = every_tree(3, Marks::None, Share::Whole, |network, sheet| {
         accepted(network, sheet, &mut planners, true)?;
         inward::accepted_small(&mut planners, sheet)
     })?;
@@ -150,7 +162,7 @@ pub fn small_trees() -> Result<(), Failure> {
     println!("small trees: 3, 27, 432 and 10,125 sheets, totals found by linear programming");
     println!("  order: the same sheets, trimmed sizes found along every order");
 
-    let counts = every_tree(4, |network, sheet| {
+    let counts = every_tree(4, Marks::None, Share::Whole, |network, sheet| {
         largest_whole(network, sheet, &mut planners)
     })?;
     assert_eq!(counts, [4, 48, 1_024, 32_000]);
@@ -172,6 +184,39 @@ pub fn small_trees() -> Result<(), Failure> {
     Ok(())
 }
 
+/// Both planners on all trees of 2 to 5 sites with all sets of marks and sizes 0 to 2, in halves and in
+/// whole circuits, and their order of work.
+pub fn marked_trees() -> Result<(), Failure> {
+    let start = Instant::now();
+    let share = |share: Share| {
+        let mut planners = Planners::with_room(ROOM);
+        let mut random = Random::new(1);
+        every_tree(3, Marks::All, share, |network, sheet| {
+            accepted(network, sheet, &mut planners, true)?;
+            largest_whole(network, sheet, &mut planners)?;
+            marks::compare(&mut planners, sheet)?;
+            inward::accepted(&mut planners, sheet, &mut random)
+        })
+    };
+    let counts = std::thread::scope(|scope| {
+        let other = scope.spawn(|| share(Share::Odd));
+        let counts = share(Share::Even)?;
+        let others = other.join().expect("no thread panics")?;
+        let both = counts.iter().zip(others);
+        Ok(both.map(|(one, other)| one + other).collect::<Vec<_>>())
+    })?;
+    assert_eq!(counts, [4 * 3, 8 * 27, 16 * 432, 32 * 10_125]);
+    println!(
+        "marked trees: 12, 216, 6,912 and 324,000 sheets in {:.1} s, totals found by linear programming and, \
+         whole, by trying all plans",
+        start.elapsed().as_secs_f64()
+    );
+    Ok(())
+}
+
+/// A buffer of so many bytes is enough for a report of five sites.
+const ROOM: usize = 1_024;
+
 /// How many trees of 6 to 8 sites are compared in whole circuits.
 const LARGER_TREES: usize = 20_000;
 
@@ -183,23 +228,53 @@ fn failure(sheet: &[u8], what: String) -> Failure {
     }
 }
 
-/// Calls `see` with all trees of 2 to 5 sites whose sizes are below `sizes`, and returns how many
-/// there are of each number of sites.
+/// The sets of marks that a tree is taken with.
+#[derive(Clone, Copy, PartialEq, Eq)]
+enum Marks {
+    None,
+    All,
+}
+
+/// The trees that are taken: all, or every second one.
+#[derive(Clone, Copy, PartialEq, Eq)]
+enum Share {
+    Whole,
+    Even,
+    Odd,
+}
+
+impl Share {
+    fn has(self, tree: u64) -> bool {
+        match self {
+            Share::Whole => true,
+            Share::Even => tree.is_multiple_of(2),
+            Share::Odd => !tree.is_multiple_of(2),
+        }
+    }
+}
+
+/// Calls `see` with all trees of 2 to 5 sites whose sizes are below `sizes`, with the sets of marks that
+/// are told, as far as a share has them, and returns how many there are of each number of sites.
 fn every_tree(
     sizes: usize,
+    marks: Marks,
+    share: Share,
     mut see: impl FnMut(&Network, &[u8]) -> Result<(), String>,
 ) -> Result<Vec<usize>, Failure> {
     let mut counts = Vec::new();
     for sites in 2..=5_u32 {
         let trees = u64::from(sites).pow(sites - 2);
         let sizings = (sizes as u64).pow(sites - 1);
+        let markings = if marks == Marks::All { 1 << sites } else { 1 };
         let mut different = HashSet::new();
-        for tree in 0..trees {
+        for tree in (0..trees).filter(|&tree| share.has(tree)) {
             let sequence = digits(tree, sites as usize, sites as usize - 2);
             let links = prufer_links(&sequence);
-            for sizing in 0..sizings {
+            for number in 0..sizings * markings {
+                let (sizing, marking) = (number / markings, number % markings);
                 let network = Network {
                     names: (1..=sites).map(|site| format!("s{site}").into()).collect(),
+                    marks: (0..sites).map(|site| marking >> site & 1 == 1).collect(),
                     links: links.clone(),
                     sizes: digits(sizing, sizes, links.len())
                         .iter()
@@ -210,7 +285,7 @@ fn every_tree(
                 };
                 let sheet = network.sheet(Layout::SitesFirst, &mut Random::new(0));
                 see(&network, &sheet).map_err(|what| failure(&sheet, what))?;
-                different.insert(network.sized_links());
+                different.insert((network.sized_links(), marking));
             }
         }
         counts.push(different.len());
@@ -250,7 +325,7 @@ pub fn accepted(
     planners: &mut Planners,
     solve: bool,
 ) -> Result<usize, String> {
-    let report = match planners.plan(sheet, REPORT_BYTES)? {
+    let report = match planners.plan(sheet, planners.room())? {
         Answer::Report(report) => report,
         Answer::Refused(number, line) => {
             return Err(format!(

@@ -18,8 +18,8 @@ pub fn matters(sheet: &[u8], refusal: Option<(u8, u32)>) -> bool {
             return false;
         }
         match fields[..] {
-            [b"N", name] if place == last_line => return !given.contains(name),
-            [b"N", name] => _ = given.insert(name),
+            [b"N" | b"T", name] if place == last_line => return !given.contains(name),
+            [b"N" | b"T", name] => _ = given.insert(name),
             [b"L", first, second, ..] if !given.contains(first) || !given.contains(second) => {
                 return true;
             }
@@ -42,6 +42,10 @@ mod tests {
             ("N a\nN b\n", Some((8, 0)), false),
             ("N a\nN a\nL A a 1\n", Some((5, 3)), false),
             ("N a\nN A\n", Some((5, 3)), true),
+            ("T a\nN A\n", Some((5, 3)), true),
+            ("N a\nT A\n", Some((5, 3)), true),
+            ("T a\nT b\nL A b 1\n", None, true),
+            ("T a\nT b\nL a b 1\n", None, false),
             ("N a\nL a a 1\n", Some((7, 3)), false),
             ("N a\nL a A 1\n", Some((7, 3)), true),
             ("N a\nL q A 1\n", Some((6, 3)), false),

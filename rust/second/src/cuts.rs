@@ -53,6 +53,9 @@ impl TerminalCuts {
             let [first, second] = link.sites.map(|site| cuts.owner[usize::from(site)]);
             if first != second {
                 for owner in [first, second].into_iter().flatten() {
+                    if planted(Error::OneLinkCounted) && network.is_marked(owner) {
+                        cuts.size[usize::from(owner)] = 0;
+                    }
                     cuts.size[usize::from(owner)] += link.capacity;
                     cuts.total += link.capacity;
                 }
@@ -62,8 +65,8 @@ impl TerminalCuts {
     }
 }
 
-/// Works out the set of each end: the sites reached from it over links trimmed below their capacity.
-/// No site is reached from two ends.
+/// Works out the set of each end: the sites reached from it over links trimmed below their capacity, up
+/// to other ends. No site is reached from two ends.
 pub fn terminal_cuts(network: &Network, tree: &RootedTree, balanced: &Balanced) -> TerminalCuts {
     if planted(Error::SetsByGiven) {
         return reached(network, &tree.with_given_sizes(network), balanced);
@@ -78,19 +81,21 @@ fn reached(network: &Network, tree: &RootedTree, balanced: &Balanced) -> Termina
     if tree.is_terminal(tree.root()) {
         owner[usize::from(tree.root())] = Some(tree.root());
     }
-    let is_trimmed = |site| balanced.capacity(site) < tree.capacity(site);
+    let is_trimmed =
+        |site| balanced.capacity(site) < tree.capacity(site) || planted(Error::SetsOverFull);
     for &site in tree.leaves_first() {
         if tree.is_terminal(site) {
             owner[usize::from(site)] = Some(site);
         }
         let own = owner[usize::from(site)];
-        if own.is_some() && is_trimmed(site) {
-            owner[usize::from(tree.parent(site))] = own;
+        let parent = tree.parent(site);
+        if own.is_some() && is_trimmed(site) && !tree.is_terminal(parent) {
+            owner[usize::from(parent)] = own;
         }
     }
     if !planted(Error::UpwardSets) {
         for &site in tree.leaves_first().iter().rev() {
-            if is_trimmed(site) {
+            if is_trimmed(site) && !tree.is_terminal(site) {
                 owner[usize::from(site)] = owner[usize::from(tree.parent(site))];
             }
         }

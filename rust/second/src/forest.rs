@@ -1,14 +1,17 @@
 //! What links of capacity 0 leave of the tree, rooted at ends.
+//!
+//! A largest plan is found for each part of the tree, which has ends at its leaves only, from one of
+//! them. An end inside the tree is a leaf of the part towards the root, and starts those away from it.
 
 use crate::SITES;
 use crate::tree::RootedTree;
 
-/// The parts into which the tree falls without its links of capacity 0, each rooted at its end of
-/// lowest number. A part without an end is left out: it carries nothing.
+/// The trees into which the tree falls without its links of capacity 0, each rooted at its end of
+/// lowest number. A tree without an end is left out: it carries nothing.
 ///
 /// What belongs to the link between a site and its parent is kept at the place of that site.
 pub struct Forest {
-    /// The sites of all parts, each after its parent.
+    /// The sites of all trees, each after its parent.
     roots_first: [u8; SITES],
     count: usize,
     /// The parent of each site; that of a root is the root.
@@ -17,7 +20,7 @@ pub struct Forest {
 }
 
 impl Forest {
-    /// Takes the parts of a tree, one end after the other.
+    /// Takes one end after the other.
     pub fn new(tree: &RootedTree) -> Self {
         let mut forest = Forest {
             roots_first: [0; SITES],
@@ -34,7 +37,7 @@ impl Forest {
         forest
     }
 
-    /// Adds the part around a root.
+    /// Adds the tree around a root.
     fn grow(&mut self, tree: &RootedTree, root: u8, is_reached: &mut [bool; SITES]) {
         let mut next = self.count;
         self.push(root, root, 0);

@@ -16,7 +16,8 @@ const BAD_NUMBER: u8 = 12;
 /// What stands behind the names are numbers.
 fn layout(letter: &[u8]) -> Option<(Range<usize>, RangeInclusive<usize>)> {
     match letter {
-        b"N" => Some((1..2, 2..=2)),
+        b"T" if planted(Error::MarkRefused) => None,
+        b"N" | b"T" => Some((1..2, 2..=2)),
         b"L" => Some((1..3, 4..=5)),
         _ => None,
     }
@@ -89,7 +90,7 @@ mod tests {
             is_decimal && (number == "0" || !number.starts_with('0'))
         };
         match line.split('\t').collect::<Vec<_>>()[..] {
-            ["N", name] if !is_name(name) => 11,
+            ["N" | "T", name] if !is_name(name) => 11,
             ["L", first, second, _] | ["L", first, second, _, _]
                 if !is_name(first) || !is_name(second) =>
             {
@@ -97,8 +98,8 @@ mod tests {
             }
             ["L", _, _, size] if !is_number(size) => 12,
             ["L", _, _, size, reserve] if !is_number(size) || !is_number(reserve) => 12,
-            ["N", _] | ["L", _, _, _] | ["L", _, _, _, _] => 0,
-            ["N" | "L", ..] => 10,
+            ["N" | "T", _] | ["L", _, _, _] | ["L", _, _, _, _] => 0,
+            ["N" | "T" | "L", ..] => 10,
             _ => 2,
         }
     }
@@ -124,7 +125,7 @@ mod tests {
         };
         let due = match fault_by_the_card(line) {
             // A site alone is not enough, and no name is given above.
-            0 if line.starts_with('N') => (8, 0),
+            0 if !line.starts_with('L') => (8, 0),
             0 => (fault_of_sizes(line).unwrap_or(6), 2),
             number => (number, 2),
         };
@@ -151,7 +152,7 @@ mod tests {
     fn every_short_line() {
         every_text(
             &mut String::new(),
-            &["N", "L", "\t", "0", "7", "a", "-", " "],
+            &["N", "T", "L", "\t", "0", "7", "a", "-", " "],
             5,
             &mut check,
         );
@@ -181,13 +182,13 @@ mod tests {
         ];
         let pieces = fields.map(|field| format!("\t{field}"));
         let pieces: Vec<&str> = pieces.iter().map(String::as_str).collect();
-        for letter in ["N", "L"] {
+        for letter in ["N", "T", "L"] {
             every_text(&mut letter.to_string(), &pieces, 4, &mut check);
         }
         for names in ["L\ta\tb", "L\ta b\tb", "L\ta\tabcdefghijklm"] {
             every_text(&mut names.to_string(), &pieces, 3, &mut check);
         }
-        for letter in ["", "n", " N", "N ", "NN", "network", "é"] {
+        for letter in ["", "n", "t", " N", "N ", "NN", "T ", "NT", "network", "é"] {
             every_text(&mut letter.to_string(), &pieces, 3, &mut check);
         }
     }

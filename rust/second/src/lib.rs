@@ -14,7 +14,8 @@
 //! | `network` | reads the sheet: sites, links, refusals 1 to 8 and 10 to 13 |
 //! | `form` | tells what is off in a line of the wrong form: refusals 2, 10, 11, 12 |
 //! | `names` | finds a site by its name, in either case |
-//! | `tree` | roots the tree by taking off its leaves |
+//! | `neighbours` | lists the neighbours of every site |
+//! | `tree` | roots the tree by taking off its leaves, and its parts |
 //! | `trim` | trims the capacities in two passes |
 //! | `cuts` | works out the end sets (terminal cuts) |
 //! | `forest` | takes out links of capacity 0, for plans in whole circuits |
@@ -27,7 +28,9 @@
 //! | `program` | what the programs do |
 //!
 //! Sites and links are numbered from 0 inside, in the order of their lines. The capacity of a link is
-//! its usable size, that is its size less its reserve; nothing behind `network` knows of the two.
+//! its usable size, that is its size less its reserve; nothing behind `network` knows of the two. An end
+//! is a site with one link or a marked one; nothing behind `network` asks which. At an end with several
+//! links the tree falls apart.
 
 #![forbid(unsafe_code)]
 
@@ -35,6 +38,7 @@ mod cuts;
 mod forest;
 mod form;
 mod names;
+mod neighbours;
 mod network;
 mod order;
 mod pairs;
@@ -100,7 +104,7 @@ pub fn plan(sheet: &[u8], buffer: &mut [u8]) -> Outcome {
             balanced: &balanced,
             cuts: &cuts,
             odd_pieces: None,
-            pairs: &pairs::pair(tree, &balanced),
+            pairs: &pairs::pair(network, tree, &balanced),
         };
         report::write(network, tree, &shown)
     })
@@ -133,7 +137,7 @@ fn write_whole(network: &Network, tree: &RootedTree) -> Vec<u8> {
         balanced: &loads,
         cuts: &cuts,
         odd_pieces: Some(pieces::odd_pieces(network, tree, &cuts, &loads)),
-        pairs: &pairs::pair(tree, &loads),
+        pairs: &pairs::pair(network, tree, &loads),
     };
     report::write(network, tree, &shown)
 }
@@ -186,7 +190,7 @@ pub fn pair_lines(sheet: &[u8], loads: &[u32]) -> Option<Vec<u8>> {
     for (link, &load) in network.links().iter().zip(loads) {
         by_child[usize::from(tree.child(link.sites))] = load;
     }
-    let pairs = pairs::pair(&tree, &Balanced::new(&tree, &by_child));
+    let pairs = pairs::pair(&network, &tree, &Balanced::new(&tree, &by_child));
     let mut text = Vec::new();
     report::push_pairs(&mut text, &network, &pairs);
     Some(text)

@@ -33,6 +33,8 @@ pub struct Fold {
 pub struct Network<'sheet> {
     sheet: &'sheet [u8],
     names: [Name; SITES],
+    is_marked: [bool; SITES],
+    has_marks: bool,
     site_count: usize,
     links: [Link; SITES],
     link_count: usize,
@@ -78,6 +80,8 @@ impl<'sheet> Network<'sheet> {
         Network {
             sheet,
             names: [Name::NONE; SITES],
+            is_marked: [false; SITES],
+            has_marks: false,
             site_count: 0,
             links: [no_link; SITES],
             link_count: 0,
@@ -104,7 +108,11 @@ impl<'sheet> Network<'sheet> {
         while position < self.sheet.len() {
             line += 1;
             let read = match load::<2>(self.sheet, position) {
-                [b'N', b'\t'] => self.read_site(position, table),
+                [b'T', b'\t'] if planted(Error::MarkRefused) => Err(Fault::Form),
+                [letter @ (b'N' | b'T'), b'\t'] => {
+                    let is_marked = letter == b'T' && !planted(Error::MarkLost);
+                    self.read_site(position, table, is_marked)
+                }
                 [b'L', b'\t'] => self.read_link(position, table, &mut joined),
                 _ => Err(Fault::Form),
             };
@@ -122,9 +130,14 @@ impl<'sheet> Network<'sheet> {
         Ok(())
     }
 
-    /// Reads the site line at `start`; returns where the next line starts.
+    /// Reads the line at `start` of a site, marked or not; returns where the next line starts.
     #[inline]
-    fn read_site(&mut self, start: usize, table: &mut NameTable) -> Result<usize, Fault> {
+    fn read_site(
+        &mut self,
+        start: usize,
+        table: &mut NameTable,
+        is_marked: bool,
+    ) -> Result<usize, Fault> {
         let (name, next) = read_name(self.sheet, start + 2, b'\n')?;
         if self.site_count == SITES {
             return Err(TOO_MANY_SITES);
@@ -137,6 +150,8 @@ impl<'sheet> Network<'sheet> {
         } else {
             name
         };
+        self.is_marked[self.site_count] = is_marked;
+        self.has_marks |= is_marked;
         table.put(slot, self.site_count as u8);
         self.site_count += 1;
         Ok(next)
@@ -250,6 +265,28 @@ impl<'sheet> Network<'sheet> {
     /// The links at each site, folded together.
     pub fn folds(&self) -> &[Fold; SITES] {
         &self.folds
+    }
+
+    /// Whether there is a marked site.
+    pub fn has_marks(&self) -> bool {
+        self.has_marks
+    }
+
+    /// Whether each site is an end: has just one link, or is marked.
+    pub fn ends(&self) -> [bool; SITES] {
+        let mut is_end = self.folds.map(|fold| fold.degree == 1);
+        if self.has_marks {
+            for (is_end, is_marked) in is_end.iter_mut().zip(self.is_marked) {
+                *is_end |= is_marked;
+            }
+        }
+        is_end
+    }
+
+    /// Whether the line of a site marks it, for errors that can be planted.
+    #[cold]
+    pub fn is_marked(&self, site: u8) -> bool {
+        self.is_marked[usize::from(site)]
     }
 }
 

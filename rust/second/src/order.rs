@@ -1,46 +1,11 @@
 //! The order of work: always the lowest-numbered untaken site with at most one unvisited link.
 
 use crate::SITES;
+use crate::neighbours::Neighbours;
 use crate::network::Network;
 use crate::planted::{Error, planted};
 use crate::report::{push_name, push_number};
 use std::collections::BTreeSet;
-
-/// The neighbours of every site, one list behind the other.
-struct Neighbours {
-    sites: [u8; 2 * SITES],
-    /// Where the list of each site ends; it starts where that of the site before ends.
-    end: [usize; SITES],
-}
-
-impl Neighbours {
-    fn new(network: &Network) -> Self {
-        let mut end = [0; SITES];
-        let mut before = 0;
-        for (end, fold) in end.iter_mut().zip(network.folds()) {
-            *end = before;
-            before += usize::from(fold.degree);
-        }
-        let mut sites = [0; 2 * SITES];
-        for link in network.links() {
-            let [first, second] = link.sites;
-            for (site, neighbour) in [(first, second), (second, first)] {
-                let end = &mut end[usize::from(site)];
-                sites[*end] = neighbour;
-                *end += 1;
-            }
-        }
-        Neighbours { sites, end }
-    }
-
-    fn of(&self, site: u8) -> &[u8] {
-        let start = match usize::from(site) {
-            0 => 0,
-            after => self.end[after - 1],
-        };
-        &self.sites[start..self.end[usize::from(site)]]
-    }
-}
 
 /// All sites, in the order taken.
 ///
@@ -49,10 +14,13 @@ impl Neighbours {
 pub fn order(network: &Network) -> Vec<u8> {
     let neighbours = Neighbours::new(network);
     let most_unvisited = if planted(Error::TwoUnvisited) { 2 } else { 1 };
+    let is_due = |site: u8, unvisited: u8| {
+        unvisited <= most_unvisited || (planted(Error::MarkedTaken) && network.is_marked(site))
+    };
     let mut unvisited = network.folds().map(|fold| fold.degree);
     let sites = (0..network.site_count()).map(|site| site as u8);
     let mut ready: BTreeSet<u8> = sites
-        .filter(|&site| unvisited[usize::from(site)] <= most_unvisited)
+        .filter(|&site| is_due(site, unvisited[usize::from(site)]))
         .collect();
     let mut is_taken = [false; SITES];
     let mut order = Vec::with_capacity(network.site_count());
@@ -62,7 +30,7 @@ pub fn order(network: &Network) -> Vec<u8> {
         for &neighbour in neighbours.of(site) {
             let left = &mut unvisited[usize::from(neighbour)];
             *left -= 1;
-            if *left <= most_unvisited && !is_taken[usize::from(neighbour)] {
+            if is_due(neighbour, *left) && !is_taken[usize::from(neighbour)] {
                 ready.insert(neighbour);
             }
         }

@@ -10,9 +10,9 @@ use crate::trim::Balanced;
 
 /// Works out the set of each end, as source document 004 does in its lemma 13.
 ///
-/// From a root the sites are reached over links that could carry two circuits more. From another
-/// end they are reached over links towards the root that could carry one more, and from there away
-/// from the root over links that could carry two more.
+/// From the end that starts a part its joints are reached over links that could carry two circuits more.
+/// From another end of the part they are reached over links towards that one that could carry one more,
+/// and from there away from it over links that could carry two more.
 pub fn end_sets(
     network: &Network,
     tree: &RootedTree,

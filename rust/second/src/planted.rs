@@ -1,6 +1,6 @@
 //! Errors planted on purpose.
 //!
-//! With the feature `planted` one of fifty-five errors can be switched on, to show that the comparison
+//! With the feature `planted` one of sixty-nine errors can be switched on, to show that the comparison
 //! of the planners finds it. Without the feature none of this reaches the compiled planner.
 
 /// An error that can be planted, numbered from 1.
@@ -116,10 +116,38 @@ pub enum Error {
     EndsBeforeAmount = 54,
     /// A last line without byte 10 is left out.
     UnendedLeftOut = 55,
+    /// Heavy links are cut at a marked site as at a joint.
+    MarkedTrimmed = 56,
+    /// End sets spread over links that are not trimmed too.
+    SetsOverFull = 57,
+    /// A part is rooted where it is nearest to the root of the whole tree.
+    OneRoot = 58,
+    /// A part is rooted at its joint of highest number.
+    PartFromHighest = 59,
+    /// Two pairs that meet at an end inside the tree become one across it.
+    PairAcross = 60,
+    /// The report has `T` for marked sites.
+    MarkPrinted = 61,
+    /// An end with several links has no `X` line.
+    MarkedWithoutSet = 62,
+    /// A link between two ends that both have other links is left without its pair.
+    SingleLinkLeftOut = 63,
+    /// The letter `T` is not known.
+    MarkRefused = 64,
+    /// A site with the letter `T` is not marked.
+    MarkLost = 65,
+    /// Of the links at the set of a marked end only one is counted.
+    OneLinkCounted = 66,
+    /// Loads in whole circuits are worked out from one end of the tree, through all others.
+    LoadsThroughEnds = 67,
+    /// Marked sites are taken with any number of unvisited links.
+    MarkedTaken = 68,
+    /// A pair of the log may have another end on its path.
+    AcrossAccepted = 69,
 }
 
 /// All errors, in the order of their numbers.
-pub const ERRORS: [Error; 55] = [
+pub const ERRORS: [Error; 69] = [
     Error::RoundedHalf,
     Error::HighestRoot,
     Error::UpwardSets,
@@ -175,6 +203,20 @@ pub const ERRORS: [Error; 55] = [
     Error::PlaceKept,
     Error::EndsBeforeAmount,
     Error::UnendedLeftOut,
+    Error::MarkedTrimmed,
+    Error::SetsOverFull,
+    Error::OneRoot,
+    Error::PartFromHighest,
+    Error::PairAcross,
+    Error::MarkPrinted,
+    Error::MarkedWithoutSet,
+    Error::SingleLinkLeftOut,
+    Error::MarkRefused,
+    Error::MarkLost,
+    Error::OneLinkCounted,
+    Error::LoadsThroughEnds,
+    Error::MarkedTaken,
+    Error::AcrossAccepted,
 ];
 
 #[cfg(feature = "planted")]

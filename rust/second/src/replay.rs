@@ -43,7 +43,7 @@ const LOG: u8 = 2;
 const TOO_LONG: u8 = 1;
 const LETTER_OR_ENDING: u8 = 2;
 const AMOUNT_RANGE: u8 = 3;
-const NOT_TWO_ENDS: u8 = 6;
+const NOT_FREE_ENDS: u8 = 6;
 const LIST_TOO_SHORT: u8 = 9;
 const FIELD_COUNT: u8 = 10;
 const BAD_NAME: u8 = 11;
@@ -121,6 +121,9 @@ struct Desk<'network> {
     number: [u8; SITES],
     is_end: [bool; SITES],
     parent: [u8; SITES],
+    /// The part of the link between each site and its parent, told by its highest site below the end that
+    /// starts it, or by the root if no end does.
+    part: [u8; SITES],
     /// The most each link may carry, and what it does carry, in halves.
     most: [u32; SITES],
     load: [u32; SITES],
@@ -136,6 +139,7 @@ impl<'network> Desk<'network> {
             number: [0; SITES],
             is_end: [false; SITES],
             parent: [0; SITES],
+            part: [0; SITES],
             most: [0; SITES],
             load: [0; SITES],
             pairs: OpenPairs::new(),
@@ -146,7 +150,13 @@ impl<'network> Desk<'network> {
             let number = above + 1;
             desk.number[usize::from(site)] = number as u8;
             desk.is_end[usize::from(site)] = tree.is_terminal(site);
-            desk.parent[number] = desk.number[usize::from(tree.parent(site))];
+            let parent = desk.number[usize::from(tree.parent(site))];
+            desk.parent[number] = parent;
+            desk.part[number] = if tree.is_terminal(tree.parent(site)) {
+                number as u8
+            } else {
+                desk.part[usize::from(parent)]
+            };
             desk.most[number] = halves * tree.capacity(site);
         }
         desk
@@ -196,7 +206,7 @@ impl<'network> Desk<'network> {
             return (Err(AMOUNT_RANGE), next);
         }
         let Some(sites) = self.two_ends(names) else {
-            return (Err(NOT_TWO_ENDS), next);
+            return (Err(NOT_FREE_ENDS), next);
         };
         if !is_amount {
             return (Err(AMOUNT_RANGE), next);
@@ -209,12 +219,24 @@ impl<'network> Desk<'network> {
         (Ok(request), next)
     }
 
-    /// The two different ends that are named, by their new numbers.
+    /// The two different ends that are named, by their new numbers, if they are free to be joined.
     #[inline]
     fn two_ends(&self, names: [Name; 2]) -> Option<[u8; 2]> {
         let first = self.end(names[0])?;
         let second = self.end(names[1])?;
-        (first != second).then_some([first, second])
+        (first != second && self.is_free([first, second])).then_some([first, second])
+    }
+
+    /// Whether two different ends have no other end on their path: they are both below the end that
+    /// starts a part, or one of them is that end.
+    #[inline]
+    fn is_free(&self, ends: [u8; 2]) -> bool {
+        let [first, second] = ends.map(|end| self.part[usize::from(end)]);
+        let starts = |end, part| self.parent[usize::from(part)] == end;
+        first == second
+            || starts(ends[0], second)
+            || starts(ends[1], first)
+            || planted(Error::AcrossAccepted)
     }
 
     #[inline]

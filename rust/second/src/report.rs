@@ -10,8 +10,8 @@ use crate::trim::Balanced;
 use crate::{CAPACITY, SITES};
 
 /// No report is longer: the heading and the odd pieces, then for each site and link lines with
-/// names of 12 bytes and numbers of 7 digits at most.
-const LONGEST: usize = 40 + SITES * (44 + 28 + 28 + 36);
+/// names of 12 bytes and numbers of 7 digits at most, but for a set size of 9.
+const LONGEST: usize = 40 + SITES * (44 + 28 + 30 + 36);
 
 /// What a report shows beside the network.
 pub struct Shown<'planned> {
@@ -37,7 +37,7 @@ pub fn write(network: &Network, tree: &RootedTree, shown: &Shown) -> Vec<u8> {
     let mut text = Vec::with_capacity(LONGEST);
     text.extend_from_slice(shown.heading);
     text.push(b'\t');
-    push_large_number(&mut text, shown.total);
+    push_sum(&mut text, shown.total);
     text.push(b'\t');
     push_number(&mut text, pairs.as_slice().len() as u32);
     text.push(b'\n');
@@ -52,7 +52,8 @@ pub fn write(network: &Network, tree: &RootedTree, shown: &Shown) -> Vec<u8> {
         text.push(b'\n');
     }
     for (site, &name) in network.names().iter().enumerate() {
-        text.extend_from_slice(b"N\t");
+        let is_marked = planted(Error::MarkPrinted) && network.is_marked(site as u8);
+        text.extend_from_slice(if is_marked { b"T\t" } else { b"N\t" });
         push_name(&mut text, name);
         match cuts.owner(site as u8) {
             Some(owner) => {
@@ -65,11 +66,12 @@ pub fn write(network: &Network, tree: &RootedTree, shown: &Shown) -> Vec<u8> {
     }
     for (site, &name) in network.names().iter().enumerate() {
         let site = site as u8;
-        if tree.is_terminal(site) {
+        let is_left_out = planted(Error::MarkedWithoutSet) && tree.is_inner_terminal(site);
+        if tree.is_terminal(site) && !is_left_out {
             text.extend_from_slice(b"X\t");
             push_name(&mut text, name);
             text.push(b'\t');
-            push_number(&mut text, cuts.size(site));
+            push_sum(&mut text, cuts.size(site));
             text.push(b'\t');
             push_number(&mut text, u32::from(cuts.site_count(site)));
             text.push(b'\n');
@@ -144,7 +146,18 @@ pub fn push_number(text: &mut Vec<u8>, number: u32) {
     text.truncate(length);
 }
 
+/// Writes a number in decimal that is seldom 100,000,000 or more: an end may have many links.
+#[inline(always)]
+fn push_sum(text: &mut Vec<u8>, number: u32) {
+    if number < 100_000_000 {
+        push_number(text, number);
+    } else {
+        push_large_number(text, number);
+    }
+}
+
 /// Writes any number in decimal.
+#[cold]
 fn push_large_number(text: &mut Vec<u8>, number: u32) {
     text.extend_from_slice(number.to_string().as_bytes());
 }
@@ -172,5 +185,10 @@ mod tests {
             power *= 10;
         }
         assert_eq!(written(99_999_999), "99999999");
+        for number in [99_999_999, 100_000_000, 510_000_000, u32::MAX] {
+            let mut text = Vec::new();
+            push_sum(&mut text, number);
+            assert_eq!(text, number.to_string().into_bytes());
+        }
     }
 }

@@ -1,13 +1,16 @@
 //! The tree, rooted.
 
 use crate::SITES;
-use crate::network::{Fold, Network};
+use crate::neighbours::Neighbours;
+use crate::network::Network;
 use crate::planted::{Error, planted};
 
-/// The tree rooted at the joint of lowest number, or at the first of two sites.
+/// The tree rooted at the joint of lowest number, or at the first site if all sites are ends; or one of
+/// its parts.
 ///
 /// Every site but the root has a parent, and what belongs to the link between them is kept at
 /// the place of that site.
+#[derive(Clone)]
 pub struct RootedTree {
     root: u8,
     site_count: usize,
@@ -15,6 +18,9 @@ pub struct RootedTree {
     leaves_first: [u8; SITES],
     parent: [u8; SITES],
     degree: [u8; SITES],
+    is_end: [bool; SITES],
+    /// Whether there is a joint, and no end with more than one link.
+    is_one_part: bool,
     capacity: [u32; SITES],
     first_child: [u8; SITES],
     next_sibling: [u8; SITES],
@@ -30,13 +36,18 @@ impl RootedTree {
     pub fn rooted(network: &Network, at_highest: bool) -> Self {
         let mut folds = *network.folds();
         let site_count = network.site_count();
-        let root = root(&folds[..site_count], at_highest);
+        let is_end = network.ends();
+        let root = root(&is_end[..site_count], at_highest);
+        let is_inner = |site: usize| is_end[site] && folds[site].degree > 1;
+        let has_inner_end = network.has_marks() && (0..site_count).any(is_inner);
         let mut tree = RootedTree {
             root,
             site_count,
             leaves_first: [0; SITES],
             parent: [root; SITES],
             degree: folds.map(|fold| fold.degree),
+            is_end,
+            is_one_part: !is_end[usize::from(root)] && !has_inner_end,
             capacity: [0; SITES],
             first_child: [0; SITES],
             next_sibling: [0; SITES],
@@ -61,7 +72,7 @@ impl RootedTree {
         tree
     }
 
-    /// Lists the children of every joint in ascending order.
+    /// Lists the children of every site in ascending order.
     fn list_children(&mut self) {
         // A list needs no mark for its end: the degree tells how many children there are.
         for site in (0..self.site_count).rev() {
@@ -74,10 +85,6 @@ impl RootedTree {
 
     pub fn root(&self) -> u8 {
         self.root
-    }
-
-    pub fn site_count(&self) -> usize {
-        self.site_count
     }
 
     /// The ends, in the order of their lines.
@@ -113,17 +120,23 @@ impl RootedTree {
         self.capacity[usize::from(site)]
     }
 
-    /// Whether a site is an end: has just one link.
+    /// Whether a site is an end.
     #[inline]
     pub fn is_terminal(&self, site: u8) -> bool {
-        self.degree[usize::from(site)] == 1
+        self.is_end[usize::from(site)]
     }
 
-    /// The children of a joint, in ascending order.
+    /// Whether a site is an end with more than one link, at which the tree falls apart.
     #[inline]
-    pub fn children(&self, joint: u8) -> impl Iterator<Item = u8> {
-        let count = self.degree[usize::from(joint)] - u8::from(joint != self.root);
-        let mut child = self.first_child[usize::from(joint)];
+    pub fn is_inner_terminal(&self, site: u8) -> bool {
+        self.is_terminal(site) && self.degree[usize::from(site)] > 1
+    }
+
+    /// The children of a site, of a part those of a joint, in ascending order.
+    #[inline]
+    pub fn children(&self, site: u8) -> impl Iterator<Item = u8> {
+        let count = self.degree[usize::from(site)] - u8::from(site != self.root);
+        let mut child = self.first_child[usize::from(site)];
         (0..count).map(move |_| {
             let this = child;
             child = self.next_sibling[usize::from(child)];
@@ -132,12 +145,90 @@ impl RootedTree {
     }
 }
 
+/// The parts into which the tree falls at its ends.
+///
+/// A joint is in one part with all its links, and with all joints linked to it. In a part every end has
+/// one link. Links between two ends are parts of their own, without a joint.
+impl RootedTree {
+    /// Whether the tree is a single part with a joint.
+    pub fn is_one_part(&self) -> bool {
+        self.is_one_part
+    }
+
+    /// Calls `see` with each part that has a joint, rooted at its joint of lowest number. Capacities are not
+    /// those of the part.
+    pub fn each_part(&self, network: &Network, mut see: impl FnMut(&RootedTree)) {
+        if self.is_terminal(self.root) {
+            return;
+        }
+        let neighbours = Neighbours::ascending(network);
+        let mut part = self.clone();
+        let mut is_seen = self.is_end;
+        for number in 0..self.site_count {
+            let root = self.next_root(number);
+            if !is_seen[usize::from(root)] {
+                part.grow(root, &neighbours);
+                for &site in part.leaves_first() {
+                    is_seen[usize::from(site)] = true;
+                }
+                see(&part);
+            }
+        }
+    }
+
+    /// The site that is looked at for a root after so many others: in ascending order.
+    #[inline]
+    fn next_root(&self, number: usize) -> u8 {
+        if planted(Error::PartFromHighest) {
+            return (self.site_count - 1 - number) as u8;
+        }
+        if planted(Error::OneRoot) {
+            let mut roots_first = self.leaves_first().iter().rev();
+            return number
+                .checked_sub(1)
+                .and_then(|before| roots_first.nth(before).copied())
+                .unwrap_or(self.root);
+        }
+        number as u8
+    }
+
+    /// Makes this the part around a joint, rooted there.
+    fn grow(&mut self, root: u8, neighbours: &Neighbours) {
+        self.root = root;
+        self.site_count = 1;
+        self.parent[usize::from(root)] = root;
+        let mut site = root;
+        let mut next = 0;
+        loop {
+            if !self.is_terminal(site) {
+                let above = self.parent(site);
+                // The last child first: each is put before the others.
+                for &child in neighbours.of(site).iter().rev() {
+                    if child != above {
+                        let first = &mut self.first_child[usize::from(site)];
+                        self.next_sibling[usize::from(child)] = std::mem::replace(first, child);
+                        self.parent[usize::from(child)] = site;
+                        self.leaves_first[self.site_count - 1] = child;
+                        self.site_count += 1;
+                    }
+                }
+            }
+            if next + 1 == self.site_count {
+                break;
+            }
+            site = self.leaves_first[next];
+            next += 1;
+        }
+        self.leaves_first[..next].reverse();
+    }
+}
+
 /// Trees of other capacities, for errors that can be planted.
 impl RootedTree {
     /// The sizes that are given, reserves not taken off.
     #[cold]
     pub fn with_given_sizes(&self, network: &Network) -> Self {
-        let mut tree = RootedTree { ..*self };
+        let mut tree = self.clone();
         for link in network.links() {
             tree.capacity[usize::from(self.child(link.sites))] = network.given_size(link);
         }
@@ -154,12 +245,12 @@ impl RootedTree {
 }
 
 /// The joint of lowest number, or the first site if there is no joint.
-fn root(folds: &[Fold], at_highest: bool) -> u8 {
-    let is_joint = |fold: &Fold| fold.degree > 1;
+fn root(is_end: &[bool], at_highest: bool) -> u8 {
+    let is_joint = |is_end: &bool| !is_end;
     let joint = if at_highest {
-        folds.iter().rposition(is_joint)
+        is_end.iter().rposition(is_joint)
     } else {
-        folds.iter().position(is_joint)
+        is_end.iter().position(is_joint)
     };
     joint.unwrap_or(0) as u8
 }

@@ -39,36 +39,44 @@ impl Balanced {
 
 /// Trims the capacities of a tree.
 ///
-/// From the leaves up, a link to a parent is cut down to the sum of the child links below it.
-/// Then, from the root down, a child link is cut down to the sum of the other links of its
-/// parent. The second pass leaves every link to a parent as light as the first made it, and at
-/// most one child link of a joint is heavy.
+/// From the leaves up, a joint's link to its parent is cut down to the sum of the child links below it.
+/// Then, from the root down, a joint's child link is cut down to the sum of its other links. The
+/// second pass leaves every link to a parent as light as the first made it, and at most one child
+/// link of a joint is heavy.
 pub fn balance(tree: &RootedTree) -> Balanced {
     let mut capacity = [0; SITES];
     let mut sum = [0; SITES];
     for &site in tree.leaves_first() {
         let given = tree.capacity(site);
-        let trimmed = if tree.is_terminal(site) {
-            given
-        } else {
+        let trimmed = if is_cut_at(tree, site) {
             given.min(sum[usize::from(site)])
+        } else {
+            given
         };
         capacity[usize::from(site)] = trimmed;
         sum[usize::from(tree.parent(site))] += trimmed;
     }
-    if tree.site_count() > 2 {
-        for &site in tree.leaves_first().iter().rev() {
-            let trimmed = &mut capacity[usize::from(site)];
-            let at_parent = &mut sum[usize::from(tree.parent(site))];
-            if is_heavy(*trimmed, *at_parent) {
-                let others = *at_parent - *trimmed;
-                *trimmed = others;
-                *at_parent = 2 * others;
-            }
-            sum[usize::from(site)] += *trimmed;
+    for &site in tree.leaves_first().iter().rev() {
+        let parent = tree.parent(site);
+        let trimmed = &mut capacity[usize::from(site)];
+        let at_parent = &mut sum[usize::from(parent)];
+        if is_heavy(*trimmed, *at_parent) && is_cut_at(tree, parent) {
+            let others = *at_parent - *trimmed;
+            *trimmed = others;
+            *at_parent = 2 * others;
         }
+        sum[usize::from(site)] += *trimmed;
     }
     Balanced { capacity, sum }
+}
+
+/// Whether heavy links are cut at a site: it is a joint.
+#[inline]
+fn is_cut_at(tree: &RootedTree, site: u8) -> bool {
+    if planted(Error::MarkedTrimmed) && tree.is_inner_terminal(site) {
+        return true;
+    }
+    !tree.is_terminal(site)
 }
 
 /// Whether a child link is larger than all other links of its joint together.

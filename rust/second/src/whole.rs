@@ -43,7 +43,12 @@ pub fn loads(tree: &RootedTree, forest: &Forest) -> Balanced {
     for site in forest.roots_first() {
         let parent = forest.parent(site);
         let own_most = most[usize::from(site)];
-        load[usize::from(site)] = if forest.is_root(parent) {
+        let starts_part = if planted(Error::LoadsThroughEnds) {
+            forest.is_root(parent)
+        } else {
+            tree.is_terminal(parent)
+        };
+        load[usize::from(site)] = if starts_part {
             own_most
         } else {
             let all = load[usize::from(parent)] + below[usize::from(parent)].most;

@@ -116,7 +116,7 @@ fn compare(case: &Case) -> Result<(), String> {
 #[test]
 fn every_log_of_three_lines() {
     let count = every_small_log(3, compare);
-    assert_eq!(count, Ok(5 * (20 * 20 * 20 + 20 * 20 + 20 + 1 + 19 * 421)));
+    assert_eq!(count, Ok(7 * (20 * 20 * 20 + 20 * 20 + 20 + 1 + 19 * 421)));
 }
 
 #[test]

@@ -1,10 +1,10 @@
-//! Every error planted in the reading or the spelling of names, or in reserves, gives another answer
-//! than that written out by hand on one of the sheets to try.
+//! Every error planted in the reading or the spelling of names, in reserves, or in marks gives another
+//! answer than that written out by hand on one of the sheets to try.
 
 #![cfg(feature = "planted")]
 
 use second::planted::{ERRORS, Error, plant};
-use second::{Outcome, REPORT_BYTES, plan, whole};
+use second::{Outcome, REPORT_BYTES, SITES, order, plan, whole};
 use sheets::tried::{ACCEPTED, refused};
 use sheets::whole::TRIED;
 
@@ -26,13 +26,23 @@ fn all_as_written() -> bool {
         && TRIED
             .iter()
             .all(|tried| report(whole, &tried.sheet()).is_ok_and(|report| tried.agrees(&report)))
+        && sheets::order::TRIED.iter().all(|tried| {
+            let mut list = [0; SITES];
+            let length = tried.order.len();
+            order(&tried.sheet(), &mut list) == Outcome::Report { length }
+                && list[..length] == *tried.order
+        })
 }
 
 #[test]
-fn errors_of_names_and_reserves_are_errors() {
+fn errors_of_names_reserves_and_marks_are_errors() {
     assert!(all_as_written());
-    for error in &ERRORS[Error::TypedNames as usize - 1..Error::FirstLinkOnly as usize - 1] {
-        plant(*error);
+    let number = |error: Error| error as usize;
+    let of_names_and_reserves = number(Error::TypedNames)..number(Error::FirstLinkOnly);
+    let of_marks = number(Error::MarkedTrimmed)..number(Error::AcrossAccepted);
+    for number in of_names_and_reserves.chain(of_marks) {
+        let error = ERRORS[number - 1];
+        plant(error);
         assert!(!all_as_written(), "{error:?}");
     }
 }

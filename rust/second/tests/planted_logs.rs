@@ -47,7 +47,8 @@ fn errors_of_logs_are_errors() {
         .map(|case| (case.clone(), due(&case.network, &case.log)))
         .collect();
     assert!(cases.iter().all(|(case, due)| is_right(case, due)));
-    for &error in &ERRORS[Error::FirstLinkOnly as usize - 1..] {
+    let of_logs = &ERRORS[Error::FirstLinkOnly as usize - 1..Error::UnendedLeftOut as usize];
+    for &error in of_logs.iter().chain([&Error::AcrossAccepted]) {
         plant(error);
         let found = cases.iter().position(|(case, due)| !is_right(case, due));
         assert!(found.is_some(), "{error:?}");

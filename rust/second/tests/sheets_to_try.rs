@@ -2,10 +2,9 @@
 
 use second::{Outcome, REPORT_BYTES, SITES, order, order_lines, pair_lines, plan, whole};
 use sheets::cases::{self, Due};
-use sheets::reserve;
-use sheets::tried::{ACCEPTED, refused, star};
+use sheets::tried::{ACCEPTED, LARGEST_SUMS, largest_sums, refused, star};
 use sheets::whole::TRIED;
-use sheets::{Layout, Network, Random};
+use sheets::{Layout, Network, Random, marks, reserve};
 
 type Planner = fn(&[u8], &mut [u8]) -> Outcome;
 
@@ -178,6 +177,16 @@ fn most_sites() {
 }
 
 #[test]
+fn largest_numbers() {
+    let [start, set, end] = LARGEST_SUMS;
+    let halves = report(plan, &largest_sums());
+    assert!(halves.starts_with(start) && halves.ends_with(end));
+    assert!(halves.windows(set.len()).any(|part| part == set));
+    let circuits = report(whole, &largest_sums());
+    assert!(circuits.starts_with(b"whole\t510000000\t255\n") && circuits.ends_with(end));
+}
+
+#[test]
 fn lines_of_an_order_in_either_case() {
     let tried = sheets::order::TRIED.last().expect("there are some");
     let lines = report(order_lines, &tried.sheet());
@@ -209,6 +218,37 @@ fn every_small_sheet_in_either_case() {
 fn every_small_sheet_with_reserves() {
     let count = reserve::every_sheet(is_due);
     assert_eq!(count, Ok(24 * 25 * 25 * 2 + 24 * 24 * 3));
+}
+
+#[test]
+fn every_small_sheet_with_marks() {
+    let count = marks::every_sheet(is_due);
+    assert_eq!(count, Ok(2 * 14 * 22 * 6));
+}
+
+/// A mark makes no difference to the order of work, and none at all at a site with one link.
+#[test]
+fn orders_without_marks() {
+    let mut random = Random::new(7);
+    for _ in 0..2_000 {
+        let mut network = Network::any(40, &mut random);
+        network.mark(&mut random);
+        let layout = Layout::any(&mut random);
+        let sheet = |network: &Network| network.sheet(layout, &mut random.clone());
+        let marked = sheet(&network);
+        let around = network.around();
+        for (mark, links) in network.marks.iter_mut().zip(&around) {
+            *mark &= links.len() > 1;
+        }
+        let inside = sheet(&network);
+        network.marks.fill(false);
+        let unmarked = sheet(&network);
+        for planner in [plan, whole] {
+            assert_eq!(report(planner, &marked), report(planner, &inside));
+        }
+        let lines = report(order_lines, &unmarked);
+        assert_eq!(report(order_lines, &marked), lines);
+    }
 }
 
 /// A reserve makes no difference but to the size that can be used.

@@ -48,6 +48,8 @@ pub struct Ledger {
     sites: HashMap<Vec<u8>, usize>,
     /// For each link and each site whether the site is joined with the first site of the link without it.
     sides: Vec<Vec<bool>>,
+    /// The two sites of each link.
+    links: Vec<[usize; 2]>,
     is_end: Vec<bool>,
     /// The usable size of each link.
     capacity: Vec<u32>,
@@ -55,6 +57,16 @@ pub struct Ledger {
     moves: Vec<Move>,
     open: BTreeMap<[usize; 2], u64>,
     loads: Vec<u64>,
+    seen: Seen,
+}
+
+/// What occurred in a log.
+#[derive(Clone, Copy, Debug, Default, PartialEq, Eq)]
+pub struct Seen {
+    /// How many pairs were open at most.
+    pub most_open: usize,
+    /// How many lines were answered with 6 for another end between their two.
+    pub across: usize,
 }
 
 impl Ledger {
@@ -63,30 +75,29 @@ impl Ledger {
     pub fn new(network: &Network) -> Self {
         let names = network.names.iter().map(|name| name.to_ascii_uppercase());
         let sites = 0..network.names.len();
-        let degree = |site| {
-            network
-                .links
-                .iter()
-                .flatten()
-                .filter(move |&&it| it == site)
-        };
         Ledger {
             sites: names.zip(sites.clone()).collect(),
             sides: sides(network),
-            is_end: sites.map(|site| degree(site).count() == 1).collect(),
+            links: network.links.clone(),
+            is_end: sites.map(|site| network.is_end(site)).collect(),
             capacity: network.usable_sizes(),
             moves: Vec::new(),
             open: BTreeMap::new(),
             loads: vec![0; network.links.len()],
+            seen: Seen::default(),
         }
     }
 
     /// The answer due to the next line, which moves what it asks if it gets 0.
     pub fn answer(&mut self, line: &[u8], is_ended: bool) -> u64 {
         match self.cause(line, is_ended) {
-            Err(number) => number,
+            Err(number) => {
+                self.seen.across += usize::from(number == 6 && self.names_two_ends(line));
+                number
+            }
             Ok(made) => {
                 self.make(made);
+                self.seen.most_open = self.seen.most_open.max(self.open.len());
                 0
             }
         }
@@ -113,12 +124,10 @@ impl Ledger {
         if !(1..=AMOUNT).contains(&halves) {
             return Err(3);
         }
-        let site = |name: &[u8]| self.sites.get(&name.to_ascii_uppercase()).copied();
-        let mut sites = match (site(first), site(second)) {
-            (Some(one), Some(other)) if one != other => [one, other],
-            _ => return Err(6),
+        let Some(mut sites) = self.two_ends(first, second) else {
+            return Err(6);
         };
-        if !sites.iter().all(|&site| self.is_end[site]) {
+        if !self.is_free(sites) {
             return Err(6);
         }
         sites.sort_unstable();
@@ -137,6 +146,19 @@ impl Ledger {
             sites,
             halves,
         })
+    }
+
+    /// The two different ends that are named.
+    fn two_ends(&self, first: &[u8], second: &[u8]) -> Option<[usize; 2]> {
+        let site = |name: &[u8]| self.sites.get(&name.to_ascii_uppercase()).copied();
+        let sites = [site(first)?, site(second)?];
+        let are_ends = sites.iter().all(|&site| self.is_end[site]);
+        (are_ends && sites[0] != sites[1]).then_some(sites)
+    }
+
+    fn names_two_ends(&self, line: &[u8]) -> bool {
+        let fields: Vec<&[u8]> = line.split(|&byte| byte == b'\t').collect();
+        matches!(fields[..], [_, first, second, _] if self.two_ends(first, second).is_some())
     }
 
     fn make(&mut self, made: Move) {
@@ -197,10 +219,17 @@ impl Ledger {
         rooms.min().unwrap_or(0)
     }
 
-    /// Whether a site is an end: has just one link.
+    /// Whether a site is an end.
     #[must_use]
     pub fn is_end(&self, site: usize) -> bool {
         self.is_end[site]
+    }
+
+    /// Whether no end but these two lies on the path between two sites.
+    #[must_use]
+    pub fn is_free(&self, sites: [usize; 2]) -> bool {
+        let mut on_path = self.path(sites).flat_map(|link| self.links[link]);
+        on_path.all(|site| sites.contains(&site) || !self.is_end[site])
     }
 
     /// Works out anew, from all lines answered with 0, what each pair has open and each link carries,
@@ -241,17 +270,13 @@ impl Ledger {
 
 /// Without each link the sites that are still joined with its first site.
 fn sides(network: &Network) -> Vec<Vec<bool>> {
-    let mut neighbours: Vec<Vec<(usize, usize)>> = vec![Vec::new(); network.names.len()];
-    for (link, &[one, other]) in network.links.iter().enumerate() {
-        neighbours[one].push((link, other));
-        neighbours[other].push((link, one));
-    }
+    let around = network.around();
     let side = |(without, link): (usize, &[usize; 2])| {
         let mut is_joined = vec![false; network.names.len()];
         let mut reached = vec![link[0]];
         while let Some(site) = reached.pop() {
             is_joined[site] = true;
-            let next = neighbours[site].iter();
+            let next = around[site].iter();
             let next = next.filter(|&&(link, site)| link != without && !is_joined[site]);
             reached.extend(next.map(|&(_, site)| site));
         }
@@ -273,14 +298,13 @@ fn is_number(field: &[u8]) -> bool {
 /// a longer one.
 const FEW_LINES: usize = 48;
 
-/// Checks the answers to the lines of a log line by line. Returns how many pairs were open at most.
+/// Checks the answers to the lines of a log line by line. Returns what occurred.
 ///
 /// # Errors
 ///
 /// What does not hold, with the line.
-pub fn check(network: &Network, log: &[u8], answers: &[u64]) -> Result<usize, String> {
+pub fn check(network: &Network, log: &[u8], answers: &[u64]) -> Result<Seen, String> {
     let mut ledger = Ledger::new(network);
-    let mut most_open = 0;
     let count = lines(log).count();
     if count != answers.len() {
         return Err(format!("{} answers to {count} lines", answers.len()));
@@ -291,12 +315,11 @@ pub fn check(network: &Network, log: &[u8], answers: &[u64]) -> Result<usize, St
         if *answer != due {
             return Err(told(format!("the answer is {answer} where {due} is due")));
         }
-        most_open = most_open.max(ledger.open.len());
         if count <= FEW_LINES || place % 256 == 255 || place + 1 == count {
             ledger.check_anew().map_err(told)?;
         }
     }
-    Ok(most_open)
+    Ok(ledger.seen)
 }
 
 /// The answers due to the lines of a log.

@@ -6,6 +6,7 @@
 pub mod cases;
 pub mod ledger;
 pub mod logs;
+pub mod marks;
 pub mod order;
 mod random;
 pub mod replay;

@@ -6,6 +6,7 @@
 use crate::cases::in_either_case;
 use crate::ledger::{AMOUNT, LOG_BYTES, LOG_LINES, Ledger, OPEN_PAIRS, lines};
 use crate::{Layout, Names, Network, Random, SHAPES, SIZES, Shape, Sizes, Spelling};
+use std::rc::Rc;
 
 /// A sheet that is accepted, the tree it tells, and a log.
 #[derive(Clone, Debug)]
@@ -50,6 +51,9 @@ struct Writer<'case> {
     ledger: Ledger,
     network: &'case Network,
     ends: Vec<usize>,
+    /// The ends of each part of the tree, which are free to be joined; a part stands here once for
+    /// each of its ends.
+    parts: Vec<Rc<[usize]>>,
     random: &'case mut Random,
     log: Vec<u8>,
 }
@@ -60,6 +64,7 @@ impl<'case> Writer<'case> {
         let sites = 0..network.names.len();
         Writer {
             ends: sites.filter(|&site| ledger.is_end(site)).collect(),
+            parts: parts(network, &ledger),
             ledger,
             network,
             random,
@@ -92,12 +97,17 @@ impl<'case> Writer<'case> {
         self.say(&[letter, &first, &second, halves.as_bytes()].join(&b'\t'))
     }
 
-    /// Two different ends, the lower one first.
+    /// Two different ends, the lower one first, mostly free to be joined.
     fn two_ends(&mut self) -> [usize; 2] {
-        let first = self.random.below(self.ends.len());
-        let second = self.random.below(self.ends.len() - 1);
+        let part = if self.random.once_in(6) {
+            &self.ends
+        } else {
+            &**self.random.pick(&self.parts)
+        };
+        let first = self.random.below(part.len());
+        let second = self.random.below(part.len() - 1);
         let second = second + usize::from(second >= first);
-        let mut ends = [self.ends[first], self.ends[second]];
+        let mut ends = [part[first], part[second]];
         ends.sort_unstable();
         ends
     }
@@ -302,6 +312,34 @@ impl<'case> Writer<'case> {
     }
 }
 
+/// The ends of the parts into which the tree falls at its ends, each part once for each of them.
+fn parts(network: &Network, ledger: &Ledger) -> Vec<Rc<[usize]>> {
+    let around = network.around();
+    let mut is_seen = vec![false; network.links.len()];
+    let mut parts = Vec::new();
+    for (link, &sites) in network.links.iter().enumerate() {
+        if is_seen[link] {
+            continue;
+        }
+        is_seen[link] = true;
+        let mut reached = sites.to_vec();
+        let mut next = 0;
+        while next < reached.len() {
+            for &(link, site) in &around[reached[next]] {
+                if !ledger.is_end(reached[next]) && !is_seen[link] {
+                    is_seen[link] = true;
+                    reached.push(site);
+                }
+            }
+            next += 1;
+        }
+        reached.retain(|&site| ledger.is_end(site));
+        let ends: Rc<[usize]> = reached.into();
+        parts.extend(std::iter::repeat_n(ends.clone(), ends.len()));
+    }
+    parts
+}
+
 /// A tree of any shape, often a small one.
 fn tree(random: &mut Random) -> Network {
     let most = *random.pick(&[2, 4, 7, 7, 7, 7, 10, 10, 16, 16, 24, 48, 96, 256]);
@@ -382,8 +420,15 @@ fn crowd(random: &mut Random) -> Case {
         let link = random.below(network.sizes.len());
         network.sizes[link] = random.below(3) as u32;
     }
+    if random.once_in(3) {
+        for _ in 0..random.between(1, 4) {
+            let site = random.below(sites);
+            network.marks[site] = true;
+        }
+    }
     let mut writer = Writer::new(&network, random);
     let mut pairs = all_pairs(&writer.ends);
+    pairs.retain(|&pair| writer.ledger.is_free(pair) || writer.random.once_in(16));
     writer.random.shuffle(&mut pairs);
     let most = OPEN_PAIRS - *writer.random.pick(&[0, 0, 0, 1, 2]);
     let mut next = 0;
@@ -598,10 +643,15 @@ fn every_log<Failure>(
     Ok(count)
 }
 
-/// Two ends alone; stars; and paths of links of several sizes.
+/// Two ends alone; stars; and paths of links of several sizes; and with marked sites inside a path and a
+/// star, named with a `*` behind.
 fn small_trees() -> Vec<Network> {
     let tree = |names: &[&str], links: &[([usize; 2], u32)]| Network {
-        names: names.iter().map(|name| name.as_bytes().to_vec()).collect(),
+        names: names
+            .iter()
+            .map(|name| name.trim_end_matches('*').as_bytes().to_vec())
+            .collect(),
+        marks: names.iter().map(|name| name.ends_with('*')).collect(),
         links: links.iter().map(|&(sites, _)| sites).collect(),
         sizes: links.iter().map(|&(_, size)| size).collect(),
         reserves: vec![None; links.len()],
@@ -621,6 +671,14 @@ fn small_trees() -> Vec<Network> {
         tree(
             &["a", "h", "k", "b", "c"],
             &[([0, 1], 2), ([1, 2], 1), ([2, 3], 2), ([2, 4], 1)],
+        ),
+        tree(
+            &["h*", "a", "b", "c"],
+            &[([0, 1], 1), ([0, 2], 2), ([3, 0], 1)],
+        ),
+        tree(
+            &["c", "a*", "h", "b", "d"],
+            &[([0, 1], 1), ([1, 2], 2), ([2, 3], 1), ([4, 2], 1)],
         ),
     ]
 }

@@ -20,7 +20,7 @@ impl Tried {
 }
 
 /// The sheets.
-pub const TRIED: [Tried; 10] = [
+pub const TRIED: [Tried; 12] = [
     Tried {
         title: "star, hub first",
         sheet: "network 1\nN hub\nN a\nN b\nN c\nL hub a 5\nL hub b 1\nL hub c 1\n",
@@ -66,6 +66,16 @@ pub const TRIED: [Tried; 10] = [
         title: "star, hub first, links with reserves",
         sheet: "network 1\nN hub\nN a\nN b\nN c\nL hub a 5 5\nL hub b 1 0\nL hub c 2 1\n",
         order: &[2, 3, 1, 4],
+    },
+    Tried {
+        title: "star, hub first and marked",
+        sheet: "network 1\nT hub\nN a\nT b\nN c\nL hub a 5\nL hub b 1\nL hub c 1\n",
+        order: &[2, 3, 1, 4],
+    },
+    Tried {
+        title: "path, joints first and marked",
+        sheet: "network 1\nT h\nT k\nN a\nN b\nL a h 7\nL h k 3\nL k b 5\n",
+        order: &[3, 1, 2, 4],
     },
     Tried {
         title: "star, hub second, names in either case",

@@ -29,9 +29,12 @@ impl Tried {
 const STAR: &str = "network 1\nN hub\nN a\nN b\nN c\nL hub a 5\nL hub b 1\nL hub c 1\n";
 const TWO: &str = "network 1\nN a\nN b\nL a b 1000000\n";
 const PATH: &str = "network 1\nN a\nN h\nN k\nN b\nN c\nL a h 7\nL h k 3\nL k b 5\nL k c 5\n";
+const MARKED_STAR: &str = "network 1\nT hub\nN a\nN b\nN c\nL hub a 5\nL hub b 1\nL hub c 1\n";
+const MARKED_PATH: &str =
+    "network 1\nN a\nT h\nN k\nN b\nN c\nL a h 7\nL h k 3\nL k b 5\nL k c 5\n";
 
 /// The logs.
-pub const TRIED: [Tried; 14] = [
+pub const TRIED: [Tried; 18] = [
     Tried {
         title: "no lines",
         sheet: STAR,
@@ -118,5 +121,30 @@ pub const TRIED: [Tried; 14] = [
         sheet: "network 1\nN a\nN b\nN c\nN h\nL a h 0\nL b h 3\nL h c 3\n",
         log: "+ a b 1\n- a b 1\n+ b c 6\n+ b c 1\n+ a c 1\n",
         answers: &[15, 14, 0, 15, 15],
+    },
+    Tried {
+        title: "a marked hub: no pair goes through it",
+        sheet: MARKED_STAR,
+        log: "+ a b 1\n+ a hub 10\n+ HUB a 1\n+ b hub 2\n+ c b 1\n- a b 1\n- hub A 10\n- a hub 1\n",
+        answers: &[6, 0, 15, 0, 6, 6, 0, 14],
+    },
+    Tried {
+        title: "a marked site inside: pairs to it on both sides, none across",
+        sheet: MARKED_PATH,
+        log: "+ a b 1\n- a b 1\n+ a h 14\n+ a h 1\n+ h b 6\n+ c H 1\n+ b c 4\n+ b c 1\n+ h k 1\n\
+              - a h 14\n- h a 1\n",
+        answers: &[6, 6, 0, 15, 0, 15, 0, 15, 6, 0, 14],
+    },
+    Tried {
+        title: "faults of form and the amount before a pair that is not free, and that before others",
+        sheet: MARKED_PATH,
+        log: "* a b 1\n+ a b\n+ a- b 1\n+ a b 01\n+ a b 0\n- c a 2000001\n+ a b 2000000\n- c a 2000000\n",
+        answers: &[2, 10, 11, 12, 3, 3, 6, 6],
+    },
+    Tried {
+        title: "all sites marked: neighbours alone",
+        sheet: "network 1\nT a\nT h\nT k\nT b\nL a h 7\nL h k 3\nL k b 5\n",
+        log: "+ a h 14\n+ h k 6\n+ b k 10\n+ a k 1\n+ h b 1\n+ a b 1\n+ k k 1\n+ k h 1\n",
+        answers: &[0, 0, 0, 6, 6, 6, 6, 15],
     },
 ];

@@ -265,11 +265,13 @@ impl Layout {
     }
 }
 
-/// A tree with names, sizes and reserves.
+/// A tree with names, marks, sizes and reserves.
 #[derive(Clone, Debug)]
 pub struct Network {
     /// The names of the sites, in the order of their lines.
     pub names: Vec<Vec<u8>>,
+    /// Whether the line of each site marks it.
+    pub marks: Vec<bool>,
     /// The two sites of each link, numbered from 0.
     pub links: Vec<[usize; 2]>,
     /// The size of each link.
@@ -282,7 +284,7 @@ pub struct Network {
 
 impl Network {
     /// A random tree of the given kind with `count` sites, its sites and links in random order, without
-    /// reserves.
+    /// marks and reserves.
     pub fn random(
         shape: Shape,
         count: usize,
@@ -304,6 +306,7 @@ impl Network {
         random.shuffle(&mut links);
         Network {
             names: names.list(count, random),
+            marks: vec![false; count],
             sizes: links.iter().map(|_| sizes.draw(random)).collect(),
             reserves: vec![None; links.len()],
             links,
@@ -312,7 +315,7 @@ impl Network {
     }
 
     /// A random tree of any kind with at most `most` sites; every second one spells all names in
-    /// either case, and every second one has reserves.
+    /// either case, every second one has reserves, and every second one has marks.
     pub fn any(most: usize, random: &mut Random) -> Self {
         let shape = *random.pick(&SHAPES);
         let sizes = *random.pick(&SIZES);
@@ -328,7 +331,38 @@ impl Network {
         if random.once_in(2) {
             network.hold_back(random);
         }
+        if random.once_in(2) {
+            network.mark(random);
+        }
         network
+    }
+
+    /// Marks some sites: a single one, a few, many or all.
+    pub fn mark(&mut self, random: &mut Random) {
+        let times = *random.pick(&[1, 2, 2, 3, 5, 10, 40]);
+        for mark in &mut self.marks {
+            *mark = random.once_in(times);
+        }
+        let one = random.below(self.marks.len());
+        self.marks[one] = true;
+    }
+
+    /// Whether a site is an end: has just one link, or is marked.
+    #[must_use]
+    pub fn is_end(&self, site: usize) -> bool {
+        let links = self.links.iter().flatten();
+        self.marks[site] || links.filter(|&&it| it == site).count() == 1
+    }
+
+    /// The links at each site, each with its other site.
+    #[must_use]
+    pub fn around(&self) -> Vec<Vec<(usize, usize)>> {
+        let mut around = vec![Vec::new(); self.names.len()];
+        for (link, &[one, other]) in self.links.iter().enumerate() {
+            around[one].push((link, other));
+            around[other].push((link, one));
+        }
+        around
     }
 
     /// Gives some links a reserve: out of their sizes, or on top of them.
@@ -367,7 +401,8 @@ impl Network {
     /// The line of a site, byte 10 left off.
     #[must_use]
     pub fn site_line(&self, site: usize) -> Vec<u8> {
-        [b"N", self.names[site].as_slice()].join(&b'\t')
+        let letter = if self.marks[site] { b"T" } else { b"N" };
+        [letter, self.names[site].as_slice()].join(&b'\t')
     }
 
     /// A line of a link, byte 10 left off.

@@ -43,7 +43,7 @@ pub(crate) fn tabbed(text: &str) -> Vec<u8> {
 }
 
 /// The accepted sheets.
-pub const ACCEPTED: [Accepted; 27] = [
+pub const ACCEPTED: [Accepted; 39] = [
     Accepted {
         title: "star 1, 1, 1",
         sheet: "network 1\nN hub\nN a\nN b\nN c\nL hub a 1\nL hub b 1\nL hub c 1\n",
@@ -525,6 +525,280 @@ X b 1 1
 P a b 2
 ",
     },
+    Accepted {
+        title: "star 1, 1, 1 with its hub marked",
+        sheet: "network 1\nT hub\nN a\nN b\nN c\nL hub a 1\nL hub b 1\nL hub c 1\n",
+        report: "\
+plan 6 3
+L hub a 1 1
+L hub b 1 1
+L hub c 1 1
+N hub hub
+N a a
+N b b
+N c c
+X hub 3 1
+X a 1 1
+X b 1 1
+X c 1 1
+P hub a 2
+P hub b 2
+P hub c 2
+",
+    },
+    Accepted {
+        title: "star 2, 0, 0 with its hub marked",
+        sheet: "network 1\nT hub\nN a\nN b\nN c\nL hub a 2\nL hub b 0\nL hub c 0\n",
+        report: "\
+plan 4 1
+L hub a 2 2
+L hub b 0 0
+L hub c 0 0
+N hub hub
+N a a
+N b b
+N c c
+X hub 2 1
+X a 2 1
+X b 0 1
+X c 0 1
+P hub a 4
+",
+    },
+    Accepted {
+        title: "star 5, 1, 1 with an end marked",
+        sheet: "network 1\nN hub\nT a\nN b\nN c\nL hub a 5\nL hub b 1\nL hub c 1\n",
+        report: "\
+plan 4 2
+L hub a 5 2
+L hub b 1 1
+L hub c 1 1
+N hub a
+N a a
+N b b
+N c c
+X a 2 2
+X b 1 1
+X c 1 1
+P a b 2
+P a c 2
+",
+    },
+    Accepted {
+        title: "two sites, both marked",
+        sheet: "network 1\nT a\nT b\nL b a 4\n",
+        report: "\
+plan 8 1
+L b a 4 4
+N a a
+N b b
+X a 4 1
+X b 4 1
+P a b 8
+",
+    },
+    Accepted {
+        title: "path 7, 3, 5 with one inner site marked",
+        sheet: "network 1\nN a\nT h\nN k\nN b\nL a h 7\nL h k 3\nL k b 5\n",
+        report: "\
+plan 20 2
+L a h 7 7
+L h k 3 3
+L k b 5 3
+N a a
+N h h
+N k b
+N b b
+X a 7 1
+X h 10 1
+X b 3 2
+P a h 14
+P h b 6
+",
+    },
+    Accepted {
+        title: "path 7, 3, 5 with both inner sites marked",
+        sheet: "network 1\nN a\nT h\nT k\nN b\nL a h 7\nL h k 3\nL k b 5\n",
+        report: "\
+plan 30 3
+L a h 7 7
+L h k 3 3
+L k b 5 5
+N a a
+N h h
+N k k
+N b b
+X a 7 1
+X h 10 1
+X k 8 1
+X b 5 1
+P a h 14
+P h k 6
+P k b 10
+",
+    },
+    Accepted {
+        title: "a link trimmed beyond a marked site, not at it",
+        sheet: "network 1\nN a\nT m\nN h\nN b\nN c\nL m a 5\nL m h 9\nL h b 1\nL h c 2\n",
+        report: "\
+plan 16 3
+L m a 5 5
+L m h 9 3
+L h b 1 1
+L h c 2 2
+N a a
+N m m
+N h m
+N b b
+N c c
+X a 5 1
+X m 8 2
+X b 1 1
+X c 2 1
+P a m 10
+P m b 2
+P m c 4
+",
+    },
+    Accepted {
+        title: "all sites of two joints marked",
+        sheet: "network 1\nT h\nT k\nT a\nT b\nT c\nT d\n\
+                L h k 10\nL h a 3\nL h b 3\nL k c 1\nL k d 1\n",
+        report: "\
+plan 36 5
+L h k 10 10
+L h a 3 3
+L h b 3 3
+L k c 1 1
+L k d 1 1
+N h h
+N k k
+N a a
+N b b
+N c c
+N d d
+X h 16 1
+X k 12 1
+X a 3 1
+X b 3 1
+X c 1 1
+X d 1 1
+P h k 20
+P h a 6
+P h b 6
+P k c 2
+P k d 2
+",
+    },
+    // The part of a and d is walked from a: from d, which is next to the joint of lowest number and is
+    // the higher of the two, it would have other pairs.
+    Accepted {
+        title: "two parts that meet at a marked site, each with its own root",
+        sheet: "network 1\nN g\nN a\nT b\nN c\nN d\nN e\nN f\nN h\nN i\nL d b 1\nL a c 2\nL a d 1\n\
+                L a e 1\nL a f 1\nL g b 1\nL g h 1\nL g i 1\n",
+        report: "\
+plan 8 7
+L d b 1 1
+L a c 2 2
+L a d 1 1
+L a e 1 1
+L a f 1 1
+L g b 1 1
+L g h 1 1
+L g i 1 1
+N g -
+N a -
+N b b
+N c c
+N d -
+N e e
+N f f
+N h h
+N i i
+X b 2 1
+X c 2 1
+X e 1 1
+X f 1 1
+X h 1 1
+X i 1 1
+P b c 1
+P b f 1
+P b h 1
+P b i 1
+P c e 2
+P c f 1
+P h i 1
+",
+    },
+    Accepted {
+        title: "two parts with a joint each, and a link between their marked ends",
+        sheet: "network 1\nN h\nN k\nT m\nT n\nN a\nN b\nN c\nN d\nL h a 4\nL h b 3\nL h m 9\nL m n 5\n\
+                L n k 2\nL k c 2\nL k d 2\n",
+        report: "\
+plan 30 6
+L h a 4 4
+L h b 3 3
+L h m 9 7
+L m n 5 5
+L n k 2 2
+L k c 2 2
+L k d 2 2
+N h m
+N k -
+N m m
+N n n
+N a a
+N b b
+N c c
+N d d
+X m 12 2
+X n 7 1
+X a 4 1
+X b 3 1
+X c 2 1
+X d 2 1
+P m n 10
+P m a 8
+P m b 6
+P n c 2
+P n d 2
+P c d 2
+",
+    },
+    Accepted {
+        title: "a marked site in many spellings, a link with a reserve",
+        sheet: "network 1\nT Hill\nN mill\nN Dell\nL HILL mill 4 1\nL hill DELL 2\n",
+        report: "\
+plan 10 2
+L Hill mill 3 3
+L Hill Dell 2 2
+N Hill Hill
+N mill mill
+N Dell Dell
+X Hill 5 1
+X mill 3 1
+X Dell 2 1
+P Hill mill 6
+P Hill Dell 4
+",
+    },
+    Accepted {
+        title: "sites named N, T and L, the second marked",
+        sheet: "network 1\nN N\nT T\nL N T 1\nN L\nL T L 2\n",
+        report: "\
+plan 6 2
+L N T 1 1
+L T L 2 2
+N N N
+N T T
+N L L
+X N 1 1
+X T 3 1
+X L 2 1
+P N T 2
+P T L 4
+",
+    },
 ];
 
 /// A sheet of `sites` sites `s1`, `s2` and so on, each but the first linked to the first.
@@ -536,6 +810,46 @@ pub fn star(sites: usize) -> Vec<u8> {
     let lines = std::iter::once(heading).chain(site_lines).chain(link_lines);
     tabbed(&lines.collect::<String>())
 }
+
+/// A sheet with the largest sums that there are: 256 sites, the first of them marked and linked to all others
+/// by links of size 1,000,000.
+#[must_use]
+pub fn largest_sums() -> Vec<u8> {
+    let sites = (2..=SITES).map(|site| format!("N s{site}\nL s1 s{site} 1000000\n"));
+    tabbed(&format!("network 1\nT s1\n{}", sites.collect::<String>()))
+}
+
+/// The start of its report, the line of its marked site's set, and the end of the report.
+pub const LARGEST_SUMS: [&[u8]; 3] = [
+    b"plan\t510000000\t255\nL\ts1\ts2\t1000000\t1000000\n",
+    b"\nX\ts1\t255000000\t1\n",
+    b"\nP\ts1\ts256\t2000000\n",
+];
+
+/// Lines behind a sheet of 256 sites. Title, line and number.
+const LAST_SITES: &[(&str, &str, u8)] = &[
+    ("a 257th site", "N new\n", 4),
+    ("a 257th site with a name already given", "N s1\n", 4),
+    (
+        "a 257th site with a name already given in the other case",
+        "N S1\n",
+        4,
+    ),
+    ("a 257th site with a bad name", "N a-b\n", 11),
+    (
+        "a 257th site with a third field and a bad name",
+        "N a-b c\n",
+        10,
+    ),
+    ("a 257th site, marked", "T new\n", 4),
+    (
+        "a 257th site, marked, with a name already given in the other case",
+        "T S1\n",
+        4,
+    ),
+    ("a 257th site, marked, with a bad name", "T a-b\n", 11),
+    ("a 257th site without byte 10", "N new", 2),
+];
 
 /// The refused sheets: those of the scope document, and the finer points of its table.
 #[must_use]
@@ -559,44 +873,15 @@ pub fn refused() -> Vec<Refused> {
             number: 2,
             line: 1,
         },
-        Refused {
-            title: "a 257th site",
-            sheet: [star(SITES), tabbed("N new\n")].concat(),
-            number: 4,
-            line: 513,
-        },
-        Refused {
-            title: "a 257th site with a name already given",
-            sheet: [star(SITES), tabbed("N s1\n")].concat(),
-            number: 4,
-            line: 513,
-        },
-        Refused {
-            title: "a 257th site with a name already given in the other case",
-            sheet: [star(SITES), tabbed("N S1\n")].concat(),
-            number: 4,
-            line: 513,
-        },
-        Refused {
-            title: "a 257th site with a bad name",
-            sheet: [star(SITES), tabbed("N a-b\n")].concat(),
-            number: 11,
-            line: 513,
-        },
-        Refused {
-            title: "a 257th site with a third field and a bad name",
-            sheet: [star(SITES), tabbed("N a-b c\n")].concat(),
-            number: 10,
-            line: 513,
-        },
-        Refused {
-            title: "a 257th site without byte 10",
-            sheet: [star(SITES), tabbed("N new")].concat(),
-            number: 2,
-            line: 513,
-        },
     ];
-    for &(title, sheet, number, line) in REFUSED.iter().chain(FORMS).chain(CASES).chain(RESERVES) {
+    list.extend(LAST_SITES.iter().map(|&(title, line, number)| Refused {
+        title,
+        sheet: [star(SITES), tabbed(line)].concat(),
+        number,
+        line: 513,
+    }));
+    let lists = [REFUSED, FORMS, CASES, RESERVES, MARKS];
+    for &(title, sheet, number, line) in lists.into_iter().flatten() {
         list.push(Refused {
             title,
             sheet: tabbed(sheet),
@@ -875,7 +1160,7 @@ const FORMS: &[(&str, &str, u8, u32)] = &[
         2,
         2,
     ),
-    ("unknown letter T", "network 1\nT a\n", 2, 2),
+    ("unknown letter U", "network 1\nU a\n", 2, 2),
     ("unknown letter alone", "network 1\nP\n", 2, 2),
     ("unknown letter and a bad name", "network 1\nP a-b\n", 2, 2),
     (
@@ -1815,5 +2100,111 @@ const RESERVES: &[(&str, &str, u8, u32)] = &[
         "network 1\nN a\nN b\nN c\nL a b 2 1\n",
         8,
         0,
+    ),
+];
+
+/// Lines of marked sites, with the faults of other site lines. Title, sheet, number and line.
+const MARKS: &[(&str, &str, u8, u32)] = &[
+    ("small t", "network 1\nt a\n", 2, 2),
+    ("letter T twice", "network 1\nTT a\n", 2, 2),
+    ("both letters of a site", "network 1\nNT a\n", 2, 2),
+    (
+        "both letters of a site, parted",
+        "network 1\nN T a\n",
+        10,
+        2,
+    ),
+    (
+        "marked site with a space for the tab",
+        "network 1\nT~hub\n",
+        2,
+        2,
+    ),
+    (
+        "marked site with a space behind its letter",
+        "network 1\nT~ hub\n",
+        2,
+        2,
+    ),
+    ("letter T, then byte 13", "network 1\nT\r\n", 2, 2),
+    ("marked site without byte 10", "network 1\nT a", 2, 2),
+    ("marked site alone, as line 1", "T a\n", 2, 1),
+    ("letter T alone", "network 1\nT\n", 10, 2),
+    ("marked site with three fields", "network 1\nT a b\n", 10, 2),
+    (
+        "marked site with an empty third field",
+        "network 1\nT a \n",
+        10,
+        2,
+    ),
+    (
+        "marked site with the fields of a link",
+        "network 1\nT a\nT b\nT a b 1\n",
+        10,
+        4,
+    ),
+    (
+        "marked site with three fields and a bad name",
+        "network 1\nT a-b c\n",
+        10,
+        2,
+    ),
+    ("marked site with an empty name", "network 1\nT \n", 11, 2),
+    ("marked site with a bad name", "network 1\nT a-b\n", 11, 2),
+    (
+        "marked site with byte 13 behind",
+        "network 1\nT a\r\n",
+        11,
+        2,
+    ),
+    (
+        "marked site with a name of 13 bytes",
+        "network 1\nT abcdefghijklm\n",
+        11,
+        2,
+    ),
+    ("name given twice, marked", "network 1\nN a\nT a\n", 5, 3),
+    (
+        "name given twice, marked first",
+        "network 1\nT a\nN a\n",
+        5,
+        3,
+    ),
+    (
+        "name given twice, marked twice, in either case",
+        "network 1\nT hill\nT HILL\n",
+        5,
+        3,
+    ),
+    (
+        "name of a marked site given below",
+        "network 1\nN a\nL a b 1\nT b\n",
+        6,
+        3,
+    ),
+    (
+        "marked site linked to itself",
+        "network 1\nT a\nL a A 1\n",
+        7,
+        3,
+    ),
+    (
+        "ring of marked sites",
+        "network 1\nT a\nT b\nT c\nL a b 1\nL b c 1\nL c a 1\n",
+        7,
+        7,
+    ),
+    ("one marked site", "network 1\nT a\n", 8, 0),
+    (
+        "marked sites, not all joined",
+        "network 1\nT a\nT b\nT c\nL a b 1\n",
+        8,
+        0,
+    ),
+    (
+        "lowest line decides: a name taken before a bad one",
+        "network 1\nT a\nT a\nT a-b\n",
+        5,
+        3,
     ),
 ];

@@ -42,7 +42,7 @@ impl Tried {
 }
 
 /// The sheets.
-pub const TRIED: [Tried; 19] = [
+pub const TRIED: [Tried; 27] = [
     Tried {
         title: "star 1, 1, 1",
         sheet: "network 1\nN hub\nN a\nN b\nN c\nL hub a 1\nL hub b 1\nL hub c 1\n",
@@ -184,5 +184,64 @@ pub const TRIED: [Tried; 19] = [
         total: 0,
         odd_pieces: Some(0),
         pairs: Some(""),
+    },
+    Tried {
+        title: "star 1, 1, 1 with its hub marked",
+        sheet: "network 1\nT hub\nN a\nN b\nN c\nL hub a 1\nL hub b 1\nL hub c 1\n",
+        total: 6,
+        odd_pieces: Some(0),
+        pairs: Some("P hub a 2\nP hub b 2\nP hub c 2\n"),
+    },
+    Tried {
+        title: "star 1, 1, 1 with an end marked",
+        sheet: "network 1\nN hub\nN a\nT b\nN c\nL hub a 1\nL hub b 1\nL hub c 1\n",
+        total: 2,
+        odd_pieces: Some(1),
+        pairs: None,
+    },
+    Tried {
+        title: "path 7, 3, 5 with one inner site marked",
+        sheet: "network 1\nN a\nT h\nN k\nN b\nL a h 7\nL h k 3\nL k b 5\n",
+        total: 20,
+        odd_pieces: Some(0),
+        pairs: Some("P a h 14\nP h b 6\n"),
+    },
+    Tried {
+        title: "path 1, 7 with its inner site marked",
+        sheet: "network 1\nN a\nT m\nN b\nL a m 1\nL m b 7\n",
+        total: 16,
+        odd_pieces: Some(0),
+        pairs: Some("P a m 2\nP m b 14\n"),
+    },
+    Tried {
+        title: "a marked site with a link that cannot be used up",
+        sheet: "network 1\nN a\nT m\nN h\nN b\nN c\nL m a 5\nL m h 9\nL h b 1\nL h c 2\n",
+        total: 16,
+        odd_pieces: Some(0),
+        pairs: Some("P a m 10\nP m b 2\nP m c 4\n"),
+    },
+    // Each joint is an odd piece: m with either of them would have 3, and no odd piece there.
+    Tried {
+        title: "two stars 1, 1, 1 that share a marked end",
+        sheet: "network 1\nN h\nN k\nT m\nN a\nN b\nN c\nN d\n\
+                L h m 1\nL h a 1\nL h b 1\nL k m 1\nL k c 1\nL k d 1\n",
+        total: 4,
+        odd_pieces: Some(2),
+        pairs: None,
+    },
+    Tried {
+        title: "all sites of two joints marked",
+        sheet: "network 1\nT h\nT k\nT a\nT b\nT c\nT d\n\
+                L h k 10\nL h a 3\nL h b 3\nL k c 1\nL k d 1\n",
+        total: 36,
+        odd_pieces: Some(0),
+        pairs: Some("P h k 20\nP h a 6\nP h b 6\nP k c 2\nP k d 2\n"),
+    },
+    Tried {
+        title: "an unused link between two marked sites",
+        sheet: "network 1\nN a\nT h\nT k\nN b\nL a h 3\nL h k 2 2\nL k b 1\n",
+        total: 8,
+        odd_pieces: Some(0),
+        pairs: Some("P a h 6\nP k b 2\n"),
     },
 ];

@@ -27,7 +27,7 @@
 //! ```
 //!
 //! [`order`] lists the sites as they are taken when the sizes are trimmed with a pencil, inward from
-//! the ends:
+//! the outermost ones:
 //!
 //! ```
 //! let sheet = b"network\t1\nN\thub\nN\ta\nN\tb\nN\tc\nL\thub\ta\t1\nL\thub\tb\t1\nL\thub\tc\t1\n";
@@ -55,6 +55,18 @@
 //! let mut buffer = [0; waderarmoire::REPORT_BYTES];
 //! let report = waderarmoire::plan(sheet, &mut buffer)?;
 //! assert!(report.starts_with(b"plan\t8\t1\nL\ta\tb\t4\t4\n"));
+//! # Ok::<(), waderarmoire::Refusal>(())
+//! ```
+//!
+//! The ends of the tree are the sites with one link, and those that the sheet marks by the letter `T` in the
+//! place of `N`. No circuit passes through an end, so the tree falls apart at a marked site inside it:
+//!
+//! ```
+//! let sheet = b"network\t1\nN\ta\nT\tm\nN\tb\nL\ta\tm\t2\nL\tm\tb\t3\n";
+//! let mut buffer = [0; waderarmoire::REPORT_BYTES];
+//! let report = waderarmoire::plan(sheet, &mut buffer)?;
+//! assert!(report.starts_with(b"plan\t10\t2\n"));
+//! assert!(report.ends_with(b"X\tm\t5\t1\nX\tb\t3\t1\nP\ta\tm\t4\nP\tm\tb\t6\n"));
 //! # Ok::<(), waderarmoire::Refusal>(())
 //! ```
 //!
@@ -234,9 +246,9 @@ pub fn whole<'buffer>(sheet: &[u8], buffer: &'buffer mut [u8]) -> Result<&'buffe
 /// Writes the numbers of all sites of `sheet`, counted from 1 by their lines, to the start of `list`
 /// in the order of work, and returns them.
 ///
-/// The order is that of trimming with a pencil, inward from the ends: always the lowest-numbered
-/// untaken site with at most one unvisited link is taken. A link is visited once one of its sites is
-/// taken.
+/// The order is that of trimming with a pencil, inward from the outermost sites: always the
+/// lowest-numbered untaken site with at most one unvisited link is taken, marked or not. A link is
+/// visited once one of its sites is taken.
 ///
 /// The places after the order keep their values. Nothing is allocated, and threads may call this
 /// at once.

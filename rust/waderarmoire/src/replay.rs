@@ -76,7 +76,7 @@ impl Error for ReplayRefusal {}
 /// - 11: a name is not 1 to 12 letters or digits
 /// - 12: an amount is not written in decimal without a leading zero
 /// - 3: an amount of 0, or above 2,000,000
-/// - 6: the names are not those of two different ends
+/// - 6: the names are not those of two different ends, or another end lies between the two
 /// - 14: of `-`, the pair has less than that open
 /// - 15: of `+`, a link between the two would carry more than twice its usable size
 /// - 16: of `+`, the pair would be the 513th that is open

@@ -1,7 +1,7 @@
 //! The proved library on the sheets to try of the scope document and the cards, against answers
 //! written out by hand.
 
-use sheets::tried::{ACCEPTED, refused};
+use sheets::tried::{ACCEPTED, LARGEST_SUMS, largest_sums, refused};
 use sheets::whole::TRIED;
 use waderarmoire::{REPORT_BYTES, Refusal, SITES, order, plan, whole};
 
@@ -22,6 +22,14 @@ fn reports() {
         let report = report(plan, &tried.sheet());
         assert_eq!(report, tried.report(), "{}", tried.title);
     }
+}
+
+#[test]
+fn largest_numbers() {
+    let report = report(plan, &largest_sums());
+    let [start, set, end] = LARGEST_SUMS;
+    assert!(report.starts_with(start) && report.ends_with(end));
+    assert!(report.windows(set.len()).any(|part| part == set));
 }
 
 #[test]

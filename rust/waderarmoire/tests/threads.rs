@@ -5,8 +5,8 @@ use std::env;
 use std::thread::{self, Builder};
 use waderarmoire::{REPORT_BYTES, STACK_BYTES, order, plan, whole};
 
-/// The sheet of a tree of a shape, its sites in the order of the shape or the other way round; every
-/// second link has a reserve.
+/// The sheet of a tree of a shape, its sites in the order of the shape or the other way round, and then
+/// every third one marked; every second link has a reserve.
 fn sheet(shape: Shape, count: usize, seed: u64, turned: bool) -> Vec<u8> {
     let mut random = Random::new(seed);
     let mut links = shape.links(count, &mut random);
@@ -20,6 +20,7 @@ fn sheet(shape: Shape, count: usize, seed: u64, turned: bool) -> Vec<u8> {
     let reserve = |(link, size): (usize, &u32)| (link % 2 == 1).then_some(size / 3);
     let network = Network {
         names: Names::Counted.list(count, &mut random),
+        marks: (0..count).map(|site| turned && site % 3 == 1).collect(),
         links,
         reserves: sizes.iter().enumerate().map(reserve).collect(),
         sizes,
