@@ -6,7 +6,7 @@ use model::SITES;
 use model::WORDS;
 use tree_sets::Found;
 use tree_sets::Set;
-ghost use mathlib.Core.Bool.{not};
+ghost use mathlib.Core.Bool.{true, not};
 ghost use mathlib.Core.Path.{_≡_};
 ghost use mathlib.Core.Logic.{_≢_};
 ghost use Prim.Native.Nat.{ℕ, _≤_, _<_};
@@ -17,6 +17,7 @@ ghost use Rattle.model.specs.Edition.{largest};
 ghost use Rattle.model.specs.Flows.{Site};
 ghost use Rattle.model.specs.Parts.{another, crossed, freePair};
 ghost use Rattle.lists.specs.Numbers.{look};
+ghost use Rattle.theory_trees.specs.Leaves.{Outer};
 ghost use Rattle.tree.specs.Accepted.{MarkedTree};
 ghost use Rattle.tree.specs.Offer.{links};
 ghost use Rattle.log_paths.specs.Tables.{Table, Mapped, PathBy};
@@ -148,17 +149,19 @@ fn crossed(
     }
 }
 
-// Whether two sites are two different ends with no other end on their path.
+// Whether two sites are two different ends with no other end on their path, which is looked through unless each end is known to have one link.
 pub fn free(
     n: usize,
     one: &[usize],
     two: &[usize],
     rows: &[u64; ROWS],
     ends: &[u8; PLACES],
+    outer: bool,
     a: usize,
     b: usize,
 ) -> bool
-    requires { ⌜ Mapped n (now one) (now two) (now rows) × Site n a × Site n b ⌝ }
+    requires { ⌜ Mapped n (now one) (now two) (now rows) × Site n a × Site n b
+        × (outer ≡ true → Outer (links (now one) (now two)) n (look (now ends))) ⌝ }
     ensures { λ r. ⌜ r ≡ eqb (freePair (links (now (one .entry)) (now (two .entry))) (look (now (ends .entry))) a b) 1 ⌝ }
 {
     if ends[a] != 1 {
@@ -169,6 +172,9 @@ pub fn free(
     }
     if a == b {
         return false;
+    }
+    if outer {
+        return true;
     }
     !crossed(n, one, two, rows, ends, a, b)
 }

@@ -1,4 +1,5 @@
 // A booking log replayed over a sheet (document 02, Cards 6 and 7): each line gets one answer.
+ghost use mathlib.Core.Bool.{true};
 ghost use mathlib.Core.Path.{_≡_};
 ghost use mathlib.Core.List.{[], _++_};
 ghost use Prim.Native.Nat.{_≤_};
@@ -8,6 +9,7 @@ ghost use Rattle.model.specs.Limits.{SITES};
 ghost use Rattle.model.specs.Edition.{edition1, largest};
 ghost use Rattle.model.specs.Flows.{ends};
 ghost use Rattle.model.specs.Booking.{answers};
+ghost use Rattle.theory_trees.specs.Leaves.{Outer};
 ghost use Rattle.tree.specs.Offer.{links};
 ghost use Rattle.tree.specs.Accepted.{MarkedTree};
 ghost use Rattle.tree_links.specs.Chains.{Placed};
@@ -64,19 +66,21 @@ fn line_of(log: &[u8], line: &[u8], at: usize) -> Line
 }
 
 // An amount asked for between what the look-ups of two names found, by the links, the table of paths and the ends: fault 6 unless they are two different
-// ends with no other end on their path.
+// ends with no other end on their path. `outer` is told where each end has one link.
 fn between(
     n: usize,
     one: &[usize],
     two: &[usize],
     rows: &[u64; ROWS],
     ends: &[u8; PLACES],
+    outer: bool,
     opens: bool,
     amount: u64,
     from: Found,
     to: Found,
 ) -> Request
-    requires { ⌜ Mapped n (now one) (now two) (now rows) × Named n from × Named n to ⌝ }
+    requires { ⌜ Mapped n (now one) (now two) (now rows) × Named n from × Named n to
+        × (outer ≡ true → Outer (links (now one) (now two)) n (look (now ends))) ⌝ }
     ensures { λ r. ⌜ r ≡ between (links (now (one .entry)) (now (two .entry))) (look (now (ends .entry))) opens amount from to ⌝ }
 {
     let Found::At(first) = from else {
@@ -85,7 +89,7 @@ fn between(
     let Found::At(second) = to else {
         return Request::Fault(6);
     };
-    if !log_paths::free(n, one, two, rows, ends, first, second) {
+    if !log_paths::free(n, one, two, rows, ends, outer, first, second) {
         return Request::Fault(6);
     }
     let pair = Pair {
@@ -110,12 +114,14 @@ fn request_at(
     two: &[usize],
     rows: &[u64; ROWS],
     ends: &[u8; PLACES],
+    outer: bool,
     log: &[u8],
     line: &[u8],
     at: usize,
 ) -> Request
     requires { ⌜ Mapped n (now one) (now two) (now rows) × Indexes (now sheet) (ranges (now starts) (now stops) 0 n) (now table)
-        × (at ≤ length (now log)) × (now line ≡ lineAt (now log) at) ⌝ }
+        × (at ≤ length (now log)) × (now line ≡ lineAt (now log) at)
+        × (outer ≡ true → Outer (links (now one) (now two)) n (look (now ends))) ⌝ }
     ensures { λ r. ⌜ r ≡ requestAt (now (sheet .entry)) (ranges (now (starts .entry)) (now (stops .entry)) 0 n)
         (links (now (one .entry)) (now (two .entry))) (look (now (ends .entry))) (now (log .entry)) at ⌝ }
 {
@@ -134,7 +140,7 @@ fn request_at(
             let second = sheet_names::part(line, start2, end2);
             let from = sheet_names::find(sheet, starts, stops, n, table, first);
             let to = sheet_names::find(sheet, starts, stops, n, table, second);
-            between(n, one, two, rows, ends, opens, amount, from, to)
+            between(n, one, two, rows, ends, outer, opens, amount, from, to)
         }
     }
 }
@@ -147,6 +153,7 @@ fn answer_lines(
     n: usize,
     table: &[u16; TABLE],
     ends: &[u8; PLACES],
+    outer: bool,
     one: &[usize],
     two: &[usize],
     capacity: &[u64],
@@ -155,7 +162,7 @@ fn answer_lines(
     list: &mut [u64],
 )
     requires { ⌜ Given n (now one) (now two) (now capacity) (now rows) × Indexes (now sheet) (ranges (now starts) (now stops) 0 n) (now table)
-        × (length (lines (now log)) ≤ length (now list)) ⌝ }
+        × (length (lines (now log)) ≤ length (now list)) × (outer ≡ true → Outer (links (now one) (now two)) n (look (now ends))) ⌝ }
     ensures { λ _. ⌜ now (list .exit) ≡ answers (links (now (one .entry)) (now (two .entry))) (look (now (capacity .entry))) []
         (requests (now (sheet .entry)) (ranges (now (starts .entry)) (now (stops .entry)) 0 n)
         (links (now (one .entry)) (now (two .entry))) (look (now (ends .entry))) (now (log .entry)))
@@ -180,6 +187,7 @@ fn answer_lines(
             two,
             rows,
             ends,
+            outer,
             log,
             line,
             at,
@@ -239,6 +247,7 @@ fn answer_tree(
 {
     let table = sheet_names::index(sheet, starts, stops, n);
     let ends = ends_of(n, one, two, marks);
+    let outer = tree_links::unmarked(marks);
     let rows = log_paths::paths(n, one, two, marks, capacity);
     answer_lines(
         sheet,
@@ -247,6 +256,7 @@ fn answer_tree(
         n,
         &table,
         &ends,
+        outer,
         one,
         two,
         capacity,

@@ -32,8 +32,8 @@ expected e = record { outcome = Report (length (e .report)); buffer = e .report 
 
 nine-sheets : map (plannedFor report) sheets ≡ map expected sheets
 unfolding plannedFor expected plannedBy planRead deliver ℕ-discrete decLe decLt pick is differ less sum over count upfrom at sumAt leaf endAt ends relabel
-    label joined total cutAt cutSite cutSites unvisited first remove taken elimination balancedAlong balanced kept group inCut cutSize cutCount ownerAmong owner
-    put takeHalves dropHalves halves give match joins between children gather alone settle walk pairsFrom lowestInner lowerFirst before insert ordered
+    label joined total cutAt cutSite cutSites unvisited first remove taken elimination balancedAlong balanced kept group inCut cutSize cutCount ownerAmong
+    owner put takeHalves dropHalves halves give match joins between children gather alone settle walk pairsFrom lowestInner lowerFirst before insert ordered
     within single region member home lowest root pairsOfPart pairOfLink pairsOfParts pairListOfParts flatMap
     lineLength lineAt afterLine hasLine same push fields all isName isNumber valueFrom isHeading checkedFields checked faultOf judged
     sizeOf capacityOf sheetSite sizedLink sheetLink kindOf kind capitals lookupFrom siteStep linkStep headingStep recordStep stepOf readLine andThen

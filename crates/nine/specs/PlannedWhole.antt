@@ -26,7 +26,8 @@ use Rattle.nine.specs.Planned.{plannedFor, expected}
 sheets-in-whole-circuits : map (plannedFor wholeReport) wholeSheets ≡ map expected wholeSheets
 unfolding plannedFor expected plannedBy planRead deliver ℕ-discrete decLe decLt pick is differ less sum over count upfrom at sumAt leaf endAt ends relabel
     label joined total unvisited first remove taken elimination kept setSize connects piece inPiece leavingPiece setCount oddPieces from upward beyond
-    parentOf putAt lowest highest onWay ownerAt newTop leastAt take takeAll topLoad coming giveAt giveAll linkLoad above intervals loading wholeLoad wholeOwner wholeLoads put
+    parentOf putAt lowest highest onWay ownerAt newTop leastAt take takeAll topLoad
+    coming giveAt giveAll linkLoad above intervals loading wholeLoad wholeOwner wholeLoads put
     takeHalves dropHalves halves give match joins between children gather alone settle walk pairsFrom lowestInner lowerFirst before insert ordered
     within single region member home lowestOf root pairsOfPart pairOfLink pairsOfParts pairListOfParts flatMap
     lineLength lineAt afterLine hasLine same push fields all isName isNumber valueFrom isHeading checkedFields checked faultOf judged

@@ -1,11 +1,13 @@
 // Inner: the links at each site of a tree as chains, the sums along them, and the ends. Only the planner's own crates call it.
+ghost use mathlib.Core.Logic.{_≢_};
 ghost use mathlib.Core.Path.{_≡_};
-ghost use Prim.Native.Nat.{_+_, _*_, _≤_, _<_};
+ghost use Prim.Native.Nat.{ℕ, _+_, _*_, _≤_, _<_};
 ghost use lib.ListN.{length};
 ghost use Rattle.model.specs.Limits.{SITES};
 ghost use Rattle.lists.specs.Numbers.{pick, look};
 ghost use Rattle.model.specs.Flows.{sumAt, leaf, mark, endAt, ends};
 ghost use Rattle.tree.specs.Offer.{links};
+ghost use Rattle.tree.specs.Steps.{Tells};
 ghost use Rattle.tree_links.specs.Chains.{Placed, Chained, Limited};
 use model::CHAINS;
 use model::PLACES;
@@ -108,6 +110,18 @@ fn mark_at(v: usize, marks: &[u8]) -> u8
         return 0;
     }
     marks[v - 1]
+}
+
+// Whether no site is marked.
+pub fn unmarked(marks: &[u8]) -> bool
+    ensures { λ r. ⌜ Tells r ((v : ℕ) → mark (now (marks .entry)) v ≢ 1) ⌝ }
+{
+    for i in 0..marks.len() {
+        if marks[i] == 1 {
+            return false;
+        }
+    }
+    true
 }
 
 // 1 if v is an end, 0 if not: it is marked, or has just one link.

@@ -1,4 +1,4 @@
--- `free` meets its contract: the two ends, that they differ, then the path.
+-- `free` meets its contract: the two ends, that they differ, then the path, where an end may have several links.
 use mathlib.Core.Bool.{Bool, false, not}
 use mathlib.Core.Logic.{_≢_}
 use mathlib.Core.Path.{_≡_, refl, sym}
@@ -6,10 +6,11 @@ use Prim.Native.Nat.{ℕ}
 use borrow.Author.Needs.{needs}
 use borrow.Author.Tests.{eq-eqb, ne-eqb}
 use lib.Dec.{eqb}
+use Rattle.lists.specs.Numbers.{look}
 use Rattle.lists.specs.Sums.{same?}
 use Rattle.model.specs.Flows.{Links}
 use Rattle.model.specs.Parts.{crossed, freePair}
-use Rattle.theory_trees.specs.FreePairs.{free-parts, free-whole}
+use Rattle.theory_trees.specs.FreePairs.{free-parts, free-whole, outer-pairs-are-free}
 use Rattle.log_paths.proofs.free.Statement.{statement}
 use Rattle.log_paths.proofs.free.Tie as tie
 
@@ -35,8 +36,19 @@ by-path ls t a b p q d r e = same? (crossed ls t a b) 0
 
 returns-4 : tie.Need-returns-4
 returns-4 c =
-    by-path _ _ _ _ (c .before .before .before .before .if1 .left) (c .before .before .if2 .left) (c .before .if3 .left) (c .crossed .result)
-    (c .crossed .ensures)
+    let other = c .before in
+    let second = other .before in
+    let first = second .before .before in
+    let s = first .before .before .before .before in
+    let a = s .args in
+    sym (eq-eqb _ 1 (outer-pairs-are-free (s .pre .0 .tree .tree) (look (a .ends .now)) (s .pre .3 (c .if4 .taken)) (a .a) (a .b) (s .pre .1) (s .pre .2)
+    (first .if1 .left) (second .if2 .left) (other .if3 .left)))
+
+returns-5 : tie.Need-returns-5
+returns-5 c =
+    let other = c .before .before in
+    let second = other .before in
+    by-path _ _ _ _ (second .before .before .if1 .left) (second .if2 .left) (other .if3 .left) (c .crossed .result) (c .crossed .ensures)
 
 pub free-spec : {M : Type 1} → statement M
 free-spec =
@@ -47,5 +59,6 @@ free-spec =
     (λ c. search needs)
     returns-2
     returns-3
+    returns-4
     (λ c κs. search needs)
-    returns-4)
+    returns-5)

@@ -22,11 +22,13 @@ use Rattle.logs.proofs.answer_lines.Statement.{statement}
 use Rattle.logs.proofs.answer_lines.Tie as tie
 
 abbrev Inv-loop : tie.InvT-loop
-Inv-loop sheet starts stops n table ends one two capacity rows log list₀ first₀ second₀ amount₀ load₀ count₀ at₀ i₀ list first second amount load count at i =
+Inv-loop sheet starts stops n table ends outer one two capacity rows log list₀ first₀ second₀ amount₀ load₀ count₀ at₀ i₀
+    list first second amount load count at i =
     along.Progress sheet (ranges starts stops 0 n) (links one two) (look ends) (look capacity) log list₀ first second amount load count at i list
 
 abbrev μ-loop : tie.MeasureT-loop
-μ-loop sheet starts stops n table ends one two capacity rows log list₀ first₀ second₀ amount₀ load₀ count₀ at₀ i₀ list first second amount load count at i =
+μ-loop sheet starts stops n table ends outer one two capacity rows log list₀ first₀ second₀ amount₀ load₀ count₀ at₀ i₀
+    list first second amount load count at i =
     length log - at
 
 abbrev begin : tie.At-loop Inv-loop μ-loop → tie.Start Inv-loop μ-loop
@@ -69,7 +71,7 @@ request-at-requires c κs =
     let w = s .pre .0 .within in
     let tree : TreeOf SITES (s .args .n) (s .args .one .now) (s .args .two .now) =
     record { tree = w .tree; few = w .few; firsts = w .firsts; seconds = w .seconds } in
-    (record { tree = tree; table = s .pre .0 .table }, s .pre .1, top .loop .inv .on-log, c .line .ensures .bytes)
+    (record { tree = tree; table = s .pre .0 .table }, s .pre .1, top .loop .inv .on-log, c .line .ensures .bytes, s .pre .3)
 
 -- what is asked
 asked-is : (c : tie.After-request-at Inv-loop μ-loop) → let top = c .before .before .before .before in let s = begin top in

@@ -1,12 +1,15 @@
 -- `answer_tree` meets its contract: the table of names, the ends and the table of paths are those of the tree.
 use mathlib.Core.List.{[], _++_}
-use mathlib.Core.Path.{ap, _∙_}
+use mathlib.Core.Path.{sym, ap, subst, _∙_}
 use native.Mathlib.Omega.{arith}
 use borrow.Author.Needs.{needs}
 use lib.ListN.{length, drop}
 use Rattle.lists.specs.Numbers.{look}
 use Rattle.model.specs.Booking.{answers}
+use Rattle.theory_trees.specs.Leaves.{Outer}
+use Rattle.theory_trees.specs.Ends.{unmarked-ends-are-outer}
 use Rattle.tree.specs.Offer.{links}
+use Rattle.tree.specs.Steps.{told}
 use Rattle.tree_links.specs.Chains.{offer-placed}
 use Rattle.sheet_names.specs.Names.{ranges}
 use Rattle.logs.specs.Log.{lines, requests}
@@ -19,10 +22,27 @@ ends-of-requires c κs =
     let tree = s .pre .0 in
     (omega (arith, tree .within .few), tree .marked, offer-placed (tree .within))
 
+-- without marks each end has one link
+answer-lines-requires : tie.Need-answer-lines-requires
+answer-lines-requires c κs =
+    let paths = c .before .before .before .before in
+    let marks = paths .before in
+    let ends = marks .before in
+    let table = ends .before in
+    let s = table .before .before .before .before .before .before .before .before in
+    let a = s .args in
+    let ls = links (a .one .now) (a .two .now) in (
+      record { within = s .pre .0 .within; table = paths .paths .ensures },
+      table .index .ensures,
+      s .pre .2,
+      λ e. subst (Outer ls (a .n)) (sym (ends .ends-of .ensures))
+          (unmarked-ends-are-outer ls (a .n) (a .marks .now) (told (marks .unmarked .result) (marks .unmarked .ensures) e)),
+    )
+
 returns : tie.Need-returns
 returns c =
     let made = c .before .before in
-    let ends = made .before .before .before .before .before .before in
+    let ends = made .before .before .before .before .before .before .before in
     let a = ends .before .before .before .before .before .before .before .before .before .args in
     let ls = links (a .one .now) (a .two .now) in
     let names = ranges (a .starts .now) (a .stops .now) 0 (a .n) in
@@ -38,5 +58,6 @@ answer-tree-spec =
     ends-of-requires
     (λ c κs. search needs)
     (λ c κs. search needs)
+    answer-lines-requires
     (λ c. search needs)
     returns)

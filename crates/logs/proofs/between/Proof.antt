@@ -26,6 +26,7 @@ free-requires c κs =
       s .pre .0,
       subst (Named (s .args .n)) (found .from .given .1) (s .pre .1),
       subst (Named (s .args .n)) (c .before .to .given .1) (s .pre .2),
+      s .pre .3,
     )
 
 returns-3 : tie.Need-returns-3

@@ -28,6 +28,7 @@ between-requires c κs =
       start .pre .0,
       named (c .before .find .result) (subst (Named (length names)) (sym (c .before .find .ensures)) (found-is-a-site (a .sheet .now) _ names)),
       named (c .find2 .result) (subst (Named (length names)) (sym (c .find2 .ensures)) (found-is-a-site (a .sheet .now) _ names)),
+      start .pre .4,
     )
 
 returns : tie.Need-returns

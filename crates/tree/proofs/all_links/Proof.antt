@@ -6,7 +6,7 @@ use borrow.Author.Tests.{not-true, not-false}
 use lib.ListN.{length}
 use Rattle.lists.specs.Numbers.{look}
 use Rattle.tree.specs.Ordering.Steps.{Link}
-use Rattle.tree.proofs.Answers.{told, denied}
+use Rattle.tree.specs.Steps.{told, denied}
 use Rattle.tree.proofs.all_links.Statement.{statement}
 use Rattle.tree.proofs.all_links.Tie as tie
 

@@ -1,7 +1,7 @@
 -- `tree::is_proper` meets its contract: once the numbers are right, the links decide.
 use native.Mathlib.Omega.{arith}
 use borrow.Author.Needs.{needs}
-use Rattle.tree.proofs.Answers.{tells-of}
+use Rattle.tree.specs.Steps.{tells-of}
 use Rattle.tree.proofs.is_proper.Statement.{statement}
 use Rattle.tree.proofs.is_proper.Tie as tie
 

@@ -12,7 +12,8 @@ use Rattle.tree.specs.Ordering.Steps.{Proper, Eliminated}
 use Rattle.tree.specs.Ordering.Rooted.{without-a-root}
 use Rattle.tree.specs.Offer.{isTree}
 use Rattle.tree.specs.Accepted.{is-tree-is-a-tree, a-tree-is-tree, is-false}
-use Rattle.tree.proofs.Answers.{told, denied, a-tree-is-proper}
+use Rattle.tree.specs.Steps.{told, denied}
+use Rattle.tree.proofs.Answers.{a-tree-is-proper}
 use Rattle.tree.proofs.order_of.Statement.{statement}
 use Rattle.tree.proofs.order_of.Tie as tie
 use Rattle.lists.specs.Sums.{contradiction}
