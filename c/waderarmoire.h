@@ -11,9 +11,9 @@
  * or list of its own. It reads the sheet and writes the buffer or list within their lengths and
  * touches no other memory of the caller's. Every call ends, whatever the sheet holds.
  *
- * A call needs at most 116 KiB of stack, whatever the shape of the tree: nothing recurses
- * (measured, with what a new thread itself needs). A thread of WADERARMOIRE_STACK_BYTES has
- * enough for every sheet.
+ * A plan or an order needs at most 116 KiB of stack, whatever the shape of the tree: nothing
+ * recurses (measured, with what a new thread itself needs). A thread of WADERARMOIRE_STACK_BYTES
+ * has enough for every sheet, and for a replay, which is tried with that much alone.
  */
 #ifndef WADERARMOIRE_H
 #define WADERARMOIRE_H

@@ -98,9 +98,10 @@
 //! owes nothing more; what the library below asks, pointers that are not null and areas that do not
 //! overlap, slices have.
 //!
-//! A call needs at most 116 KiB of stack, whatever the shape of the tree: nothing recurses
-//! (measured, with what a new thread itself needs). A thread of [`STACK_BYTES`] has enough for
-//! every sheet; threads of the standard library have 2 MiB unless they are made with less.
+//! A plan or an order needs at most 116 KiB of stack, whatever the shape of the tree: nothing
+//! recurses (measured, with what a new thread itself needs). A thread of [`STACK_BYTES`] has enough
+//! for every sheet, and for a replay, which is tried with that much alone; threads of the standard
+//! library have 2 MiB unless they are made with less.
 //!
 //! # Building
 //!

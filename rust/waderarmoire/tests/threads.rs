@@ -53,15 +53,37 @@ fn in_thread(sheet: Vec<u8>, stack: usize) {
     assert_eq!(thread.unwrap().join().unwrap(), (alone.clone(), alone));
 }
 
-/// The largest trees of every shape, numbered both ways. The variable `STACK` sets another number
-/// of bytes: the least with which this test passes is what a call needs.
+/// A sheet with every site marked, and one with every third.
+fn marked(sheet: &[u8]) -> [Vec<u8>; 2] {
+    [1, 3].map(|step| {
+        let mut sites = 0;
+        let lines = sheet.split_inclusive(|&byte| byte == b'\n');
+        let lines = lines.map(|line| match line.strip_prefix(b"N\t") {
+            Some(name) => {
+                sites += 1;
+                let letter: &[u8] = if sites % step == 0 { b"T\t" } else { b"N\t" };
+                [letter, name].concat()
+            }
+            None => line.to_vec(),
+        });
+        lines.collect::<Vec<_>>().concat()
+    })
+}
+
+/// The largest trees of every shape, numbered both ways, without marks and with some. The variable
+/// `STACK` sets another number of bytes: the least with which this test passes is what a plan, in
+/// halves or in whole circuits, and an order need.
 #[test]
 fn little_stack() {
     let given = env::var("STACK").map(|text| text.parse().expect("a number of bytes"));
     let stack = given.unwrap_or(STACK_BYTES);
     for shape in SHAPES {
         for turned in [false, true] {
-            in_thread(sheet(shape, SITES, 1, turned), stack);
+            let plain = sheet(shape, SITES, 1, turned);
+            for sheet in marked(&plain) {
+                in_thread(sheet, stack);
+            }
+            in_thread(plain, stack);
         }
     }
     in_thread(sheet(Shape::Star, 4, 1, false), stack);
