@@ -1,10 +1,10 @@
--- The limits of the planner, by the names that src/lib.rt gives them. Document 01, "The network sheet", and 02, Card 6; a number changes here and there.
+-- The limits of the planner, by the names that src/lib.rt gives them. Document 01, "The network sheet", and 02, Cards 6 and 8; a number changes here and there.
 -- Nothing but these two files knows them.
 use Prim.Native.Nat.{ℕ, _+_, _-_, _*_, _/_}
 
 -- the largest number of sites of a tree
 abbrev pub SITES : ℕ
-SITES = 256
+SITES = 384
 
 -- the largest number of links
 abbrev pub LINKS : ℕ
@@ -36,7 +36,7 @@ SETS = WORDS * PLACES
 
 -- the largest number of bytes of a sheet
 abbrev pub BYTES : ℕ
-BYTES = 16384
+BYTES = 24576
 
 -- the largest size of a link
 abbrev pub SIZE : ℕ

@@ -1,11 +1,11 @@
 // What every crate of the planner shares: an entry of a multiflow, and the limits of an edition of the sheet.
 ghost use mathlib.Core.Path.{_≡_};
-ghost use Rattle.model.specs.Edition.{edition1};
+ghost use Rattle.model.specs.Edition.{edition1, edition2};
 
 // The limits of the planner: every length of an array is one of these. specs/Limits.antt has them by the same names.
 
 // The largest number of sites of a tree.
-pub const SITES: usize = 256;
+pub const SITES: usize = 384;
 
 // The largest number of links: a tree has one less than sites.
 pub const LINKS: usize = SITES - 1;
@@ -29,7 +29,7 @@ pub const WORDS: usize = SITES / 64;
 pub const SETS: usize = WORDS * PLACES;
 
 // The largest number of bytes of a sheet.
-pub const BYTES: usize = 16384;
+pub const BYTES: usize = 24576;
 
 // The largest size of a link.
 pub const SIZE: u64 = 1000000;
@@ -72,27 +72,45 @@ pub enum Request {
     Fault(u64),
 }
 
-// The limits that go with an edition of the sheet (01: edition): bytes of a sheet, sites, and the size of a link.
+// An edition of the sheet (01: edition; 02, Card 8): the digit in its heading, and the limits that go with it: bytes of a sheet, sites, and the size of a link.
 pub struct Edition {
+    pub digit: u8,
     pub bytes: usize,
     pub sites: usize,
     pub size: u64,
 }
 
 impl Edition {
-    pub const BYTES: usize = BYTES;
+    pub const FIRST_BYTES: usize = 16384;
 
-    pub const SITES: usize = SITES;
+    pub const FIRST_SITES: usize = 256;
+
+    pub const SECOND_BYTES: usize = BYTES;
+
+    pub const SECOND_SITES: usize = SITES;
 
     pub const SIZE: u64 = SIZE;
 
-    // The first edition.
+    // Edition 1.
     pub fn first() -> Self
         ensures { λ r. ⌜ r ≡ edition1 ⌝ }
     {
         Edition {
-            bytes: Edition::BYTES,
-            sites: Edition::SITES,
+            digit: b'1',
+            bytes: Edition::FIRST_BYTES,
+            sites: Edition::FIRST_SITES,
+            size: Edition::SIZE,
+        }
+    }
+
+    // Edition 2.
+    pub fn second() -> Self
+        ensures { λ r. ⌜ r ≡ edition2 ⌝ }
+    {
+        Edition {
+            digit: b'2',
+            bytes: Edition::SECOND_BYTES,
+            sites: Edition::SECOND_SITES,
             size: Edition::SIZE,
         }
     }

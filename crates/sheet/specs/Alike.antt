@@ -8,8 +8,8 @@ use lib.ListN.{length}
 use Rattle.model.specs.declared.Edition.{Edition}
 use Rattle.text_lines.specs.Lines.{afterLine, hasLine}
 use Rattle.text_lines.specs.LineLaws.{a-line-is-on-the-sheet}
-use Rattle.sheet.specs.Sheet.{Network, Read, refused, accepted, stepOf, added, readLine, andThen, readLines, readSheet}
-use Rattle.sheet.specs.Earlier.{Kinds, Lookup, stepBy, readLinesBy, readSheetBy}
+use Rattle.sheet.specs.Sheet.{Network, Read, refused, accepted, stepOf, added, readLine, andThen, readLines, readAs}
+use Rattle.sheet.specs.Earlier.{Kinds, Lookup, stepBy, readLinesBy, readAsBy}
 use Rattle.sheet.specs.Causes.{Reached, start, next}
 
 -- the offset of the line after so many lines
@@ -49,6 +49,6 @@ module _ (kinds : Kinds) (find : Lookup) (ed : Edition) (s : List ℕ)
   lines-alike zero r = refl
   lines-alike (suc fuel) {k} {at} {net} r = rw (alike k at net r) (line-and-rest fuel r (λ after q. lines-alike fuel q) (hasLine s at) refl)
 
-  pub a-sheet-is-read-alike : readSheetBy kinds find ed s ≡ readSheet ed s
-  unfolding readSheetBy readSheet
+  pub a-sheet-is-read-alike : readAsBy kinds find ed s ≡ readAs ed s
+  unfolding readAsBy readAs
   a-sheet-is-read-alike = rw (lines-alike (length s) start)

@@ -11,9 +11,9 @@ use borrow.Author.Tests.{lt-ltb}
 use Rattle.model.specs.declared.Edition.{Edition}
 use Rattle.text_lines.specs.Lines.{hasLine}
 use Rattle.text_lines.specs.LineLaws.{after-line-is-later}
-use Rattle.sheet.specs.Sheet.{Network, empty, Read, refused, accepted, readSheet}
+use Rattle.sheet.specs.Sheet.{Network, empty, Read, refused, accepted, readAs}
 use Rattle.sheet.specs.Reading.{lists, reading}
-use Rattle.sheet.specs.Causes.{Cause, unended, no-heading, second-heading, no-letter, wrong-count, bad-name, bad-number}
+use Rattle.sheet.specs.Causes.{Cause, unended, no-heading, no-letter, wrong-count, bad-name, bad-number}
 use Rattle.sheet.specs.Causes.{too-large, too-much-held, too-many, given, not-given, already-joined}
 use Rattle.sheet.specs.Causes.{Reached, start, next, Refusal, by-length, by-line, by-whole}
 use Rattle.sheet.specs.SheetTheorem.{a-sheet-is-refused-for-its-cause}
@@ -53,7 +53,6 @@ module _ (ed : Edition) (s : List ℕ) where
   cause-has-a-sheet-number : {net : Network} {k at n : ℕ} → Cause ed s net k at n → SheetNumber n
   cause-has-a-sheet-number (unended h) = record { some = omega arith; known = omega arith; not-nine = λ e. omega arith }
   cause-has-a-sheet-number (no-heading h e d) = record { some = omega arith; known = omega arith; not-nine = λ e. omega arith }
-  cause-has-a-sheet-number (second-heading h d is) = record { some = omega arith; known = omega arith; not-nine = λ e. omega arith }
   cause-has-a-sheet-number (no-letter h d is) = record { some = omega arith; known = omega arith; not-nine = λ e. omega arith }
   cause-has-a-sheet-number (wrong-count h d is) = record { some = omega arith; known = omega arith; not-nine = λ e. omega arith }
   cause-has-a-sheet-number (bad-name h d is) = record { some = omega arith; known = omega arith; not-nine = λ e. omega arith }
@@ -78,36 +77,36 @@ module _ (ed : Edition) (s : List ℕ) where
 
   -- ---- what is told
 
-  pub a-number-is-told-just-for-its-cause : (n k : ℕ) → 1 ≤ n → Tells (readSheet ed s) n k ↔ Refusal ed s n k
+  pub a-number-is-told-just-for-its-cause : (n k : ℕ) → 1 ≤ n → Tells (readAs ed s) n k ↔ Refusal ed s n k
   unfolding number line reading
   a-number-is-told-just-for-its-cause n k some =
-      let law = a-sheet-is-refused-for-its-cause ed s n k in (λ t. law .0 (by (readSheet ed s) t), λ c. rw (law .1 c) (refl, refl))
+      let law = a-sheet-is-refused-for-its-cause ed s n k in (λ t. law .0 (by (readAs ed s) t), λ c. rw (law .1 c) (refl, refl))
     where
       by : (r : Read) → Tells r n k → r ≡ refused n k
       by (refused m l) t = let e = t .0 in let f = t .1 in cc
       by (accepted net) t = absurd (omega (arith, t .0))
 
-  pub zero-is-told-just-without-a-cause : (number (reading (readSheet ed s) .answer) ≡ 0) ↔ ((n k : ℕ) → ¬ (Refusal ed s n k))
+  pub zero-is-told-just-without-a-cause : (number (reading (readAs ed s) .answer) ≡ 0) ↔ ((n k : ℕ) → ¬ (Refusal ed s n k))
   unfolding number reading
   zero-is-told-just-without-a-cause = (
     λ e n k c. let t = a-number-is-told-just-for-its-cause n k (refusals-have-sheet-numbers c .some) .1 c .0 in
         absurd (omega (arith, e, t, refusals-have-sheet-numbers c .some)),
-    λ none. by (readSheet ed s) refl none,
+    λ none. by (readAs ed s) refl none,
   )
     where
-      by : (r : Read) → readSheet ed s ≡ r → ((n k : ℕ) → ¬ (Refusal ed s n k)) → number (reading r .answer) ≡ 0
+      by : (r : Read) → readAs ed s ≡ r → ((n k : ℕ) → ¬ (Refusal ed s n k)) → number (reading r .answer) ≡ 0
       by (refused n k) e none = absurd (none n k (a-sheet-is-refused-for-its-cause ed s n k .0 e))
       by (accepted net) e none = refl
 
   -- a sheet that is refused is answered with the network of no sites, any other with its own
-  pub a-refused-sheet-gets-no-network : number (reading (readSheet ed s) .answer) ≢ 0 → reading (readSheet ed s) .network ≡ lists empty
+  pub a-refused-sheet-gets-no-network : number (reading (readAs ed s) .answer) ≢ 0 → reading (readAs ed s) .network ≡ lists empty
   unfolding number reading
-  a-refused-sheet-gets-no-network = by (readSheet ed s)
+  a-refused-sheet-gets-no-network = by (readAs ed s)
     where
       by : (r : Read) → number (reading r .answer) ≢ 0 → reading r .network ≡ lists empty
       by (refused n k) d = refl
       by (accepted net) d = absurd (d refl)
 
-  pub an-accepted-sheet-gets-its-network : (net : Network) → readSheet ed s ≡ accepted net → reading (readSheet ed s) .network ≡ lists net
+  pub an-accepted-sheet-gets-its-network : (net : Network) → readAs ed s ≡ accepted net → reading (readAs ed s) .network ≡ lists net
   unfolding reading
   an-accepted-sheet-gets-its-network net e = rw e refl

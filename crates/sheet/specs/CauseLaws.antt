@@ -15,10 +15,10 @@ use Rattle.lists.specs.Sums.{same?, cases, contradiction}
 use Rattle.theory_trees.specs.Labels.{joined-iff}
 use Rattle.text_lines.specs.Lines.{lineLength, lineAt}
 use Rattle.text_lines.specs.LineLaws.{length-of-line}
-use Rattle.sheet_kinds.specs.LineKinds.{field, mark, IsSite, IsLink, kind}
+use Rattle.sheet_kinds.specs.LineKinds.{field, isHeading, mark, IsSite, IsLink, kind}
 use Rattle.sheet_kinds.specs.FaultyLines as faulty
 use Rattle.sheet_kinds.specs.FormedLines.{site-is-formed, link-is-formed}
-use Rattle.sheet_kinds.specs.KindForms.{LinkWithin, Tells, a-kind-tells-its-form, a-heading-by-its-form, no-heading-by-its-form, a-site-by-its-form}
+use Rattle.sheet_kinds.specs.KindForms.{LinkWithin, Tells, a-kind-tells-its-form, a-site-by-its-form}
 use Rattle.sheet_kinds.specs.KindForms.{a-link-by-its-form, site-name-is-field-1, link-name-is-field-1, link-name-is-field-2}
 use Rattle.sheet_kinds.specs.declared.Line.{Line}
 use Rattle.sheet_kinds.specs.declared.Line.the-variants as line
@@ -28,7 +28,7 @@ use Rattle.sheet.specs.declared.stepping.Step.{Step}
 use Rattle.sheet.specs.declared.stepping.Step.the-variants.{Nothing, Site, Link, Refused}
 use Rattle.sheet_names.specs.LookupLaws.{Says, lookup-says}
 use Rattle.sheet.specs.Sound.{Sound, part-of-line}
-use Rattle.sheet.specs.Causes.{Named, NotGiven, Ended, Cause, unended, no-heading, second-heading, no-letter, wrong-count, bad-name, bad-number}
+use Rattle.sheet.specs.Causes.{Named, NotGiven, Ended, Cause, unended, no-heading, no-letter, wrong-count, bad-name, bad-number}
 use Rattle.sheet.specs.Causes.{too-large, too-much-held, too-many, given, not-given, already-joined, fieldsAt}
 use Rattle.sheet_names.specs.declared.Found.{Found}
 use Rattle.sheet_names.specs.declared.Found.the-variants.{At, Absent}
@@ -145,22 +145,22 @@ module _ (ed : Edition) (s : List ℕ) (net : Network) (k at : ℕ) where
 
     record-right : (w : Line) → kind (ed .size) (lineAt s at) ≡ w → Tells (ed .size) (lineAt s at) w → Right (recordStep ed s net k at w)
     unfolding recordStep
-    record-right line.Heading is form = (refl, second-heading h d form)
     record-right (line.Site a e m) is form =
-        subst (λ w. Right (recordStep ed s net k at w)) (sym (form .2))
-        (site-right (form .1) (firstName s at) (mark (fieldsAt s at)) (a-site-is-looked-up-by-field-1 s at (form .1)))
+        subst (λ w. Right (recordStep ed s net k at w)) (sym (form .1))
+        (site-right (form .0) (firstName s at) (mark (fieldsAt s at)) (a-site-is-looked-up-by-field-1 s at (form .0)))
     record-right (line.Link a e b f size) is form =
-        let g = form .1 .link in
-        subst (λ w. Right (recordStep ed s net k at w)) (sym (form .2))
-        (rw (a-link-is-looked-up-by-field-1 s at g, a-link-is-looked-up-by-field-2 s at g) (link-right (form .1) _))
+        let g = form .0 .link in
+        subst (λ w. Right (recordStep ed s net k at w)) (sym (form .1))
+        (rw (a-link-is-looked-up-by-field-1 s at g, a-link-is-looked-up-by-field-2 s at g) (link-right (form .0) _))
     record-right (line.Fault n) is form = (refl, fault-right n (faulty.a-line-is-a-fault-just-for-its-cause (ed .size) (lineAt s at) n .0 is))
 
-  heading-right : Ended s at → k ≡ 1 → (w : Line) → Tells (ed .size) (lineAt s at) w → Right (headingStep w)
+  heading-right : Ended s at → k ≡ 1 → Right (headingStep ed (lineAt s at))
   unfolding headingStep
-  heading-right h e line.Heading form = tt
-  heading-right h e (line.Site a b m) form = (sym e, no-heading h e (form .0))
-  heading-right h e (line.Link a b c d size) form = (sym e, no-heading h e (form .0))
-  heading-right h e (line.Fault n) form = (sym e, no-heading h e form)
+  heading-right h e = by (isHeading (ed .digit) (fieldsAt s at)) refl
+    where
+      by : (t : Bool) → isHeading (ed .digit) (fieldsAt s at) ≡ t → Right (cond t Nothing (Refused 2 1))
+      by true is = tt
+      by false is = (sym e, no-heading h e is)
 
   step-right : Right (stepOf ed s net k at)
   unfolding stepOf
@@ -169,10 +169,10 @@ module _ (ed : Edition) (s : List ℕ) (net : Network) (k at : ℕ) where
       (a-kind-tells-its-form (ed .size) (lineAt s at))
     where
       by : (t : Bool) → ltb (at + lineLength (drop at s)) (length s) ≡ t → (u : Bool) → eqb k 1 ≡ u → (w : Line) → kind (ed .size) (lineAt s at) ≡ w
-          → Tells (ed .size) (lineAt s at) w → Right (cond t (cond u (headingStep w) (recordStep ed s net k at w)) (Refused 2 k))
+          → Tells (ed .size) (lineAt s at) w → Right (cond t (cond u (headingStep ed (lineAt s at)) (recordStep ed s net k at w)) (Refused 2 k))
       by false e u f w is form = (refl, unended (λ h. omega (arith, ltb-false (at + lineLength (drop at s)) (length s) e, length-of-line s at)))
       by true e true f w is form =
-          heading-right (omega (arith, ltb-true (at + lineLength (drop at s)) (length s) e, length-of-line s at)) (eqb-true k 1 f) w form
+          heading-right (omega (arith, ltb-true (at + lineLength (drop at s)) (length s) e, length-of-line s at)) (eqb-true k 1 f)
       by true e false f w is form =
           record-right (omega (arith, ltb-true (at + lineLength (drop at s)) (length s) e, length-of-line s at)) (eqb-false k 1 f) w is form
 
@@ -189,13 +189,6 @@ module _ (ed : Edition) (s : List ℕ) (net : Network) (k at : ℕ) where
 -- ---- a cause refuses its line
 
 module _ (ed : Edition) (s : List ℕ) (net : Network) (k at : ℕ) where
-  other-first-line : (w : Line) → w ≢ line.Heading → headingStep w ≡ Refused 2 1
-  unfolding headingStep
-  other-first-line line.Heading d = absurd (d refl)
-  other-first-line (line.Site a e m) d = refl
-  other-first-line (line.Link a e b f size) d = refl
-  other-first-line (line.Fault n) d = refl
-
   link-to-none : (size : ℕ) (u w : Found) → (u ≡ Absent) ⊎ (w ≡ Absent) → linkStep k (net .links) size u w ≡ Refused 6 k
   unfolding linkStep
   link-to-none size Absent w o = refl
@@ -212,12 +205,10 @@ module _ (ed : Edition) (s : List ℕ) (net : Network) (k at : ℕ) where
   at-fault h d n f = later h d _ (faulty.a-line-is-a-fault-just-for-its-cause (ed .size) (lineAt s at) n .1 f)
 
   step-of-a-cause : Sound ed s net → (n : ℕ) → Cause ed s net k at n → stepOf ed s net k at ≡ Refused n k
-  unfolding recordStep siteStep linkStep
+  unfolding headingStep recordStep siteStep linkStep
   step-of-a-cause sound n (unended h) = unended-step ed s net k at (omega arith)
   step-of-a-cause sound n (no-heading h e other) =
-      first-step ed s net k at h e ∙ other-first-line (kind (ed .size) (lineAt s at)) (no-heading-by-its-form (ed .size) (lineAt s at) other)
-      ∙ ap (Refused 2) (sym e)
-  step-of-a-cause sound n (second-heading h d is) = later h d _ (a-heading-by-its-form (ed .size) (lineAt s at) is)
+      first-step ed s net k at h e ∙ rw (other, e)
   step-of-a-cause sound n (no-letter h d f) = at-fault h d 2 (faulty.no-letter f)
   step-of-a-cause sound n (wrong-count h d f) = at-fault h d 10 (faulty.wrong-count f)
   step-of-a-cause sound n (bad-name h d f) = at-fault h d 11 (faulty.bad-name f)

@@ -36,10 +36,9 @@ fieldsAt s at = fields (lineAt s at)
 
 -- why line k, at an offset, is refused, the lines above having given a network (01: the table, 2 to 7; Card 1: 10 to 12; Card 5: 13)
 pub data Cause (ed : Edition) (s : List ℕ) (net : Network) (k at : ℕ) : ℕ → Type 0 where
-  -- 2: no byte 10 ends the line; line 1 is no heading; a later line is one; the first field of a later line is no known letter
+  -- 2: no byte 10 ends the line; line 1 is not the edition's heading; the first field of a later line is no known letter, as that of a second heading
   unended : ¬ (Ended s at) → Cause ed s net k at 2
-  no-heading : Ended s at → k ≡ 1 → isHeading (fieldsAt s at) ≡ false → Cause ed s net k at 2
-  second-heading : Ended s at → k ≢ 1 → isHeading (fieldsAt s at) ≡ true → Cause ed s net k at 2
+  no-heading : Ended s at → k ≡ 1 → isHeading (ed .digit) (fieldsAt s at) ≡ false → Cause ed s net k at 2
   no-letter : Ended s at → k ≢ 1 → NoLetter (lineAt s at) → Cause ed s net k at 2
   -- 10: the letter is known, and the number of fields is not that of its form
   wrong-count : Ended s at → k ≢ 1 → Broken WrongCount (lineAt s at) → Cause ed s net k at 10

@@ -44,7 +44,6 @@ lookupBytes s names f = lookupBytesFrom s names 1 f
 -- what a later line adds, by a look-up
 module _ (find : Lookup) (ed : Edition) (s : List ℕ) (net : Network) (k at : ℕ) where
   unfoldable pub recordBy : Line → Step
-  recordBy line.Heading = Refused 2 k
   recordBy (line.Site a e m) = siteStep ed k (length (net .names)) (at + a, at + e) m (find s (net .names) (part s (at + a, at + e)))
   recordBy (line.Link a e b f size) =
       linkStep k (net .links) size (find s (net .names) (part s (at + a, at + e))) (find s (net .names) (part s (at + b, at + f)))
@@ -53,7 +52,6 @@ module _ (find : Lookup) (ed : Edition) (s : List ℕ) (net : Network) (k at : �
 pub record-by-the-look-up : (ed : Edition) (s : List ℕ) (net : Network) (k at : ℕ) (w : Line)
     → recordBy lookup ed s net k at w ≡ recordStep ed s net k at w
 unfolding recordBy recordStep
-record-by-the-look-up ed s net k at line.Heading = refl
 record-by-the-look-up ed s net k at (line.Site a e m) = refl
 record-by-the-look-up ed s net k at (line.Link a e b f size) = refl
 record-by-the-look-up ed s net k at (line.Fault n) = refl
@@ -62,9 +60,9 @@ record-by-the-look-up ed s net k at (line.Fault n) = refl
 module _ (kinds : Kinds) (find : Lookup) (ed : Edition) (s : List ℕ) where
   unfoldable pub stepBy : Network → ℕ → ℕ → Step
   stepBy net k at =
-      let line = kinds (ed .size) (lineAt s at) in
+      let line = lineAt s at in
       cond (ltb (at + lineLength (drop at s)) (length s))
-      (cond (eqb k 1) (headingStep line) (recordBy find ed s net k at line))
+      (cond (eqb k 1) (headingStep ed line) (recordBy find ed s net k at (kinds (ed .size) line)))
       (Refused 2 k)
 
   unfoldable pub readLinesBy : ℕ → ℕ → ℕ → Network → Read
@@ -74,5 +72,5 @@ module _ (kinds : Kinds) (find : Lookup) (ed : Edition) (s : List ℕ) where
       (andThen (added net (stepBy net k at)) (λ next. readLinesBy fuel (suc k) (afterLine s at) next))
       (accepted net)
 
-  unfoldable pub readSheetBy : Read
-  readSheetBy = cond (leb 1 (length s) && leb (length s) (ed .bytes)) (andThen (readLinesBy (length s) 1 0 empty) finish) (refused 1 0)
+  unfoldable pub readAsBy : Read
+  readAsBy = cond (leb 1 (length s) && leb (length s) (ed .bytes)) (andThen (readLinesBy (length s) 1 0 empty) finish) (refused 1 0)

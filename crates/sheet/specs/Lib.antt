@@ -19,3 +19,4 @@ pub mod Renumbered
 pub mod Marks
 pub mod Reserves
 pub mod Spelling
+pub mod Editions

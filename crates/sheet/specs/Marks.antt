@@ -16,9 +16,9 @@ use Rattle.model.specs.declared.Edition.{Edition}
 use Rattle.text_lines.specs.Lines.{lineLength, lineAt, afterLine, hasLine}
 use Rattle.text_lines.specs.LineLaws.{after-line-is-later}
 use Rattle.sheet_kinds.specs.LineKinds.{field, kind}
-use Rattle.sheet_kinds.specs.Unmarked.{a-line-without-mark-is-as-before, a-marked-line-had-no-known-letter}
-use Rattle.sheet.specs.Sheet.{Network, empty, refused, accepted, headingStep, stepOf, added, readLine, andThen, finish, readSheet, lookup}
-use Rattle.sheet.specs.Earlier.{kindUnmarked, recordBy, record-by-the-look-up, stepBy, readLinesBy, readSheetBy}
+use Rattle.sheet_kinds.specs.Unmarked.{a-line-without-mark-is-as-before, a-marked-line-had-no-known-letter, a-marked-line-is-no-heading}
+use Rattle.sheet.specs.Sheet.{Network, empty, refused, accepted, headingStep, stepOf, added, readLine, andThen, finish, readAs, lookup}
+use Rattle.sheet.specs.Earlier.{kindUnmarked, recordBy, record-by-the-look-up, stepBy, readLinesBy, readAsBy}
 use Rattle.sheet.specs.Alike.{offset, placed, a-sheet-is-read-alike}
 use Rattle.sheet.specs.Causes.{fieldsAt, Reached, start, next}
 use Rattle.sheet.specs.SheetTheorem.{an-accepted-sheet-is-a-tree}
@@ -45,7 +45,7 @@ module _ (ed : Edition) (s : List ℕ) (net : Network) (k at : ℕ) where
   pub a-marked-line-was-refused-with-2 : MarkedAt s at → stepBy kindUnmarked lookup ed s net k at ≡ Refused 2 k
   unfolding stepBy headingStep recordBy
   a-marked-line-was-refused-with-2 e =
-      rw (a-marked-line-had-no-known-letter (ed .size) (lineAt s at) e) (by (ltb (at + lineLength (drop at s)) (length s)) (eqb k 1) refl)
+      rw (a-marked-line-had-no-known-letter (ed .size) (lineAt s at) e, a-marked-line-is-no-heading (ed .digit) (lineAt s at) e) (by (ltb (at + lineLength (drop at s)) (length s)) (eqb k 1) refl)
     where
       by : (t u : Bool) → eqb k 1 ≡ u → cond t (cond u (Refused 2 1) (Refused 2 k)) (Refused 2 k) ≡ Refused 2 k
       by false u f = refl
@@ -60,12 +60,12 @@ module _ (ed : Edition) (s : List ℕ) (none : WithoutMarks s) where
   another-letter r = let p = placed r in rw (p .2) (none (p .0))
 
   -- a sheet without `T` lines is read as it was
-  pub a-sheet-without-marks-is-read-as-before : readSheetBy kindUnmarked lookup ed s ≡ readSheet ed s
+  pub a-sheet-without-marks-is-read-as-before : readAsBy kindUnmarked lookup ed s ≡ readAs ed s
   a-sheet-without-marks-is-read-as-before =
       a-sheet-is-read-alike kindUnmarked lookup ed s (λ k at net r. step-alike ed s net k at (another-letter r))
 
   -- and no site of it is marked
-  pub no-site-is-marked : (net : Network) → readSheet ed s ≡ accepted net → (i : ℕ) → look (net .marks) i ≡ 0
+  pub no-site-is-marked : (net : Network) → readAs ed s ≡ accepted net → (i : ℕ) → look (net .marks) i ≡ 0
   no-site-is-marked net e i = cases (decLt i (length (net .names))) of-a-site
       (λ past. List·getD-eq-default (net .marks) 0 (omega (arith, past, an-accepted-sheet-is-a-tree ed s net e .marks)))
     where
@@ -117,8 +117,8 @@ module _ (ed : Edition) (s : List ℕ) where
 
   -- so a sheet was refused with 2 at its first `T` line, if for nothing above
   pub a-sheet-was-refused-at-its-first-mark : 1 ≤ length s → length s ≤ ed .bytes → (k at : ℕ) (net : Network) → FirstMark ed s k at net
-      → readSheetBy kindUnmarked lookup ed s ≡ refused 2 k
-  unfolding readSheetBy andThen
+      → readAsBy kindUnmarked lookup ed s ≡ refused 2 k
+  unfolding readAsBy andThen
   a-sheet-was-refused-at-its-first-mark some few k at net h =
       rw (le-leb 1 (length s) some, le-leb (length s) (ed .bytes) few) (by (lines-above (h .reached) (h .first)))
     where

@@ -7,29 +7,29 @@ use lib.ListN.{List·getD-eq-default, List·getD-map}
 use Rattle.model.specs.Limits.{SITES}
 use Rattle.lists.specs.Numbers.{look}
 use Rattle.model.specs.declared.Edition.{Edition}
-use Rattle.sheet.specs.Sheet.{Read, refused, accepted, readSheet, rangeIn, nameRange}
+use Rattle.sheet.specs.Sheet.{Read, refused, accepted, editionOf, readSheet, rangeIn, nameRange}
 use Rattle.sheet.specs.Reading.{lists, reading}
 use Rattle.sheet.specs.ListLaws.{look-padded}
 use Rattle.sheet.specs.SheetTheorem.{an-accepted-sheet-is-a-tree}
 
 -- number 0 is no site
-pub no-site-zero : (ed : Edition) (s : List ℕ) → nameRange ed s 0 ≡ (0, 0)
+pub no-site-zero : (known : List Edition) (s : List ℕ) → nameRange known s 0 ≡ (0, 0)
 unfolding nameRange rangeIn
-no-site-zero ed s = by (readSheet ed s)
+no-site-zero known s = by (readSheet known s)
   where
     by : (r : Read) → rangeIn 0 r ≡ (0, 0)
     by (refused n k) = refl
     by (accepted net) = refl
 
 -- nor is a number above the limit
-pub no-site-above : (ed : Edition) (s : List ℕ) (k : ℕ) → ed .sites < k → nameRange ed s k ≡ (0, 0)
+pub no-site-above : (known : List Edition) (s : List ℕ) (k : ℕ) → editionOf known s .sites < k → nameRange known s k ≡ (0, 0)
 unfolding nameRange rangeIn
-no-site-above ed s zero h = no-site-zero ed s
-no-site-above ed s (suc k) h = by (readSheet ed s) refl
+no-site-above known s zero h = no-site-zero known s
+no-site-above known s (suc k) h = by (readSheet known s) refl
   where
-    by : (r : Read) → readSheet ed s ≡ r → rangeIn (suc k) r ≡ (0, 0)
+    by : (r : Read) → readSheet known s ≡ r → rangeIn (suc k) r ≡ (0, 0)
     by (refused n l) e = refl
-    by (accepted net) e = List·getD-eq-default (net .names) (0, 0) (omega (arith, an-accepted-sheet-is-a-tree ed s net e .few))
+    by (accepted net) e = List·getD-eq-default (net .names) (0, 0) (omega (arith, an-accepted-sheet-is-a-tree (editionOf known s) s net e .few))
 
 -- the lists of the answer give the range of a site's name
 pub range-by-lists : (r : Read) (i : ℕ) → (look (reading r .network .start) i, look (reading r .network .end) i) ≡ rangeIn (suc i) r

@@ -16,7 +16,7 @@ use Rattle.model.specs.Flows.{joined}
 use Rattle.model.specs.Text.{bytes}
 use Rattle.model.specs.declared.Edition.{Edition}
 use Rattle.text_lines.specs.Lines.{lineLength, lineAt}
-use Rattle.sheet_kinds.specs.LineKinds.{field, mark, usableSize, IsSite, kind}
+use Rattle.sheet_kinds.specs.LineKinds.{field, isHeading, mark, usableSize, IsSite, kind}
 use Rattle.sheet_kinds.specs.LineKindLaws.{a-mark-tells-its-letter, no-mark-tells-its-letter}
 use Rattle.sheet_kinds.specs.KindForms.{LinkWithin, Tells, a-kind-tells-its-form}
 use Rattle.sheet_kinds.specs.declared.Line.{Line}
@@ -24,7 +24,7 @@ use Rattle.sheet_kinds.specs.declared.Line.the-variants as line
 use Rattle.sheet_names.specs.declared.Found.{Found}
 use Rattle.sheet_names.specs.declared.Found.the-variants.{At, Absent}
 use Rattle.sheet.specs.Sheet.{Network, withSite, withLink, accepted, part, lookup, siteBy, siteStep, linkStep, headingStep, recordStep, stepOf}
-use Rattle.sheet.specs.Sheet.{added, readLine, readSheet}
+use Rattle.sheet.specs.Sheet.{added, readLine, readAs}
 use Rattle.sheet.specs.Causes.{Named, fieldsAt, Reached, start, next}
 use Rattle.sheet.specs.CauseLaws.{Finds, finds, firstName, a-site-is-looked-up-by-field-1}
 use Rattle.sheet.specs.CauseLaws.{a-link-is-looked-up-by-field-1, a-link-is-looked-up-by-field-2}
@@ -101,31 +101,28 @@ module _ (ed : Edition) (s : List ℕ) (net : Network) (k at : ℕ) where
       by (At a) p Absent q = tt
       by (At a) p (At b) q = either (eqb (joined (net .links) a b) 1) a b p q
 
-  heading-adds : (w : Line) → Adds (headingStep w)
-  unfolding headingStep
-  heading-adds line.Heading = tt
-  heading-adds (line.Site a e m) = tt
-  heading-adds (line.Link a e b f size) = tt
-  heading-adds (line.Fault n) = tt
+  heading-adds : (t : Bool) → Adds (cond t Nothing (Refused 2 1))
+  heading-adds true = tt
+  heading-adds false = tt
 
   record-adds : (w : Line) → Tells (ed .size) (lineAt s at) w → Adds (recordStep ed s net k at w)
   unfolding recordStep
-  record-adds line.Heading form = tt
-  record-adds (line.Site a e m) form = subst (λ w. Adds (recordStep ed s net k at w)) (sym (form .2)) (site-adds (form .1) _)
+  record-adds (line.Site a e m) form = subst (λ w. Adds (recordStep ed s net k at w)) (sym (form .1)) (site-adds (form .0) _)
   record-adds (line.Link a e b f size) form =
-      let is = form .1 .link in
-      subst (λ w. Adds (recordStep ed s net k at w)) (sym (form .2))
-      (rw (a-link-is-looked-up-by-field-1 s at is, a-link-is-looked-up-by-field-2 s at is) (link-adds (form .1)))
+      let is = form .0 .link in
+      subst (λ w. Adds (recordStep ed s net k at w)) (sym (form .1))
+      (rw (a-link-is-looked-up-by-field-1 s at is, a-link-is-looked-up-by-field-2 s at is) (link-adds (form .0)))
   record-adds (line.Fault n) form = tt
 
   step-adds : Adds (stepOf ed s net k at)
-  unfolding stepOf
+  unfolding stepOf headingStep
   step-adds =
       by (ltb (at + lineLength (drop at s)) (length s)) (eqb k 1) (kind (ed .size) (lineAt s at)) (a-kind-tells-its-form (ed .size) (lineAt s at))
     where
-      by : (t u : Bool) (w : Line) → Tells (ed .size) (lineAt s at) w → Adds (cond t (cond u (headingStep w) (recordStep ed s net k at w)) (Refused 2 k))
+      by : (t u : Bool) (w : Line) → Tells (ed .size) (lineAt s at) w 
+          → Adds (cond t (cond u (headingStep ed (lineAt s at)) (recordStep ed s net k at w)) (Refused 2 k))
       by false u w form = tt
-      by true true w form = heading-adds w
+      by true true w form = heading-adds (isHeading (ed .digit) (fieldsAt s at))
       by true false w form = record-adds w form
 
   -- a line that is read adds no site, or its own, with its name and its mark
@@ -205,12 +202,12 @@ module _ (ed : Edition) (s : List ℕ) where
       by lines (one-site-more is p q) = rw (p, q) (with-one-more (OwnLine ed s) (net .names) (net .marks) lines (firstName s at) _ (own is))
 
   -- the name of each site of an accepted sheet stands on its own `N` or `T` line
-  pub a-name-stands-on-its-own-line : (net : Network) → readSheet ed s ≡ accepted net → (i : ℕ) → i < length (net .names)
+  pub a-name-stands-on-its-own-line : (net : Network) → readAs ed s ≡ accepted net → (i : ℕ) → i < length (net .names)
       → OwnLine ed s i (getD (net .names) i (0, 0)) (look (net .marks) i)
   a-name-stands-on-its-own-line net e = own-lines (an-accepted-sheet-is-read-to-its-end ed s net e .2) .1
 
   -- a site of an accepted sheet is marked just where its own line has the letter `T`, and else the letter is `N` (02, Card 7)
-  pub a-site-is-marked-just-by-its-letter : (net : Network) (e : readSheet ed s ≡ accepted net) (i : ℕ) (l : i < length (net .names))
+  pub a-site-is-marked-just-by-its-letter : (net : Network) (e : readAs ed s ≡ accepted net) (i : ℕ) (l : i < length (net .names))
       → let fs = fieldsAt s (a-name-stands-on-its-own-line net e i l .offset) in
       ((look (net .marks) i ≡ 1) ↔ (field fs 0 ≡ bytes "T")) × ((look (net .marks) i ≡ 0) ↔ (field fs 0 ≡ bytes "N"))
   a-site-is-marked-just-by-its-letter net e i l =
@@ -231,6 +228,6 @@ module _ (ed : Edition) (s : List ℕ) where
           (record { number = k; offset = at; above = net; reached = r; links = refl; line = line }))
 
   -- each link of an accepted sheet stands on its own `L` line, and its capacity is the usable size there
-  pub a-link-stands-on-its-own-line : (net : Network) → readSheet ed s ≡ accepted net → (j : ℕ) → j < length (net .links)
+  pub a-link-stands-on-its-own-line : (net : Network) → readAs ed s ≡ accepted net → (j : ℕ) → j < length (net .links)
       → OwnLinkLine ed s j (getD (net .links) j (0, 0)) (look (net .capacities) j)
   a-link-stands-on-its-own-line net e = own-links (an-accepted-sheet-is-read-to-its-end ed s net e .2) .1

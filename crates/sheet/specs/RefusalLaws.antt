@@ -18,7 +18,7 @@ use Rattle.theory_trees.specs.Labels.{joined-iff}
 use Rattle.text_lines.specs.Lines.{afterLine, hasLine}
 use Rattle.text_lines.specs.LineLaws.{after-line-is-later}
 use Rattle.sheet_kinds.specs.LineKindLaws.{both}
-use Rattle.sheet.specs.Sheet.{Network, empty, Read, refused, accepted, readLine, andThen, readLines, allJoined, finish, readSheet}
+use Rattle.sheet.specs.Sheet.{Network, empty, Read, refused, accepted, readLine, andThen, readLines, allJoined, finish, readAs}
 use Rattle.sheet.specs.Sound.{Sound, Accepts, none-is-sound, a-line-keeps-sound, after-within}
 use Rattle.sheet.specs.ReadLaws.{lines-end, lines-step}
 use Rattle.sheet.specs.Causes.{Cause, Reached, start, next, Refusal, by-length, by-line, by-whole}
@@ -113,8 +113,8 @@ module _ (ed : Edition) (s : List ℕ) where
     lines-right (refused n k) h = by-line some few (h .2) (h .3) (h .4)
     lines-right (accepted net) h = finish-right (h .0) (h .1) net (h .2) (h .3)
 
-  sheet-right : Right (readSheet ed s)
-  unfolding readSheet
+  sheet-right : Right (readAs ed s)
+  unfolding readAs
   sheet-right = by (leb 1 (length s)) refl (leb (length s) (ed .bytes)) refl
     where
       by : (t : Bool) → leb 1 (length s) ≡ t → (u : Bool) → leb (length s) (ed .bytes) ≡ u
@@ -124,15 +124,15 @@ module _ (ed : Edition) (s : List ℕ) where
       by true e false f = by-length (inr (leb-false _ _ f))
       by false e u f = by-length (inl (omega (arith, leb-false 1 (length s) e)))
 
-  pub a-refused-sheet-has-its-cause : (n k : ℕ) → readSheet ed s ≡ refused n k → Refusal ed s n k
+  pub a-refused-sheet-has-its-cause : (n k : ℕ) → readAs ed s ≡ refused n k → Refusal ed s n k
   a-refused-sheet-has-its-cause n k e = subst Right e sheet-right
 
-  pub an-accepted-sheet-is-read-to-its-end : (net : Network) → readSheet ed s ≡ accepted net
+  pub an-accepted-sheet-is-read-to-its-end : (net : Network) → readAs ed s ≡ accepted net
       → (k : ℕ) × (at : ℕ) × Reached ed s k at net × (length s ≤ at)
   an-accepted-sheet-is-read-to-its-end net e = subst Right e sheet-right
 
-  lines-decide : 1 ≤ length s → length s ≤ ed .bytes → readSheet ed s ≡ andThen (readLines ed s (length s) 1 0 empty) finish
-  unfolding readSheet
+  lines-decide : 1 ≤ length s → length s ≤ ed .bytes → readAs ed s ≡ andThen (readLines ed s (length s) 1 0 empty) finish
+  unfolding readAs
   lines-decide some few = rw (le-leb 1 (length s) some, le-leb (length s) (ed .bytes) few)
 
   not-whole : (net : Network) → (length (net .names) < 2) ⊎ ((x : ℕ) × Site (length (net .names)) x × (¬ (Joined (net .links) 1 x))) → finish net ≡ refused 8 0
@@ -145,8 +145,8 @@ module _ (ed : Edition) (s : List ℕ) where
       by true e = absurd (w .2 (all-joined (net .links) (length (net .names)) e (w .0) (w .1)))
       by false e = rw and-false
 
-  pub a-cause-refuses-its-sheet : (n k : ℕ) → Refusal ed s n k → readSheet ed s ≡ refused n k
-  unfolding readSheet andThen
+  pub a-cause-refuses-its-sheet : (n k : ℕ) → Refusal ed s n k → readAs ed s ≡ refused n k
+  unfolding readAs andThen
   a-cause-refuses-its-sheet n k (by-length (inl e)) = rw (lt-leb 1 (length s) (omega arith))
   a-cause-refuses-its-sheet n k (by-length (inr h)) = rw (le-leb 1 (length s) (omega arith), lt-leb (length s) (ed .bytes) h)
   a-cause-refuses-its-sheet n k (by-line {at = at} {net = net} some few q h c) =

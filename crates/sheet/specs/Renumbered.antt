@@ -9,7 +9,7 @@ use lib.ListN.{length, drop}
 use Rattle.model.specs.Flows.{sites, joined}
 use Rattle.model.specs.declared.Edition.{Edition}
 use Rattle.text_lines.specs.Lines.{lineLength, lineAt, afterLine, hasLine}
-use Rattle.sheet_kinds.specs.LineKinds.{kind}
+use Rattle.sheet_kinds.specs.LineKinds.{fields, isHeading, kind}
 unfoldable pub use Rattle.sheet_kinds.specs.Numbering.{numberBefore}
 use Rattle.sheet_kinds.specs.Numbering.{lineBefore, a-line-is-as-before}
 use Rattle.sheet_kinds.specs.declared.Line.{Line}
@@ -17,9 +17,9 @@ use Rattle.sheet_kinds.specs.declared.Line.the-variants as line
 use Rattle.sheet_names.specs.declared.Found.{Found}
 use Rattle.sheet_names.specs.declared.Found.the-variants.{At, Absent}
 use Rattle.sheet.specs.Sheet.{Network, empty, Read, refused, accepted, siteStep, siteBy, linkStep, headingStep, recordStep, stepOf, added, readLine}
-use Rattle.sheet.specs.Sheet.{andThen, readLines, allJoined, finish, readSheet, part, lookup}
+use Rattle.sheet.specs.Sheet.{andThen, readLines, allJoined, finish, readAs, part, lookup}
 use Rattle.sheet.specs.Alike.{a-sheet-is-read-alike}
-use Rattle.sheet.specs.Earlier.{kindBefore, recordBy, record-by-the-look-up, stepBy, readLinesBy, readSheetBy}
+use Rattle.sheet.specs.Earlier.{kindBefore, recordBy, record-by-the-look-up, stepBy, readLinesBy, readAsBy}
 use Rattle.sheet.specs.declared.stepping.Step.{Step}
 use Rattle.sheet.specs.declared.stepping.Step.the-variants.{Nothing, Site, Link, Refused}
 
@@ -56,18 +56,18 @@ module _ (k : ℕ) (net : Network) (size : ℕ) where
       by true = refl
       by false = refl
 
-heading-before : (w : Line) → headingStep (lineBefore w) ≡ stepBefore (headingStep w)
+heading-before : (ed : Edition) (l : List ℕ) → headingStep ed l ≡ stepBefore (headingStep ed l)
 unfolding headingStep numberBefore
-heading-before line.Heading = refl
-heading-before (line.Site a e m) = refl
-heading-before (line.Link a e b f size) = refl
-heading-before (line.Fault n) = refl
+heading-before ed l = by (isHeading (ed .digit) (fields l))
+  where
+    by : (t : Bool) → cond t Nothing (Refused 2 1) ≡ stepBefore (cond t Nothing (Refused 2 1))
+    by true = refl
+    by false = refl
 
 module _ (ed : Edition) (s : List ℕ) where
   module _ (net : Network) (k at : ℕ) where
     record-before : (w : Line) → recordStep ed s net k at (lineBefore w) ≡ stepBefore (recordStep ed s net k at w)
     unfolding recordStep numberBefore
-    record-before line.Heading = refl
     record-before (line.Site a e m) = sym (site-stays ed k (length (net .names)) _ m (lookup s (net .names) (part s (at + a, at + e))))
     record-before (line.Link a e b f size) = sym (link-stays k net size _ _)
     record-before (line.Fault n) = refl
@@ -78,9 +78,10 @@ module _ (ed : Edition) (s : List ℕ) where
         rw (a-line-is-as-before (ed .size) (lineAt s at))
         (by (ltb (at + lineLength (drop at s)) (length s)) (eqb k 1) (kind (ed .size) (lineAt s at)))
       where
-        by : (t u : Bool) (w : Line) → cond t (cond u (headingStep (lineBefore w)) (recordBy lookup ed s net k at (lineBefore w))) (Refused 2 k)
-            ≡ stepBefore (cond t (cond u (headingStep w) (recordStep ed s net k at w)) (Refused 2 k))
-        by true true w = heading-before w
+        by : (t u : Bool) (w : Line) → let first = headingStep ed (lineAt s at) in
+            cond t (cond u first (recordBy lookup ed s net k at (lineBefore w))) (Refused 2 k)
+            ≡ stepBefore (cond t (cond u first (recordStep ed s net k at w)) (Refused 2 k))
+        by true true w = heading-before ed (lineAt s at)
         by true false w = record-by-the-look-up ed s net k at (lineBefore w) ∙ record-before w
         by false u w = refl
 
@@ -120,14 +121,14 @@ module _ (ed : Edition) (s : List ℕ) where
       by false = refl
 
   -- today's reading is the one by today's kinds of lines and look-up
-  pub a-sheet-is-read-by-its-kinds : readSheetBy kind lookup ed s ≡ readSheet ed s
+  pub a-sheet-is-read-by-its-kinds : readAsBy kind lookup ed s ≡ readAs ed s
   unfolding stepBy stepOf
   a-sheet-is-read-by-its-kinds =
       a-sheet-is-read-alike kind lookup ed s (λ k at net r. rw (record-by-the-look-up ed s net k at (kind (ed .size) (lineAt s at))))
 
   -- what was 2 before is one of 2, 10, 11, 12 now, at the same line, and everything else is as it was
-  pub a-sheet-is-read-as-before : readSheetBy kindBefore lookup ed s ≡ readBefore (readSheet ed s)
-  unfolding readSheetBy readSheet numberBefore
+  pub a-sheet-is-read-as-before : readAsBy kindBefore lookup ed s ≡ readBefore (readAs ed s)
+  unfolding readAsBy readAs numberBefore
   a-sheet-is-read-as-before =
       either (leb 1 (length s) && leb (length s) (ed .bytes)) _ (andThen (readLines ed s (length s) 1 0 empty) finish) (refused 1 0)
       (rw (lines-before (length s) 1 0 empty) (then-before (readLines ed s (length s) 1 0 empty) finish finish finish-stays))

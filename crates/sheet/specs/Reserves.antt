@@ -11,8 +11,8 @@ use Rattle.text_lines.specs.Lines.{lineAt}
 use Rattle.sheet_kinds.specs.LineKinds.{field, kind}
 use Rattle.sheet_kinds.specs.Unmarked.{a-line-without-mark-is-as-before}
 use Rattle.sheet_kinds.specs.Unreserved.{a-line-without-reserve-is-as-before}
-use Rattle.sheet.specs.Sheet.{Network, stepOf, readSheet, lookup}
-use Rattle.sheet.specs.Earlier.{kindUnreserved, record-by-the-look-up, stepBy, readSheetBy}
+use Rattle.sheet.specs.Sheet.{Network, stepOf, readAs, lookup}
+use Rattle.sheet.specs.Earlier.{kindUnreserved, record-by-the-look-up, stepBy, readAsBy}
 use Rattle.sheet.specs.Alike.{offset, placed, a-sheet-is-read-alike}
 use Rattle.sheet.specs.Causes.{fieldsAt, Reached}
 use Rattle.sheet.specs.Marks.{WithoutMarks, another-letter}
@@ -33,5 +33,5 @@ module _ (ed : Edition) (s : List ℕ) (none : WithoutReserves s) (unmarked : Wi
       )
 
   -- a sheet without reserves and marks is read as it was
-  pub a-sheet-without-reserves-is-read-as-before : readSheetBy kindUnreserved lookup ed s ≡ readSheet ed s
+  pub a-sheet-without-reserves-is-read-as-before : readAsBy kindUnreserved lookup ed s ≡ readAs ed s
   a-sheet-without-reserves-is-read-as-before = a-sheet-is-read-alike kindUnreserved lookup ed s step-alike

@@ -1,14 +1,15 @@
 -- The network sheet: from its bytes to the network and the names, or to the number and line of its refusal.
--- Document 01, "The network sheet"; 02, Card 7 (marks). What a line by itself is stands in `LineKinds`.
+-- Document 01, "The network sheet"; 02, Card 7 (marks), Card 8 (editions). What a line by itself is stands in `LineKinds`.
 use mathlib.Core.Bool.{Bool, true, cond, _&&_}
 use mathlib.Core.List.{List, [], _∷_, _++_}
 use Prim.Native.Nat.{ℕ, zero, suc, _+_}
 use lib.Dec.{eqb, leb, ltb}
 use lib.ListN.{length, getD, drop}
 use Rattle.model.specs.Flows.{Links, sites, ends, joined}
+use Rattle.model.specs.Edition.{edition1}
 use Rattle.model.specs.declared.Edition.{Edition}
 use Rattle.text_lines.specs.Lines.{lineLength, lineAt, afterLine, hasLine}
-use Rattle.sheet_kinds.specs.LineKinds.{kind}
+use Rattle.sheet_kinds.specs.LineKinds.{fields, isHeading, kind}
 use Rattle.sheet_kinds.specs.declared.Line.{Line}
 use Rattle.sheet_kinds.specs.declared.Line.the-variants as line
 use Rattle.sheet_names.specs.declared.Found.{Found}
@@ -73,16 +74,12 @@ linkStep k ls size Absent w = Refused 6 k
 linkStep k ls size (At a) Absent = Refused 6 k
 linkStep k ls size (At a) (At b) = cond (eqb (joined ls a b) 1) (Refused 7 k) (Link a b size)
 
--- line 1 is the heading
-unfoldable pub headingStep : Line → Step
-headingStep line.Heading = Nothing
-headingStep (line.Site a e m) = Refused 2 1
-headingStep (line.Link a e b f size) = Refused 2 1
-headingStep (line.Fault n) = Refused 2 1
+-- line 1 is the edition's heading
+unfoldable pub headingStep : Edition → List ℕ → Step
+headingStep ed l = cond (isHeading (ed .digit) (fields l)) Nothing (Refused 2 1)
 
 -- a later line is a site or a link
 unfoldable pub recordStep : Edition → List ℕ → Network → ℕ → ℕ → Line → Step
-recordStep ed s net k at line.Heading = Refused 2 k
 recordStep ed s net k at (line.Site a e m) = siteStep ed k (length (net .names)) (at + a, at + e) m (lookup s (net .names) (part s (at + a, at + e)))
 recordStep ed s net k at (line.Link a e b f size) =
     linkStep k (net .links) size (lookup s (net .names) (part s (at + a, at + e))) (lookup s (net .names) (part s (at + b, at + f)))
@@ -91,9 +88,9 @@ recordStep ed s net k at (line.Fault n) = Refused n k
 -- 2 for a line that no byte 10 ends, before any other fault
 unfoldable pub stepOf : Edition → List ℕ → Network → ℕ → ℕ → Step
 stepOf ed s net k at =
-    let line = kind (ed .size) (lineAt s at) in
+    let line = lineAt s at in
     cond (ltb (at + lineLength (drop at s)) (length s))
-    (cond (eqb k 1) (headingStep line) (recordStep ed s net k at line))
+    (cond (eqb k 1) (headingStep ed line) (recordStep ed s net k at (kind (ed .size) line)))
     (Refused 2 k)
 
 -- the network with what a line adds, or its refusal
@@ -133,10 +130,22 @@ finish net =
     let n = length (net .names) in
     cond (leb 2 n && allJoined (net .links) (sites n)) (accepted net) (refused 8 0)
 
--- a sheet read: 1 where it has no bytes or more than the edition allows, before anything else
-unfoldable pub readSheet : Edition → List ℕ → Read
-readSheet ed s =
+-- a sheet read as one of an edition: 1 where it has no bytes or more than the edition allows, before anything else
+unfoldable pub readAs : Edition → List ℕ → Read
+readAs ed s =
     cond (leb 1 (length s) && leb (length s) (ed .bytes)) (andThen (readLines ed s (length s) 1 0 empty) finish) (refused 1 0)
+
+-- ---- its edition
+
+-- the edition of a sheet, of those that are known: the one whose heading is line 1. Any other sheet is measured by edition 1, which every planner knows (02,
+-- Card 8)
+unfoldable pub editionOf : List Edition → List ℕ → Edition
+editionOf [] s = edition1
+editionOf (ed ∷ known) s = cond (isHeading (ed .digit) (fields (lineAt s 0))) ed (editionOf known s)
+
+-- a sheet read by a planner that knows some editions: as one of its edition, which line 1 chooses before anything else
+abbrev pub readSheet : List Edition → List ℕ → Read
+readSheet known s = readAs (editionOf known s) s
 
 -- ---- its ends
 
@@ -153,9 +162,9 @@ rangeIn k (refused n l) = (0, 0)
 rangeIn zero (accepted net) = (0, 0)
 rangeIn (suc k) (accepted net) = getD (net .names) k (0, 0)
 
-unfoldable pub nameRange : Edition → List ℕ → ℕ → ℕ × ℕ
-nameRange ed s k = rangeIn k (readSheet ed s)
+unfoldable pub nameRange : List Edition → List ℕ → ℕ → ℕ × ℕ
+nameRange known s k = rangeIn k (readSheet known s)
 
 -- the bytes of that name
-abbrev pub nameOf : Edition → List ℕ → ℕ → List ℕ
-nameOf ed s k = part s (nameRange ed s k)
+abbrev pub nameOf : List Edition → List ℕ → ℕ → List ℕ
+nameOf known s k = part s (nameRange known s k)

@@ -16,7 +16,7 @@ use Rattle.theory_trees.specs.Labels.{joined-label}
 use Rattle.theory_trees.specs.Fresh.{joined-reversed, fresh-links-make-a-tree, tree-reversed}
 use Rattle.text_fields.specs.Fields.{SameName}
 use Rattle.sheet_kinds.specs.LineKindLaws.{both}
-use Rattle.sheet.specs.Sheet.{Network, empty, Read, refused, accepted, readLines, allJoined, finish, andThen, readSheet}
+use Rattle.sheet.specs.Sheet.{Network, empty, Read, refused, accepted, readLines, allJoined, finish, andThen, readAs}
 use Rattle.sheet_names.specs.Names.{nameAt}
 use Rattle.sheet.specs.ReadLaws.{enough-fuel}
 use Rattle.sheet.specs.Causes.{Refusal}
@@ -65,8 +65,8 @@ finish-gives-a-network ed s net sound = by (leb 2 (length (net .names)) && allJo
           different = sound .different;
         }
 
-sheet-gives-a-network : (ed : Edition) (s : List ℕ) → Accepts (IsNetwork ed s) (readSheet ed s)
-unfolding readSheet
+sheet-gives-a-network : (ed : Edition) (s : List ℕ) → Accepts (IsNetwork ed s) (readAs ed s)
+unfolding readAs
 sheet-gives-a-network ed s = by (leb 1 (length s) && leb (length s) (ed .bytes)) (andThen (readLines ed s (length s) 1 0 empty) finish)
     (goes-on (Sound ed s) (IsNetwork ed s) (readLines ed s (length s) 1 0 empty) finish
     (lines-keep-sound ed s (length s) 1 0 empty (omega arith) (none-is-sound ed s))
@@ -77,18 +77,18 @@ sheet-gives-a-network ed s = by (leb 1 (length s) && leb (length s) (ed .bytes))
     by false r h = tt
 
 -- an accepted sheet gives a network: a tree within the limits (01: so no caller needs to doubt it)
-pub an-accepted-sheet-is-a-tree : (ed : Edition) (s : List ℕ) (net : Network) → readSheet ed s ≡ accepted net → IsNetwork ed s net
+pub an-accepted-sheet-is-a-tree : (ed : Edition) (s : List ℕ) (net : Network) → readAs ed s ≡ accepted net → IsNetwork ed s net
 an-accepted-sheet-is-a-tree ed s net e = subst (Accepts (IsNetwork ed s)) e (sheet-gives-a-network ed s)
 
 -- each number comes for its cause and for no other (01)
-pub a-sheet-is-refused-for-its-cause : (ed : Edition) (s : List ℕ) (n k : ℕ) → (readSheet ed s ≡ refused n k) ↔ Refusal ed s n k
+pub a-sheet-is-refused-for-its-cause : (ed : Edition) (s : List ℕ) (n k : ℕ) → (readAs ed s ≡ refused n k) ↔ Refusal ed s n k
 a-sheet-is-refused-for-its-cause ed s n k = (a-refused-sheet-has-its-cause ed s n k, a-cause-refuses-its-sheet ed s n k)
 
 -- so a sheet without these causes is accepted (01)
-pub a-sheet-without-causes-is-accepted : (ed : Edition) (s : List ℕ) → ((n k : ℕ) → ¬ (Refusal ed s n k)) → (net : Network) × (readSheet ed s ≡ accepted net)
-a-sheet-without-causes-is-accepted ed s none = by (readSheet ed s) refl
+pub a-sheet-without-causes-is-accepted : (ed : Edition) (s : List ℕ) → ((n k : ℕ) → ¬ (Refusal ed s n k)) → (net : Network) × (readAs ed s ≡ accepted net)
+a-sheet-without-causes-is-accepted ed s none = by (readAs ed s) refl
   where
-    by : (r : Read) → readSheet ed s ≡ r → (net : Network) × (r ≡ accepted net)
+    by : (r : Read) → readAs ed s ≡ r → (net : Network) × (r ≡ accepted net)
     by (refused n k) e = absurd (none n k (a-refused-sheet-has-its-cause ed s n k e))
     by (accepted net) e = (net, refl)
 

@@ -19,7 +19,7 @@ use Rattle.theory_trees.specs.Fresh.{joined-reversed}
 use Rattle.text_lines.specs.Lines.{lineLength, lineAt, afterLine, hasLine}
 use Rattle.text_lines.specs.LineLaws.{line-and-what-follows, line-stays-on-sheet}
 use Rattle.text_fields.specs.Fields.{SameName}
-use Rattle.sheet_kinds.specs.LineKinds.{isName, kind}
+use Rattle.sheet_kinds.specs.LineKinds.{fields, isName, isHeading, kind}
 use Rattle.sheet_kinds.specs.FormedLines.{Formed, kinds-are-formed}
 use Rattle.sheet_kinds.specs.declared.Line.{Line}
 use Rattle.sheet_kinds.specs.declared.Line.the-variants as line
@@ -30,7 +30,7 @@ use Rattle.sheet_names.specs.declared.Found.{Found}
 use Rattle.sheet_names.specs.declared.Found.the-variants.{At, Absent}
 use Rattle.sheet.specs.Sheet.{Network, empty, Read, refused, accepted, part, lookup, siteBy, siteStep, linkStep, headingStep, recordStep, stepOf, added}
 use Rattle.sheet.specs.Sheet.{withSite, withLink, readLine, andThen, readLines}
-use Rattle.sheet.specs.declared.stepping.Step.the-variants.{Link, Refused}
+use Rattle.sheet.specs.declared.stepping.Step.the-variants.{Nothing, Link, Refused}
 
 -- a range of the sheet that holds a name
 pub record IsNameRange (s : List ℕ) (r : ℕ × ℕ) : Type 0 where
@@ -151,22 +151,19 @@ module _ (ed : Edition) (s : List ℕ) (net : Network) (k : ℕ) (sound : Sound 
   a-line-keeps-sound at b =
       by (ltb (at + lineLength (drop at s)) (length s)) (eqb k 1) (kind (ed .size) (lineAt s at)) (kinds-are-formed (ed .size) (lineAt s at))
     where
-      heading : (w : Line) → Accepts (Sound ed s) (added net (headingStep w))
-      heading line.Heading = sound
-      heading (line.Site a e m) = tt
-      heading (line.Link a e c f size) = tt
-      heading (line.Fault n) = tt
+      heading : (t : Bool) → Accepts (Sound ed s) (added net (cond t Nothing (Refused 2 1)))
+      heading true = sound
+      heading false = tt
 
       later : (w : Line) → Formed (ed .size) (lineAt s at) w → Accepts (Sound ed s) (added net (recordStep ed s net k at w))
-      later line.Heading h = tt
       later (line.Site a e m) h = site-line (at + a, at + e) (line-name s at a e b (h .0) (h .1) (h .2)) m (h .3)
       later (line.Link a e c f size) h = link-line (at + a, at + e) (at + c, at + f) size (h .4)
       later (line.Fault n) h = tt
 
       by : (t u : Bool) (w : Line) → Formed (ed .size) (lineAt s at) w
-          → Accepts (Sound ed s) (added net (cond t (cond u (headingStep w) (recordStep ed s net k at w)) (Refused 2 k)))
+          → Accepts (Sound ed s) (added net (cond t (cond u (headingStep ed (lineAt s at)) (recordStep ed s net k at w)) (Refused 2 k)))
       by false u w h = tt
-      by true true w h = heading w
+      by true true w h = heading (isHeading (ed .digit) (fields (lineAt s at)))
       by true false w h = later w h
 
 -- ---- the lines

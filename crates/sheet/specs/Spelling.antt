@@ -18,8 +18,8 @@ use Rattle.sheet_kinds.specs.KindForms.{Tells, a-kind-tells-its-form}
 use Rattle.sheet_kinds.specs.declared.Line.{Line}
 use Rattle.sheet_kinds.specs.declared.Line.the-variants as line
 use Rattle.sheet_names.specs.Names.{nameAt}
-use Rattle.sheet.specs.Sheet.{Network, recordStep, stepOf, readSheet, part, lookup, lookupFrom}
-use Rattle.sheet.specs.Earlier.{lookupBytes, lookupBytesFrom, recordBy, stepBy, readSheetBy}
+use Rattle.sheet.specs.Sheet.{Network, recordStep, stepOf, readAs, part, lookup, lookupFrom}
+use Rattle.sheet.specs.Earlier.{lookupBytes, lookupBytesFrom, recordBy, stepBy, readAsBy}
 use Rattle.sheet.specs.Alike.{offset, placed, a-sheet-is-read-alike}
 use Rattle.sheet.specs.Causes.{fieldsAt, Reached}
 use Rattle.sheet.specs.CauseLaws.{firstName, secondName, a-site-is-looked-up-by-field-1, a-link-is-looked-up-by-field-1, a-link-is-looked-up-by-field-2}
@@ -104,11 +104,10 @@ module _ (ed : Edition) (s : List ℕ) (alike : SpeltAlike s) where
 
     record-alike : (w : Line) → Tells (ed .size) (lineAt s at) w → recordBy lookupBytes ed s net k at w ≡ recordStep ed s net k at w
     unfolding recordBy recordStep
-    record-alike line.Heading form = refl
     record-alike (line.Site a e m) form =
-        subst (λ w. recordBy lookupBytes ed s net k at w ≡ recordStep ed s net k at w) (sym (form .2)) (site-alike (form .1) _)
+        subst (λ w. recordBy lookupBytes ed s net k at w ≡ recordStep ed s net k at w) (sym (form .1)) (site-alike (form .0) _)
     record-alike (line.Link a e b f size) form =
-        subst (λ w. recordBy lookupBytes ed s net k at w ≡ recordStep ed s net k at w) (sym (form .2)) (link-alike (form .1 .link) _)
+        subst (λ w. recordBy lookupBytes ed s net k at w ≡ recordStep ed s net k at w) (sym (form .1)) (link-alike (form .0 .link) _)
     record-alike (line.Fault n) form = refl
 
     step-alike : stepBy kind lookupBytes ed s net k at ≡ stepOf ed s net k at
@@ -116,5 +115,5 @@ module _ (ed : Edition) (s : List ℕ) (alike : SpeltAlike s) where
     step-alike = rw (record-alike (kind (ed .size) (lineAt s at)) (a-kind-tells-its-form (ed .size) (lineAt s at)))
 
   -- a sheet on which no two names differ in case alone is read as it was
-  pub a-sheet-spelt-alike-is-read-as-before : readSheetBy kind lookupBytes ed s ≡ readSheet ed s
+  pub a-sheet-spelt-alike-is-read-as-before : readAsBy kind lookupBytes ed s ≡ readAs ed s
   a-sheet-spelt-alike-is-read-as-before = a-sheet-is-read-alike kind lookupBytes ed s (λ k at net r. step-alike r)

@@ -22,7 +22,7 @@ module _ (ed : Edition) (s : List ℕ) (net : Network) (k at : ℕ) where
   unfolding stepOf
   unended-step h = rw (le-ltb (at + lineLength (drop at s)) (length s) (omega (arith, length-of-line s at)))
 
-  pub first-step : at + length (lineAt s at) < length s → k ≡ 1 → stepOf ed s net k at ≡ headingStep (kind (ed .size) (lineAt s at))
+  pub first-step : at + length (lineAt s at) < length s → k ≡ 1 → stepOf ed s net k at ≡ headingStep ed (lineAt s at)
   unfolding stepOf
   first-step h e = rw (lt-ltb (at + lineLength (drop at s)) (length s) (omega (arith, length-of-line s at)), eq-eqb k 1 e)
 

@@ -3,8 +3,8 @@ ghost use mathlib.Core.Path.{_≡_};
 ghost use Prim.Native.Nat.{_≤_};
 ghost use lib.ListN.{length};
 ghost use Rattle.model.specs.Limits.{SITES};
-ghost use Rattle.model.specs.Edition.{edition1};
-ghost use Rattle.sheet.specs.Sheet.{empty, refused, readLines, andThen, finish, readSheet, nameRange};
+ghost use Rattle.model.specs.Edition.{editions};
+ghost use Rattle.sheet.specs.Sheet.{empty, refused, readLines, andThen, finish, readAs, editionOf, readSheet, nameRange};
 ghost use Rattle.sheet_names.specs.Names.{IsPart};
 ghost use Rattle.sheet.specs.Reading.{lists, reading};
 
@@ -125,10 +125,10 @@ fn read_lines(sheet: &[u8], edition: Edition) -> Reading
     }
 }
 
-// A sheet of an edition read: its network, or its refusal (01: check 1 comes first).
-fn read_sheet(sheet: &[u8], edition: Edition) -> Reading
+// A sheet read as one of an edition: its network, or its refusal (01: check 1 comes first).
+fn read_as(sheet: &[u8], edition: Edition) -> Reading
     requires { ⌜ edition .sites ≤ SITES ⌝ }
-    ensures { λ r. ⌜ r ≡ reading (readSheet edition (now (sheet .entry))) ⌝ }
+    ensures { λ r. ⌜ r ≡ reading (readAs edition (now (sheet .entry))) ⌝ }
 {
     if sheet.len() < 1 {
         return refusal(1, 0);
@@ -139,26 +139,37 @@ fn read_sheet(sheet: &[u8], edition: Edition) -> Reading
     read_lines(sheet, edition)
 }
 
-// A sheet of the first edition read.
-pub fn read(sheet: &[u8]) -> Reading
-    ensures { λ r. ⌜ r ≡ reading (readSheet edition1 (now (sheet .entry))) ⌝ }
+// The edition of a sheet, by its line 1 (02, Card 8).
+fn edition_of(sheet: &[u8]) -> Edition
+    ensures { λ r. ⌜ r ≡ editionOf editions (now (sheet .entry)) ⌝ }
 {
-    read_sheet(sheet, Edition::first())
+    let second = Edition::second();
+    if sheet_kinds::is_heading(text_lines::line(sheet, 0), second.digit) {
+        return second;
+    }
+    Edition::first()
+}
+
+// A sheet read, as one of its edition.
+pub fn read(sheet: &[u8]) -> Reading
+    ensures { λ r. ⌜ r ≡ reading (readSheet editions (now (sheet .entry))) ⌝ }
+{
+    read_as(sheet, edition_of(sheet))
 }
 
 // The name of a site, by its number: the bytes of its own `N` or `T` line, that very part of the sheet; an empty part for a number without a site, or
 // over a sheet that is refused.
 pub fn name(sheet: &[u8], site: usize) -> &[u8]
-    ensures { λ r. ⌜ IsPart (sheet .entry) (nameRange edition1 (now (sheet .entry)) site) r ⌝ }
+    ensures { λ r. ⌜ IsPart (sheet .entry) (nameRange editions (now (sheet .entry)) site) r ⌝ }
 {
-    let edition = Edition::first();
+    let edition = edition_of(sheet);
     if site < 1 {
         return &sheet[0..0];
     }
     if site > edition.sites {
         return &sheet[0..0];
     }
-    let reading = read_sheet(sheet, edition);
+    let reading = read_as(sheet, edition);
     let network = reading.network;
     let i = site - 1;
     sheet_names::part(sheet, network.start[i], network.end[i])

@@ -79,25 +79,13 @@ fn link_step(here: usize, labels: &[u16; PLACES], first: Found, second: Found, s
 }
 
 // What line 1 adds.
-fn heading_step(line: Line) -> Step
-    ensures { λ r. ⌜ r ≡ headingStep line ⌝ }
+fn heading_step(edition: Edition, line: &[u8]) -> Step
+    ensures { λ r. ⌜ r ≡ headingStep edition (now (line .entry)) ⌝ }
 {
-    match line {
-        Line::Heading => Step::Nothing,
-        Line::Site {
-            start: _,
-            end: _,
-            mark: _,
-        } => Step::Refused { number: 2, line: 1 },
-        Line::Link {
-            start: _,
-            end: _,
-            start2: _,
-            end2: _,
-            size: _,
-        } => Step::Refused { number: 2, line: 1 },
-        Line::Fault(_) => Step::Refused { number: 2, line: 1 },
+    if sheet_kinds::is_heading(line, edition.digit) {
+        return Step::Nothing;
     }
+    Step::Refused { number: 2, line: 1 }
 }
 
 // What a later line adds, at an offset.
@@ -119,10 +107,6 @@ fn record_step(
         → r ≡ recordStep edition (now (sheet .entry)) net here at line) ⌝ }
 {
     match line {
-        Line::Heading => Step::Refused {
-            number: 2,
-            line: here,
-        },
         Line::Site { start, end, mark } => {
             let from = at + start;
             let to = at + end;
@@ -171,10 +155,10 @@ pub fn step_at<'a>(
             line: number,
         };
     }
-    let kind = sheet_kinds::classify(line, edition.size);
     if number == 1 {
-        return heading_step(kind);
+        return heading_step(edition, line);
     }
+    let kind = sheet_kinds::classify(line, edition.size);
     record_step(
         edition,
         number,

@@ -1,7 +1,7 @@
 -- When a line is a fault, each number just for its cause: 2 no known letter, 10 wrong number of fields, 11 bad name, 12 badly written number, in this order;
 -- then 3, a link whose size or reserve is above the limit; then 13, a link whose reserve is above its size. Document 02, Cards 1, 5 and 7.
--- By the first field: the letter chooses the form, and no heading has such a letter.
-use mathlib.Core.Bool.{Bool, true, false, cond, false≢true, and-false}
+-- By the first field: the letter chooses the form. A heading below line 1 has no known letter.
+use mathlib.Core.Bool.{Bool, true, false, cond, false≢true}
 use mathlib.Core.List.{List, [], _∷_}
 use mathlib.Core.Logic.{_⊎_, inl, inr, _↔_, _≢_}
 use mathlib.Core.Path.{_≡_, refl, sym, subst, _∙_}
@@ -15,17 +15,16 @@ use Rattle.text_grammar.specs.declared.Check.the-variants as check
 pub use Rattle.text_grammar.specs.Grammar.{WrongCount, BadName, BadNumber}
 use Rattle.text_grammar.specs.FormLaws.{another-letter}
 use Rattle.text_grammar.specs.RuleLaws as rule
-use Rattle.sheet_kinds.specs.LineKinds.{same, fields, field, isHeading, checked, faultOf, siteForm, plainForm, markedForm, linkForm, IsLink, judged}
+use Rattle.sheet_kinds.specs.LineKinds.{same, fields, field, checked, faultOf, siteForm, plainForm, markedForm, linkForm, IsLink, judged}
 use Rattle.sheet_kinds.specs.LineKinds.{siteLine, size, reserve, linkOf, sizedLink, linkLine, kindOf, kind}
 use Rattle.sheet_kinds.specs.LineKindLaws.{same-are-equal, equal-are-same, judged-cases, link-parts, capacity-cases, above-is-3, above-the-size-is-13}
 use Rattle.sheet_kinds.specs.declared.Line.{Line}
-use Rattle.sheet_kinds.specs.declared.Line.the-variants.{Heading, Site, Link, Fault}
+use Rattle.sheet_kinds.specs.declared.Line.the-variants.{Site, Link, Fault}
 
 -- ---- the causes
 
--- the first field is no known letter, and the line is no heading
+-- the first field is no known letter
 pub record NoLetter (l : List ℕ) : Type 0 where
-  pub no-heading : isHeading (fields l) ≡ false
   pub no-site : field (fields l) 0 ≢ bytes "N"
   pub no-marked-site : field (fields l) 0 ≢ bytes "T"
   pub no-link : field (fields l) 0 ≢ bytes "L"
@@ -58,35 +57,22 @@ pub data LineFault (most : ℕ) (l : List ℕ) : ℕ → Type 0 where
 module _ (most : ℕ) (l : List ℕ) where
   -- ---- the letter chooses the form
 
-  site-is-no-heading : field (fields l) 0 ≡ bytes "N" → isHeading (fields l) ≡ false
-  unfolding isHeading same
-  site-is-no-heading e = rw (e, and-false)
-
-  pub marked-site-is-no-heading : field (fields l) 0 ≡ bytes "T" → isHeading (fields l) ≡ false
-  unfolding isHeading same
-  marked-site-is-no-heading e = rw (e, and-false)
-
-  pub link-is-no-heading : field (fields l) 0 ≡ bytes "L" → isHeading (fields l) ≡ false
-  unfolding isHeading same
-  link-is-no-heading e = rw (e, and-false)
-
   -- a line that starts with `N` is judged as a site, one that starts with `T` as a marked site, and one that starts with `L` as a link
   pub kind-of-N : field (fields l) 0 ≡ bytes "N" → kind most l ≡ siteLine 78 0 (fields l)
   unfolding kind kindOf same
-  kind-of-N e = rw (site-is-no-heading e, e)
+  kind-of-N e = rw e
 
   pub kind-of-T : field (fields l) 0 ≡ bytes "T" → kind most l ≡ siteLine 84 1 (fields l)
   unfolding kind kindOf same
-  kind-of-T e = rw (marked-site-is-no-heading e, e)
+  kind-of-T e = rw e
 
   pub kind-of-L : field (fields l) 0 ≡ bytes "L" → kind most l ≡ linkLine most (fields l)
   unfolding kind kindOf same
-  kind-of-L e = rw (link-is-no-heading e, e)
+  kind-of-L e = rw e
 
   -- ---- a fault has its cause
 
   abbrev Right : Line → Type 0
-  Right Heading = Unit {0}
   Right (Site a e m) = Unit {0}
   Right (Link a e b f size) = Unit {0}
   Right (Fault n) = LineFault most l n
@@ -126,17 +112,15 @@ module _ (most : ℕ) (l : List ℕ) where
 
   right : Right (kind most l)
   unfolding kind kindOf linkLine
-  right = by (isHeading (fields l)) refl (same (field (fields l) 0) (bytes "L")) refl (same (field (fields l) 0) (bytes "T")) refl
+  right = by (same (field (fields l) 0) (bytes "L")) refl (same (field (fields l) 0) (bytes "T")) refl
     where
-      by : (t : Bool) → isHeading (fields l) ≡ t → (u : Bool) → same (field (fields l) 0) (bytes "L") ≡ u
-          → (v : Bool) → same (field (fields l) 0) (bytes "T") ≡ v → let fs = fields l in
-          Right (cond t Heading (cond u (linkLine most fs) (cond v (siteLine 84 1 fs) (siteLine 78 0 fs))))
-      by true other u e v f = tt
-      by false other true e v f = judged-cases Right (checked linkForm (fields l)) _ sized-right
+      by : (u : Bool) → same (field (fields l) 0) (bytes "L") ≡ u → (v : Bool) → same (field (fields l) 0) (bytes "T") ≡ v → let fs = fields l in
+          Right (cond u (linkLine most fs) (cond v (siteLine 84 1 fs) (siteLine 78 0 fs)))
+      by true e v f = judged-cases Right (checked linkForm (fields l)) _ sized-right
           (link-right e (checked linkForm (fields l)) (rule.a-finding-tells-its-rule linkForm (fields l)))
-      by false other false e true f = site-right 84 1 (λ d. absurd (d (same-are-equal _ _ f))) (λ Rule h. inl (inr h))
-      by false other false e false f = site-right 78 0
-          (λ d. record { no-heading = other; no-site = d; no-marked-site = another (bytes "T") f; no-link = another (bytes "L") e })
+      by false e true f = site-right 84 1 (λ d. absurd (d (same-are-equal _ _ f))) (λ Rule h. inl (inr h))
+      by false e false f = site-right 78 0
+          (λ d. record { no-site = d; no-marked-site = another (bytes "T") f; no-link = another (bytes "L") e })
           (λ Rule h. inl (inl h))
 
   -- ---- a cause makes its fault
@@ -171,7 +155,6 @@ module _ (most : ℕ) (l : List ℕ) where
   unfolding judged faultOf kind kindOf siteLine
   fault-of n (no-letter h) =
       rw (
-        h .no-heading,
         not-same (field (fields l) 0) (bytes "L") (h .no-link),
         not-same (field (fields l) 0) (bytes "T") (h .no-marked-site),
         another-letter plainForm (fields l) (not-same (field (fields l) 0) (bytes "N") (h .no-site)),

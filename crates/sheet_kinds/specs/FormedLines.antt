@@ -13,15 +13,14 @@ use Rattle.text_grammar.specs.Grammar.{ends, split}
 use Rattle.text_grammar.specs.SplitLaws.{field-lies, length-of-field, end-of-split}
 use Rattle.text_grammar.specs.declared.Fields.{Fields}
 use Rattle.text_grammar.specs.declared.Check.the-variants as check
-use Rattle.sheet_kinds.specs.LineKinds.{same, fields, field, isName, isHeading, checked, siteForm, plainForm, markedForm, linkForm, IsSite, IsLink}
+use Rattle.sheet_kinds.specs.LineKinds.{same, fields, field, isName, checked, siteForm, plainForm, markedForm, linkForm, IsSite, IsLink}
 use Rattle.sheet_kinds.specs.LineKinds.{siteLine, usableSize, linkOf, sizedLink, linkLine, kindOf, kind}
 use Rattle.sheet_kinds.specs.LineKindLaws.{judged-cases, parts-of-a-site, site-parts, one-letter, link-parts, capacity-cases}
 use Rattle.sheet_kinds.specs.declared.Line.{Line}
-use Rattle.sheet_kinds.specs.declared.Line.the-variants.{Heading, Site, Link, Fault}
+use Rattle.sheet_kinds.specs.declared.Line.the-variants.{Site, Link, Fault}
 
 -- names are ranges of the line, the mark of a site is 0 or 1, and the size of a link is within the limit
 abbrev pub Formed : ℕ → List ℕ → Line → Type 0
-Formed most l Heading = Unit {0}
 Formed most l (Site a e m) = (a ≤ e) × (e ≤ length l) × (isName (take (e - a) (drop a l)) ≡ true) × (m ≤ 1)
 Formed most l (Link a e b f size) = (a ≤ e) × (e ≤ length l) × (b ≤ f) × (f ≤ length l) × (size ≤ most)
 Formed most l (Fault n) = Unit {0}
@@ -108,10 +107,9 @@ link-ends l found e h =
 
 pub kinds-are-formed : (most : ℕ) (l : List ℕ) → Formed most l (kind most l)
 unfolding kind kindOf
-kinds-are-formed most l = by (isHeading (fields l)) (same (field (fields l) 0) (bytes "L")) (same (field (fields l) 0) (bytes "T"))
+kinds-are-formed most l = by (same (field (fields l) 0) (bytes "L")) (same (field (fields l) 0) (bytes "T"))
   where
-    by : (t u v : Bool) → let fs = fields l in Formed most l (cond t Heading (cond u (linkLine most fs) (cond v (siteLine 84 1 fs) (siteLine 78 0 fs))))
-    by true u v = tt
-    by false true v = as-link l most
-    by false false true = as-marked l most
-    by false false false = as-site l most
+    by : (u v : Bool) → let fs = fields l in Formed most l (cond u (linkLine most fs) (cond v (siteLine 84 1 fs) (siteLine 78 0 fs)))
+    by true v = as-link l most
+    by false true = as-marked l most
+    by false false = as-site l most

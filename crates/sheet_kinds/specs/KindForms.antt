@@ -1,21 +1,21 @@
--- What a line of each kind is: the kind of a line is a heading, a site or a link just where its fields have that form; and its names are its
+-- What a line of each kind is: the kind of a line is a site or a link just where its fields have that form; and its names are its
 -- fields 1 and 2. By the first field, as the kind of a line is found.
-use mathlib.Core.Bool.{Bool, true, false, cond, false≢true}
+use mathlib.Core.Bool.{Bool, true, false, cond}
 use mathlib.Core.List.{List}
-use mathlib.Core.Logic.{inl, inr, _≢_}
-use mathlib.Core.Path.{_≡_, refl, sym, ap, subst, _∙_}
+use mathlib.Core.Logic.{inl, inr}
+use mathlib.Core.Path.{_≡_, refl, ap, _∙_}
 use Prim.Native.Nat.{ℕ, _+_, _-_, _≤_}
 use native.Mathlib.Omega.{arith}
 use lib.ListN.{length, take, drop}
 use Rattle.model.specs.Text.{bytes}
 use Rattle.text_grammar.specs.FormLaws.{formed-parts}
-use Rattle.sheet_kinds.specs.LineKinds.{same, fields, field, isHeading, checked, faultOf, plainForm, markedForm, linkForm, IsSite, IsLink, judged}
+use Rattle.sheet_kinds.specs.LineKinds.{same, fields, field, checked, faultOf, plainForm, markedForm, linkForm, IsSite, IsLink, judged}
 use Rattle.sheet_kinds.specs.LineKinds.{siteLine, mark, size, reserve, usableSize, linkOf, sizedLink, linkLine, kindOf, kind}
 use Rattle.sheet_kinds.specs.LineKindLaws.{judged-cases, site-parts, one-letter, link-parts, capacity-cases, else-is-usable}
 use Rattle.sheet_kinds.specs.FormedLines.{part-of-field-1, part-of-field-2}
 use Rattle.sheet_kinds.specs.FaultyLines.{kind-of-N, kind-of-T, kind-of-L}
 use Rattle.sheet_kinds.specs.declared.Line.{Line}
-use Rattle.sheet_kinds.specs.declared.Line.the-variants.{Heading, Site, Link, Fault}
+use Rattle.sheet_kinds.specs.declared.Line.the-variants.{Site, Link, Fault}
 
 -- the line is a link whose size is within the limit, and whose reserve is not above its size
 pub record LinkWithin (most : ℕ) (l : List ℕ) : Type 0 where
@@ -44,54 +44,42 @@ module _ (l : List ℕ) where
 module _ (most : ℕ) (l : List ℕ) where
   -- what a kind tells of the line: its form, the places of its names, the mark of a site, and the usable size of a link
   abbrev pub Tells : Line → Type 0
-  Tells Heading = isHeading (fields l) ≡ true
-  Tells (Site a e m) =
-      (isHeading (fields l) ≡ false) × IsSite (fields l) × (Site a e m ≡ Site 2 (2 + length (field (fields l) 1)) (mark (fields l)))
+  Tells (Site a e m) = IsSite (fields l) × (Site a e m ≡ Site 2 (2 + length (field (fields l) 1)) (mark (fields l)))
   Tells (Link a e b f c) =
       let one = length (field (fields l) 1) in
       let two = length (field (fields l) 2) in
-      (isHeading (fields l) ≡ false) × LinkWithin most l
-      × (Link a e b f c ≡ Link 2 (2 + one) (3 + one) (3 + one + two) (usableSize (fields l)))
-  Tells (Fault n) = isHeading (fields l) ≡ false
+      LinkWithin most l × (Link a e b f c ≡ Link 2 (2 + one) (3 + one) (3 + one + two) (usableSize (fields l)))
+  Tells (Fault n) = Unit {0}
 
-  module _ (no : isHeading (fields l) ≡ false) where
-    sized-tells : IsLink (fields l) → Tells (sizedLink most (fields l))
-    unfolding sizedLink
-    sized-tells g = capacity-cases (λ c. Tells (linkOf (length (field (fields l) 1)) (length (field (fields l) 2)) c)) most (field (fields l) 3)
-        (field (fields l) 4) (λ o. no) (λ a b h. no) (λ a b. (no, record { link = g; within = a; held = b }, refl))
+  sized-tells : IsLink (fields l) → Tells (sizedLink most (fields l))
+  unfolding sizedLink
+  sized-tells g = capacity-cases (λ c. Tells (linkOf (length (field (fields l) 1)) (length (field (fields l) 2)) c)) most (field (fields l) 3)
+      (field (fields l) 4) (λ o. tt) (λ a b h. tt) (λ a b. (record { link = g; within = a; held = b }, refl))
 
-    link-tells : Tells (linkLine most (fields l))
-    unfolding linkLine
-    link-tells = judged-cases Tells (checked linkForm (fields l)) _ sized-tells (λ d. no)
+  link-tells : Tells (linkLine most (fields l))
+  unfolding linkLine
+  link-tells = judged-cases Tells (checked linkForm (fields l)) _ sized-tells (λ d. tt)
 
-    site-tells : same (field (fields l) 0) (bytes "T") ≡ false → Tells (siteLine 78 0 (fields l))
-    unfolding siteLine mark
-    site-tells e = judged-cases Tells (checked plainForm (fields l)) _ (λ g. (no, inl g, rw e)) (λ d. no)
+  site-tells : same (field (fields l) 0) (bytes "T") ≡ false → Tells (siteLine 78 0 (fields l))
+  unfolding siteLine mark
+  site-tells e = judged-cases Tells (checked plainForm (fields l)) _ (λ g. (inl g, rw e)) (λ d. tt)
 
-    marked-tells : same (field (fields l) 0) (bytes "T") ≡ true → Tells (siteLine 84 1 (fields l))
-    unfolding siteLine mark
-    marked-tells e = judged-cases Tells (checked markedForm (fields l)) _ (λ g. (no, inr g, rw e)) (λ d. no)
+  marked-tells : same (field (fields l) 0) (bytes "T") ≡ true → Tells (siteLine 84 1 (fields l))
+  unfolding siteLine mark
+  marked-tells e = judged-cases Tells (checked markedForm (fields l)) _ (λ g. (inr g, rw e)) (λ d. tt)
 
   -- the kind of a line tells its form
   pub a-kind-tells-its-form : Tells (kind most l)
   unfolding kind kindOf
-  a-kind-tells-its-form = by (isHeading (fields l)) refl (same (field (fields l) 0) (bytes "L")) (same (field (fields l) 0) (bytes "T")) refl
+  a-kind-tells-its-form = by (same (field (fields l) 0) (bytes "L")) (same (field (fields l) 0) (bytes "T")) refl
     where
-      by : (t : Bool) → isHeading (fields l) ≡ t → (u v : Bool) → same (field (fields l) 0) (bytes "T") ≡ v → let fs = fields l in
-          Tells (cond t Heading (cond u (linkLine most fs) (cond v (siteLine 84 1 fs) (siteLine 78 0 fs))))
-      by true e u v f = e
-      by false e true v f = link-tells e
-      by false e false true f = marked-tells e f
-      by false e false false f = site-tells e f
+      by : (u v : Bool) → same (field (fields l) 0) (bytes "T") ≡ v → let fs = fields l in
+          Tells (cond u (linkLine most fs) (cond v (siteLine 84 1 fs) (siteLine 78 0 fs)))
+      by true v f = link-tells
+      by false true f = marked-tells f
+      by false false f = site-tells f
 
   -- and the form its kind
-  pub a-heading-by-its-form : isHeading (fields l) ≡ true → kind most l ≡ Heading
-  unfolding kind kindOf
-  a-heading-by-its-form e = rw e
-
-  pub no-heading-by-its-form : isHeading (fields l) ≡ false → kind most l ≢ Heading
-  no-heading-by-its-form e z = false≢true (sym e ∙ subst Tells z a-kind-tells-its-form)
-
   pub a-site-by-its-form : IsSite (fields l) → kind most l ≡ Site 2 (2 + length (field (fields l) 1)) (mark (fields l))
   unfolding siteLine judged faultOf mark same
   a-site-by-its-form (inl e) = let n = formed-parts plainForm (fields l) e .0 in kind-of-N most l n ∙ rw (e, n)

@@ -1,14 +1,14 @@
--- What a line of a network sheet is: a heading, a site, a link or a fault, by its fields held against the forms.
--- Document 01, "The network sheet"; 02, Card 5 (the reserve of a link), Card 7 (the mark of a site).
+-- What a line of a network sheet is: the heading of an edition, and below it a site, a link or a fault, by its fields held against the forms.
+-- Document 01, "The network sheet"; 02, Card 5 (the reserve of a link), Card 7 (the mark of a site), Card 8 (editions).
 use mathlib.Core.Bool.{Bool, cond, _&&_}
-use mathlib.Core.List.{List}
+use mathlib.Core.List.{List, [], _∷_}
 use mathlib.Core.Logic.{_⊎_}
 use mathlib.Core.Path.{_≡_}
 use Prim.Native.Nat.{ℕ, _+_, _-_}
 use lib.Dec.{eqb, leb}
 use lib.ListN.{length}
 use Rattle.sheet_kinds.specs.declared.Line.{Line}
-use Rattle.sheet_kinds.specs.declared.Line.the-variants.{Heading, Site, Link, Fault}
+use Rattle.sheet_kinds.specs.declared.Line.the-variants.{Site, Link, Fault}
 use Rattle.sheet_kinds.specs.declared.Capacity.{Capacity}
 use Rattle.sheet_kinds.specs.declared.Capacity.the-variants.{Usable, Faulty}
 use Rattle.model.specs.Text.{bytes}
@@ -21,9 +21,9 @@ unfoldable pub use Rattle.text_fields.specs.Fields.{same, push, fields, all, is
 pub use Rattle.text_fields.specs.Fields.{field, isDigit, isLetterOrDigit, value}
 unfoldable pub use Rattle.text_grammar.specs.Grammar.{checkedFields, checked, faultOf, sizeOf}
 
--- `network`, tab, `1`
-unfoldable pub isHeading : List (List ℕ) → Bool
-isHeading fs = eqb (length fs) 2 && same (field fs 0) (bytes "network") && same (field fs 1) (bytes "1")
+-- the heading of an edition: `network`, tab, the edition's digit
+unfoldable pub isHeading : ℕ → List (List ℕ) → Bool
+isHeading digit fs = eqb (length fs) 2 && same (field fs 0) (bytes "network") && same (field fs 1) (digit ∷ [])
 
 -- the letter of a site, tab, name
 abbrev pub siteForm : ℕ → Form
@@ -89,13 +89,12 @@ sizedLink most fs = linkOf (length (field fs 1)) (length (field fs 2)) (capacity
 unfoldable pub linkLine : ℕ → List (List ℕ) → Line
 linkLine most fs = judged (checked linkForm fs) (sizedLink most fs)
 
--- what a line is, by its fields: a heading, a link where the first field is `L`, a marked site where it is `T`, else a site; sizes are at most `most`
+-- what a line below the heading is, by its fields: a link where the first is `L`, a marked site where it is `T`, else a site; sizes are at most `most`
 unfoldable pub kindOf : ℕ → List (List ℕ) → Line
 kindOf most fs =
-    cond (isHeading fs) Heading
-    (cond (same (field fs 0) (bytes "L")) (linkLine most fs)
-    (cond (same (field fs 0) (bytes "T")) (siteLine 84 1 fs) (siteLine 78 0 fs)))
+    cond (same (field fs 0) (bytes "L")) (linkLine most fs)
+    (cond (same (field fs 0) (bytes "T")) (siteLine 84 1 fs) (siteLine 78 0 fs))
 
--- what a line is (01: each line is a heading, a site, a link or a fault)
+-- what a line below the heading is (01: a site, a link or a fault)
 unfoldable pub kind : ℕ → List ℕ → Line
 kind most l = kindOf most (fields l)

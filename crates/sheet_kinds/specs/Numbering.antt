@@ -9,11 +9,11 @@ use lib.ListN.{length}
 use Rattle.model.specs.Text.{bytes}
 pub use Rattle.text_grammar.specs.declared.Check.{Check}
 use Rattle.text_grammar.specs.declared.Check.the-variants.{Formed, Letter, Count, Name, Number}
-use Rattle.sheet_kinds.specs.LineKinds.{same, fields, field, isHeading, checked, faultOf, plainForm, markedForm, linkForm, judged, siteLine}
+use Rattle.sheet_kinds.specs.LineKinds.{same, fields, field, checked, faultOf, plainForm, markedForm, linkForm, judged, siteLine}
 use Rattle.sheet_kinds.specs.LineKinds.{linkOf, sizedLink, linkLine, kindOf, kind}
 use Rattle.sheet_kinds.specs.LineKindLaws.{capacity-cases}
 use Rattle.sheet_kinds.specs.declared.Line.{Line}
-use Rattle.sheet_kinds.specs.declared.Line.the-variants.{Heading, Site, Link, Fault}
+use Rattle.sheet_kinds.specs.declared.Line.the-variants.{Site, Link, Fault}
 
 -- ---- the definitions
 
@@ -25,10 +25,9 @@ judgedBy number c line = cond (eqb (number c) 0) line (Fault (number c))
 unfoldable pub kindBy : (Check → ℕ) → ℕ → List ℕ → Line
 kindBy number most l =
     let fs = fields l in
-    cond (isHeading fs) Heading
-    (cond (same (field fs 0) (bytes "L")) (judgedBy number (checked linkForm fs) (sizedLink most fs))
+    cond (same (field fs 0) (bytes "L")) (judgedBy number (checked linkForm fs) (sizedLink most fs))
     (cond (same (field fs 0) (bytes "T")) (judgedBy number (checked markedForm fs) (Site 2 (2 + length (field fs 1)) 1))
-    (judgedBy number (checked plainForm fs) (Site 2 (2 + length (field fs 1)) 0))))
+    (judgedBy number (checked plainForm fs) (Site 2 (2 + length (field fs 1)) 0)))
 
 -- the numbering from before Card 1 (01: 2, line of the wrong form)
 unfoldable pub faultBefore : Check → ℕ
@@ -43,7 +42,6 @@ unfoldable pub numberBefore : ℕ → ℕ
 numberBefore n = cond (eqb n 10) 2 (cond (eqb n 11) 2 (cond (eqb n 12) 2 n))
 
 abbrev pub lineBefore : Line → Line
-lineBefore Heading = Heading
 lineBefore (Site a e m) = Site a e m
 lineBefore (Link a e b f size) = Link a e b f size
 lineBefore (Fault n) = Fault (numberBefore n)
@@ -77,12 +75,11 @@ sized-stays most fs = capacity-cases (λ c. lineBefore (linkOf one two c) ≡ li
 pub a-line-is-as-before : (most : ℕ) (l : List ℕ) → kindBy faultBefore most l ≡ lineBefore (kind most l)
 unfolding kindBy kind kindOf linkLine siteLine
 a-line-is-as-before most l =
-    by (isHeading (fields l)) _ Heading _ _ refl
-    (by (same (field (fields l) 0) (bytes "L")) _ _ _ _
+    by (same (field (fields l) 0) (bytes "L")) _ _ _ _
     (judged-before (checked linkForm (fields l)) (sizedLink most (fields l)) (sized-stays most (fields l)))
     (by (same (field (fields l) 0) (bytes "T")) _ _ _ _
     (judged-before (checked markedForm (fields l)) (Site 2 (2 + length (field (fields l) 1)) 1) refl)
-    (judged-before (checked plainForm (fields l)) (Site 2 (2 + length (field (fields l) 1)) 0) refl)))
+    (judged-before (checked plainForm (fields l)) (Site 2 (2 + length (field (fields l) 1)) 0) refl))
   where
     by : (t : Bool) (v w x y : Line) → v ≡ lineBefore w → x ≡ lineBefore y → cond t v x ≡ lineBefore (cond t w y)
     by true v w x y e f = e

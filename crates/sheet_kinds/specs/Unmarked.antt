@@ -1,6 +1,6 @@
 -- Lines from before Card 7: a site line has the letter `N`, and `T` is no known letter. Document 02, Card 7 ("a site line with letter `T` in place of `N`").
 -- A line that does not start with `T` is what it was, and one that does had no known letter: by the first field.
-use mathlib.Core.Bool.{cond}
+use mathlib.Core.Bool.{false, cond, and-false}
 use mathlib.Core.List.{List}
 use mathlib.Core.Logic.{_≢_}
 use mathlib.Core.Path.{_≡_}
@@ -8,15 +8,14 @@ use Prim.Native.Nat.{ℕ}
 use Rattle.model.specs.Text.{bytes}
 use Rattle.text_fields.specs.FieldLaws.{not-same}
 use Rattle.sheet_kinds.specs.LineKinds.{same, fields, field, isHeading, checked, faultOf, judged, siteLine, linkLine, kindOf, kind}
-use Rattle.sheet_kinds.specs.FaultyLines.{marked-site-is-no-heading}
 use Rattle.sheet_kinds.specs.declared.Line.{Line}
-use Rattle.sheet_kinds.specs.declared.Line.the-variants.{Heading, Fault}
+use Rattle.sheet_kinds.specs.declared.Line.the-variants.{Fault}
 
--- what a line was: a heading, a link where the first field is `L`, else a site
+-- what a line was: a link where the first field is `L`, else a site
 unfoldable pub kindUnmarked : ℕ → List ℕ → Line
 kindUnmarked most l =
     let fs = fields l in
-    cond (isHeading fs) Heading (cond (same (field fs 0) (bytes "L")) (linkLine most fs) (siteLine 78 0 fs))
+    cond (same (field fs 0) (bytes "L")) (linkLine most fs) (siteLine 78 0 fs)
 
 module _ (most : ℕ) (l : List ℕ) where
   -- a line that does not start with `T` is what it was
@@ -27,4 +26,9 @@ module _ (most : ℕ) (l : List ℕ) where
   -- a line that starts with `T` had no known letter
   pub a-marked-line-had-no-known-letter : field (fields l) 0 ≡ bytes "T" → kindUnmarked most l ≡ Fault 2
   unfolding kindUnmarked siteLine checked same judged faultOf
-  a-marked-line-had-no-known-letter e = rw (marked-site-is-no-heading most l e, e)
+  a-marked-line-had-no-known-letter e = rw e
+
+-- and it was, and is, no heading
+pub a-marked-line-is-no-heading : (digit : ℕ) (l : List ℕ) → field (fields l) 0 ≡ bytes "T" → isHeading digit (fields l) ≡ false
+unfolding isHeading same
+a-marked-line-is-no-heading digit l e = rw (e, and-false)

@@ -16,12 +16,12 @@ use Rattle.model.specs.Text.{bytes}
 use Rattle.text_grammar.specs.declared.Form.{Form}
 use Rattle.text_grammar.specs.declared.Check.{Check}
 use Rattle.text_grammar.specs.declared.Check.the-variants as check
-use Rattle.sheet_kinds.specs.LineKinds.{same, fields, field, isHeading, checked, faultOf, linkForm, judged, siteLine}
+use Rattle.sheet_kinds.specs.LineKinds.{same, fields, field, checked, faultOf, linkForm, judged, siteLine}
 use Rattle.sheet_kinds.specs.LineKinds.{size, linkOf, sizedLink, linkLine}
 use Rattle.sheet_kinds.specs.LineKindLaws.{same-are-equal, link-parts, no-fifth, capacity-cases}
 use Rattle.sheet_kinds.specs.Unmarked.{kindUnmarked}
 use Rattle.sheet_kinds.specs.declared.Line.{Line}
-use Rattle.sheet_kinds.specs.declared.Line.the-variants.{Heading, Link, Fault}
+use Rattle.sheet_kinds.specs.declared.Line.the-variants.{Link, Fault}
 
 -- ---- the definitions
 
@@ -40,7 +40,7 @@ sizedBefore most fs =
 unfoldable pub kindUnreserved : ℕ → List ℕ → Line
 kindUnreserved most l =
     let fs = fields l in
-    cond (isHeading fs) Heading (cond (same (field fs 0) (bytes "L")) (judged (checked linkFormBefore fs) (sizedBefore most fs)) (siteLine 78 0 fs))
+    cond (same (field fs 0) (bytes "L")) (judged (checked linkFormBefore fs) (sizedBefore most fs)) (siteLine 78 0 fs)
 
 -- ---- the laws
 
@@ -82,11 +82,10 @@ module _ (most : ℕ) (fs : List (List ℕ)) where
 pub a-line-without-reserve-is-as-before : (most : ℕ) (l : List ℕ) → (field (fields l) 0 ≡ bytes "L" → length (fields l) ≢ 5)
     → kindUnreserved most l ≡ kindUnmarked most l
 unfolding kindUnreserved kindUnmarked
-a-line-without-reserve-is-as-before most l none = by (isHeading (fields l)) (same (field (fields l) 0) (bytes "L")) refl
+a-line-without-reserve-is-as-before most l none = by (same (field (fields l) 0) (bytes "L")) refl
   where
-    by : (t u : Bool) → same (field (fields l) 0) (bytes "L") ≡ u → let fs = fields l in
-        cond t Heading (cond u (judged (checked linkFormBefore fs) (sizedBefore most fs)) (siteLine 78 0 fs))
-        ≡ cond t Heading (cond u (linkLine most fs) (siteLine 78 0 fs))
-    by true u e = refl
-    by false true e = sym (link-as-before most (fields l) (none (same-are-equal _ _ e)))
-    by false false e = refl
+    by : (u : Bool) → same (field (fields l) 0) (bytes "L") ≡ u → let fs = fields l in
+        cond u (judged (checked linkFormBefore fs) (sizedBefore most fs)) (siteLine 78 0 fs)
+        ≡ cond u (linkLine most fs) (siteLine 78 0 fs)
+    by true e = sym (link-as-before most (fields l) (none (same-are-equal _ _ e)))
+    by false e = refl

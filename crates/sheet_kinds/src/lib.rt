@@ -8,9 +8,8 @@ use text_grammar::Fields;
 use text_grammar::Form;
 use text_grammar::Size;
 
-// What a line is (01: each line is a heading, a site, a link or a fault). Names are ranges of places in the line.
+// What a line below the heading is (01: a site, a link or a fault). Names are ranges of places in the line.
 pub enum Line {
-    Heading,
     // 1 marked (02, Card 7: letter `T`), 0 not
     Site {
         start: usize,
@@ -58,18 +57,18 @@ fn link_form() -> Form
     }
 }
 
-// Whether the fields of a line make a heading.
-fn is_heading(line: &[u8], found: Fields) -> bool
-    requires { ⌜ found ≡ split (now line) ⌝ }
-    ensures { λ r. ⌜ r ≡ isHeading (fields (now (line .entry))) ⌝ }
+// Whether a line is the heading of an edition, by the edition's digit.
+pub fn is_heading(line: &[u8], digit: u8) -> bool
+    ensures { λ r. ⌜ r ≡ isHeading digit (fields (now (line .entry))) ⌝ }
 {
+    let found = text_grammar::split(line);
     if found.count != 2 {
         return false;
     }
     if !text_fields::same(text_grammar::field(line, found, 0), b"network") {
         return false;
     }
-    text_fields::is_byte(text_grammar::field(line, found, 1), b'1')
+    text_fields::is_byte(text_grammar::field(line, found, 1), digit)
 }
 
 // What a line is as a site with a letter and a mark.
@@ -150,14 +149,11 @@ fn link(line: &[u8], found: Fields, most: u64) -> Line
     }
 }
 
-// What a line is.
+// What a line below the heading is.
 pub fn classify(line: &[u8], most: u64) -> Line
     ensures { λ r. ⌜ r ≡ kind most (now (line .entry)) ⌝ }
 {
     let found = text_grammar::split(line);
-    if is_heading(line, found) {
-        return Line::Heading;
-    }
     let first = text_grammar::field(line, found, 0);
     if text_fields::is_byte(first, b'L') {
         return link(line, found, most);

@@ -11,16 +11,18 @@ use Rattle.sheet_kinds.proofs.is_heading.Statement.{statement}
 use Rattle.sheet_kinds.proofs.is_heading.Tie as tie
 
 -- how many fields there are, and what the first is found to be
-count-is : (c : tie.Start) → c .args .found .count ≡ length (fields (c .args .line .now))
-count-is c = count-of-split (c .args .line .now) (c .args .found) (c .pre) .0
+count-is : (c : tie.After-split) → c .split .result .count ≡ length (fields (c .before .before .args .line .now))
+count-is c = count-of-split (c .before .before .args .line .now) (c .split .result) (c .split .ensures) .0
 
 first-is : (c : tie.After-same)
-    → c .same .result ≡ same (field (fields (c .before .before .before .before .before .before .args .line .now)) 0) (bytes "network")
+    → c .same .result ≡ same (field (fields (c .before .before .before .before .before .before .before .args .line .now)) 0) (bytes "network")
 first-is c = rw (c .before .before .field .ensures) at (c .same .ensures)
 
 returns : tie.Need-returns
 unfolding isHeading
-returns c = rw (ne-eqb (length (fields (c .before .before .before .args .line .now))) 2 (λ e. c .if1 .taken (count-is (c .before .before .before) ∙ e)))
+returns c =
+    let s = c .before .before in
+    rw (ne-eqb (length (fields (s .before .before .args .line .now))) 2 (λ e. c .if1 .taken (count-is s ∙ e)))
 
 field-requires : tie.Need-field-requires
 field-requires c κs = search needs
@@ -34,9 +36,9 @@ same-requires c κs = search needs
 returns-2 : tie.Need-returns-2
 unfolding isHeading
 returns-2 c =
-    let s = c .before .before .before .before .before .before .before in
+    let s = c .before .before .before .before .before .before in
     rw (
-      eq-eqb (length (fields (s .args .line .now))) 2 (sym (count-is s) ∙ c .before .before .before .before .if1 .left),
+      eq-eqb (length (fields (s .before .before .args .line .now))) 2 (sym (count-is s) ∙ c .before .before .before .before .if1 .left),
       sym (first-is (c .before)) ∙ not-true _ (c .if2 .taken),
     )
 
@@ -49,9 +51,9 @@ is-byte-requires c κs = search needs
 returns-3 : tie.Need-returns-3
 unfolding isHeading
 returns-3 c =
-    let s = c .before .before .before .before .before .before .before .before .before in
+    let s = c .before .before .before .before .before .before .before .before in
     rw (
-      eq-eqb (length (fields (s .args .line .now))) 2 (sym (count-is s) ∙ c .before .before .before .before .before .before .if1 .left),
+      eq-eqb (length (fields (s .before .before .args .line .now))) 2 (sym (count-is s) ∙ c .before .before .before .before .before .before .if1 .left),
       sym (first-is (c .before .before .before)) ∙ not-false _ (c .before .before .if2 .left),
     ) (rw (c .before .field2 .ensures) at (c .is-byte .ensures))
 
@@ -59,6 +61,7 @@ pub is-heading-spec : {M : Type 1} → statement M
 is-heading-spec =
     tie.close
     (tie.spec
+    (λ c κs. search needs)
     returns
     field-requires
     slice-aggregate-same

@@ -1,38 +1,17 @@
--- `heading_step` meets its contract: case by case.
-use Rattle.sheet.specs.Sheet.{headingStep}
+-- `heading_step` meets its contract: by what the heading is found to be.
+use mathlib.Core.Path.{_≡_, sym, _∙_}
 use borrow.Author.Needs.{needs}
+use Rattle.sheet.specs.Sheet.{headingStep}
 use Rattle.sheet.proofs.stepping.heading_step.Statement.{statement}
 use Rattle.sheet.proofs.stepping.heading_step.Tie as tie
 
-enum-told : tie.Need-enum-told
-enum-told c = search needs
-
-enum-told-2 : tie.Need-enum-told-2
-enum-told-2 c = search needs
-
-enum-told-3 : tie.Need-enum-told-3
-enum-told-3 c = search needs
-
-enum-told-4 : tie.Need-enum-told-4
-enum-told-4 c = search needs
-
 returns : tie.Need-returns
 unfolding headingStep
-returns c = rw (c .enum-told .given .1)
+returns c = rw (sym (c .before .is-heading .ensures) ∙ c .if1 .taken)
 
 returns-2 : tie.Need-returns-2
 unfolding headingStep
-returns-2 c = rw (c .enum-told2 .given .1)
-
-returns-3 : tie.Need-returns-3
-unfolding headingStep
-returns-3 c = rw (c .enum-told3 .given .1)
-
-returns-4 : tie.Need-returns-4
-unfolding headingStep
-returns-4 c = rw (c .enum-told4 .given .1)
+returns-2 c = rw (sym (c .before .is-heading .ensures) ∙ c .if1 .left)
 
 pub heading-step-spec : {M : Type 1} → statement M
-heading-step-spec =
-    tie.close
-    (tie.spec enum-told enum-told-2 enum-told-3 enum-told-4 returns returns-2 returns-3 returns-4)
+heading-step-spec = tie.close (tie.spec (λ c κs. search needs) returns returns-2)

@@ -31,19 +31,15 @@ link-step-requires c κs =
 
 returns : tie.Need-returns
 unfolding recordStep
-returns c = λ net h. rw (c .enum-told .given .1)
-
-returns-2 : tie.Need-returns-2
-unfolding recordStep
-returns-2 c = λ net h.
+returns c = λ net h.
     let a = c .before .before .before .before .before .before .before .args in
     let few : length (net .names) ≡ a .sites = ap length (sym (h .names)) ∙ length-ranges (a .starts .now) (a .ends .now) 0 (a .sites) in
     rw (c .before .before .before .before .line .given .1, few, ← (h .names), ← (c .before .before .part .ensures .bytes), ← (c .before .find .ensures))
     (c .site-step .ensures)
 
-returns-3 : tie.Need-returns-3
+returns-2 : tie.Need-returns-2
 unfolding recordStep
-returns-3 c = λ net h.
+returns-2 c = λ net h.
     let named = c .before .before .before in
     rw (
       named .before .before .before .line2 .given .1,
@@ -55,15 +51,14 @@ returns-3 c = λ net h.
     )
     (c .link-step .ensures (net .links) (h .labels-are))
 
-returns-4 : tie.Need-returns-4
+returns-3 : tie.Need-returns-3
 unfolding recordStep
-returns-4 c = λ net h. rw (c .before .line3 .given .1)
+returns-3 c = λ net h. rw (c .before .line3 .given .1)
 
 pub record-step-spec : {M : Type 1} → statement M
 record-step-spec =
     tie.close
     (tie.spec
-    (λ c. search needs)
     (λ c. search needs)
     (λ c. omega (arith, formed (c .before .before .before) _ (c .before .line .given .1)))
     (λ c. omega (arith, formed (c .before .before .before) _ (c .before .line .given .1)))
@@ -83,5 +78,4 @@ record-step-spec =
     (λ c. search needs)
     returns
     returns-2
-    returns-3
-    returns-4)
+    returns-3)

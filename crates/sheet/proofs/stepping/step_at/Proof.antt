@@ -1,11 +1,12 @@
--- `step_at` meets its contract: the ending and the number of the line, then its kind.
-use mathlib.Core.Path.{_≡_, sym, subst, _∙_}
+-- `step_at` meets its contract: the ending and the number of the line, then its heading or its kind.
+use mathlib.Core.Path.{_≡_, sym, ap, subst, _∙_}
 use Prim.Native.Nat.{_<_, _+_}
 use borrow.Author.Needs.{needs}
 use lib.ListN.{length}
 use Rattle.text_lines.specs.Lines.{lineAt}
 use Rattle.sheet_kinds.specs.LineKinds.{kind}
 use Rattle.sheet_kinds.specs.FormedLines.{Formed, kinds-are-formed}
+use Rattle.sheet.specs.Sheet.{headingStep}
 use Rattle.sheet.specs.StepCases.{unended-step, first-step, later-step}
 use Rattle.sheet.proofs.stepping.step_at.Statement.{statement}
 use Rattle.sheet.proofs.stepping.step_at.Tie as tie
@@ -14,16 +15,16 @@ use Rattle.sheet.proofs.stepping.step_at.Tie as tie
 ended : (c : tie.Else1) → let a = c .before .before .before .args in a .at + length (lineAt (a .sheet .now) (a .at)) < length (a .sheet .now)
 ended c = rw (c .before .before .before .pre .3) at (c .if1 .left)
 
-kind-is : (c : tie.After-classify) → let a = c .before .before .before .before .args in
+kind-is : (c : tie.After-classify) → let a = c .before .before .before .before .before .args in
     c .classify .result ≡ kind (a .edition .size) (lineAt (a .sheet .now) (a .at))
-kind-is c = rw (c .before .before .before .before .pre .3) at (c .classify .ensures)
+kind-is c = rw (c .before .before .before .before .before .pre .3) at (c .classify .ensures)
 
 returns : tie.Need-returns
 returns c = λ net h. sym (unended-step _ _ _ _ _ (rw (c .before .before .before .pre .3) at (c .if1 .taken)))
 
 returns-2 : tie.Need-returns-2
-returns-2 c = λ net h. c .heading-step .ensures
-    ∙ rw (kind-is (c .before .before)) (sym (first-step _ _ _ _ _ (ended (c .before .before .before)) (c .before .if2 .taken)))
+returns-2 c = λ net h. c .heading-step .ensures ∙ ap (headingStep _) (c .before .before .before .before .before .pre .3)
+    ∙ sym (first-step _ _ _ _ _ (ended (c .before .before)) (c .before .if2 .taken))
 
 record-step-requires : tie.Need-record-step-requires
 record-step-requires c κs =
@@ -32,12 +33,12 @@ record-step-requires c κs =
       s .pre .0,
       s .pre .1,
       ended (c .before .before),
-      subst (Formed (s .args .edition .size) l) (sym (kind-is (c .before))) (kinds-are-formed (s .args .edition .size) l),
+      subst (Formed (s .args .edition .size) l) (sym (kind-is c)) (kinds-are-formed (s .args .edition .size) l),
     )
 
 returns-3 : tie.Need-returns-3
 returns-3 c = λ net h. c .record-step .ensures net h
-    ∙ rw (kind-is (c .before .before)) (sym (later-step _ _ _ _ _ (ended (c .before .before .before)) (c .before .if2 .left)))
+    ∙ rw (kind-is (c .before)) (sym (later-step _ _ _ _ _ (ended (c .before .before .before)) (c .before .before .if2 .left)))
 
 pub step-at-spec : {M : Type 1} → statement M
 step-at-spec =
@@ -46,7 +47,7 @@ step-at-spec =
     (λ c. search needs)
     returns
     (λ c κs. search needs)
-    (λ c κs. search needs)
     returns-2
+    (λ c κs. search needs)
     record-step-requires
     returns-3)
