@@ -8,7 +8,7 @@ use mathlib.Core.Logic.{_≢_, _↔_, _⊎_}
 use mathlib.Core.List.{List, _++_, map}
 use Prim.Native.Nat.{ℕ, _-_, _*_, _≤_, _<_}
 use lib.ListN.{length, getD, drop}
-use Rattle.model.specs.Edition.{edition1}
+use Rattle.model.specs.Edition.{editions}
 use Rattle.lists.specs.Numbers.{count, look, Each}
 use Rattle.model.specs.Flows.{Site, Fits, sites, load, total}
 use Rattle.model.specs.Trimming.{balanced}
@@ -18,7 +18,7 @@ use Rattle.model.specs.declared.Edition.{Edition}
 use Rattle.model.specs.declared.Pair.{Pair}
 use Rattle.theory_walk.specs.Sound.{arises, Ascending}
 use Rattle.sheet_kinds.specs.LineKinds.{field}
-use Rattle.sheet.specs.Sheet.{Network, refused, accepted, readSheet}
+use Rattle.sheet.specs.Sheet.{Network, refused, accepted, readSheet, editionOf}
 use Rattle.sheet.specs.Causes.{fieldsAt, Refusal}
 use Rattle.sheet.specs.OwnLines.{OwnLine, OwnLinkLine}
 use Rattle.sheet.specs.Answers.{SheetNumber}
@@ -46,17 +46,17 @@ pub record FullReport (r b : List ℕ) (p : Planned) : Type 0 where
   pub buffer-filled : p .buffer ≡ r ++ drop (length r) b
 
 -- no cause of a refusal (1 to 8, 10 to 13) holds of the sheet s
-abbrev pub WithoutCause : Edition → List ℕ → Type 0
-WithoutCause ed s = (k l : ℕ) → ¬ (Refusal ed s k l)
+abbrev pub WithoutCause : List Edition → List ℕ → Type 0
+WithoutCause known s = (k l : ℕ) → ¬ (Refusal (editionOf known s) s k l)
 
 -- what planning the sheet s into the buffer b comes to, with the text of either report: the sheet is refused for a cause of its own, with that cause's number
 -- and line; or it has no such cause, and its report is longer than the buffer; or it has no such cause and gets its full report
-pub data Demand1 (text : Reporter) (ed : Edition) (s b : List ℕ) : Type 0 where
-  faulty-sheet : (k l : ℕ) → readSheet ed s ≡ refused k l → Refusal ed s k l → SheetNumber k → Refused k l b (plannedBy text ed s b) → Demand1 text ed s b
-  long-report : WithoutCause ed s → (net : Network) → readSheet ed s ≡ accepted net → length b < length (text s net)
-      → Refused 9 0 b (plannedBy text ed s b) → Demand1 text ed s b
-  full-report : WithoutCause ed s → (net : Network) → readSheet ed s ≡ accepted net → length (text s net) ≤ length b
-      → FullReport (text s net) b (plannedBy text ed s b) → Demand1 text ed s b
+pub data Demand1 (text : Reporter) (known : List Edition) (s b : List ℕ) : Type 0 where
+  faulty-sheet : (k l : ℕ) → readSheet known s ≡ refused k l → Refusal (editionOf known s) s k l → SheetNumber k → Refused k l b (plannedBy text known s b) → Demand1 text known s b
+  long-report : WithoutCause known s → (net : Network) → readSheet known s ≡ accepted net → length b < length (text s net)
+      → Refused 9 0 b (plannedBy text known s b) → Demand1 text known s b
+  full-report : WithoutCause known s → (net : Network) → readSheet known s ≡ accepted net → length (text s net) ≤ length b
+      → FullReport (text s net) b (plannedBy text known s b) → Demand1 text known s b
 
 -- ---- demands 2 and 3, of a network and of what is printed for it
 
@@ -122,52 +122,52 @@ pub record Demand3 (net : Network) (p : Printed) : Type 0 where
 
 -- the printed size of each link is the usable size on the link's own line: the size there less the reserve there, or the size where there is no
 -- reserve (02, Card 5: the `L` line of a report prints the usable size as its fourth field)
-abbrev pub SizesAsGiven : Edition → List ℕ → Network → Printed → Type 0
-SizesAsGiven ed s net p = (j : ℕ) → j < length (net .links) → OwnLinkLine ed s j (getD (net .links) j (0, 0)) (look (p .sizes) j)
+abbrev pub SizesAsGiven : List Edition → List ℕ → Network → Printed → Type 0
+SizesAsGiven known s net p = (j : ℕ) → j < length (net .links) → OwnLinkLine (editionOf known s) s j (getD (net .links) j (0, 0)) (look (p .sizes) j)
 
 -- a name f in a report is spelt as on the `N` line of its site (02, Card 4; Card 7: or `T` line): some site has the name f, in either case, and f is the
 -- name on that site's own line, byte for byte
-pub record SpeltAsGiven (ed : Edition) (s : List ℕ) (net : Network) (f : List ℕ) : Type 0 where
+pub record SpeltAsGiven (known : List Edition) (s : List ℕ) (net : Network) (f : List ℕ) : Type 0 where
   pub site : ℕ
   pub is-site : Site (siteCount net) site
   pub named : siteNamed s net f ≡ site
-  pub line : OwnLine ed s (site - 1) (getD (net .names) (site - 1) (0, 0)) (look (net .marks) (site - 1))
+  pub line : OwnLine (editionOf known s) s (site - 1) (getD (net .names) (site - 1) (0, 0)) (look (net .marks) (site - 1))
   pub name : f ≡ field (fieldsAt s (line .offset)) 1
 
 -- so is every name in the report r: in its `L` lines, its `N` lines, where `-` stands for no owner, its `X` lines and its `P` lines
-pub record NamesAsGiven (ed : Edition) (s : List ℕ) (net : Network) (r : List ℕ) : Type 0 where
-  pub links : Each (λ l. SpeltAsGiven ed s net (field l 1) × SpeltAsGiven ed s net (field l 2)) (headed (bytes "L") (records r))
-  pub sites : Each (λ l. SpeltAsGiven ed s net (field l 1) × ((field l 2 ≡ bytes "-") ⊎ SpeltAsGiven ed s net (field l 2)))
+pub record NamesAsGiven (known : List Edition) (s : List ℕ) (net : Network) (r : List ℕ) : Type 0 where
+  pub links : Each (λ l. SpeltAsGiven known s net (field l 1) × SpeltAsGiven known s net (field l 2)) (headed (bytes "L") (records r))
+  pub sites : Each (λ l. SpeltAsGiven known s net (field l 1) × ((field l 2 ≡ bytes "-") ⊎ SpeltAsGiven known s net (field l 2)))
       (headed (bytes "N") (records r))
-  pub sets : Each (λ l. SpeltAsGiven ed s net (field l 1)) (headed (bytes "X") (records r))
-  pub pairs : Each (λ l. SpeltAsGiven ed s net (field l 1) × SpeltAsGiven ed s net (field l 2)) (headed (bytes "P") (records r))
+  pub sets : Each (λ l. SpeltAsGiven known s net (field l 1)) (headed (bytes "X") (records r))
+  pub pairs : Each (λ l. SpeltAsGiven known s net (field l 1) × SpeltAsGiven known s net (field l 2)) (headed (bytes "P") (records r))
 
 -- the bytes r are the full report on the sheet s: that of its network, a tree; they show the sheet, with the usable sizes of its links, spell its names as
 -- given and meet demands 2 and 3
-pub record IsReport (ed : Edition) (s r : List ℕ) : Type 0 where
+pub record IsReport (known : List Edition) (s r : List ℕ) : Type 0 where
   pub net : Network
-  pub read : readSheet ed s ≡ accepted net
-  pub network : IsNetwork ed s net
+  pub read : readSheet known s ≡ accepted net
+  pub network : IsNetwork (editionOf known s) s net
   pub whole : r ≡ report s net
   pub shows-the-sheet : ShowsSheet (bytes "plan") net (readReport s net r)
-  pub sizes : SizesAsGiven ed s net (readReport s net r)
-  pub names : NamesAsGiven ed s net r
+  pub sizes : SizesAsGiven known s net (readReport s net r)
+  pub names : NamesAsGiven known s net r
   pub meets-demand-2 : Demand2 net (readReport s net r)
   pub is-in-order : InOrder net (readReport s net r)
   pub meets-demand-3 : Demand3 net (readReport s net r)
 
 -- the bytes r are the line of a refusal of the sheet s: one line, `refused`, a number of the table (1 to 8, 10 to 13) and a line; the number
 -- and the line read off it have their cause
-pub record IsRefusal (ed : Edition) (s r : List ℕ) : Type 0 where
+pub record IsRefusal (known : List Edition) (s r : List ℕ) : Type 0 where
   pub one-line : length (records r) ≡ 1
   pub three-fields : length (firstLine r) ≡ 3
   pub heading : field (firstLine r) 0 ≡ bytes "refused"
-  pub cause : Refusal ed s (numberRead r) (lineRead r)
+  pub cause : Refusal (editionOf known s) s (numberRead r) (lineRead r)
   pub of-the-table : SheetNumber (numberRead r)
   pub whole : r ≡ refusalLine (numberRead r) (lineRead r)
 
 -- what a program prints for the sheet s: its full report, where it has no cause of a refusal; or the line of its refusal, which is never 9.
 -- What a full report is, Full says: `IsReport`, or `IsWholeReport` of the program `whole`
-pub data Prints (Full : Edition → List ℕ → List ℕ → Type 0) (s r : List ℕ) : Type 0 where
-  a-full-report : WithoutCause edition1 s → Full edition1 s r → Prints Full s r
-  a-refusal : IsRefusal edition1 s r → Prints Full s r
+pub data Prints (Full : List Edition → List ℕ → List ℕ → Type 0) (s r : List ℕ) : Type 0 where
+  a-full-report : WithoutCause editions s → Full editions s r → Prints Full s r
+  a-refusal : IsRefusal editions s r → Prints Full s r

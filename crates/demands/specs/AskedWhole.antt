@@ -15,7 +15,7 @@ use Rattle.model.specs.Whole.{Even, EndSets, setSizes, oddPieces}
 use Rattle.model.specs.declared.Edition.{Edition}
 use Rattle.model.specs.declared.Pair.{Pair}
 use Rattle.theory_walk.specs.Sound.{arises}
-use Rattle.sheet.specs.Sheet.{Network, accepted, readSheet}
+use Rattle.sheet.specs.Sheet.{Network, accepted, readSheet, editionOf}
 use Rattle.sheet.specs.SheetTheorem.{IsNetwork}
 use Rattle.report.specs.Report.{wholeReport}
 use Rattle.demands.specs.Printed.{IsPlan, siteCount, isEnd, endsAmong, Printed, readReport, printedLoad, printedOwner, setSize, sizeSum}
@@ -65,14 +65,14 @@ pub record PrintedSets (net : Network) (p : Printed) : Type 0 where
 
 -- the bytes r are the full report in whole circuits on the sheet s: that of its network, a tree; they show the sheet, with the usable sizes of its
 -- links, and all that the card asks
-pub record IsWholeReport (ed : Edition) (s r : List ℕ) : Type 0 where
+pub record IsWholeReport (known : List Edition) (s r : List ℕ) : Type 0 where
   pub net : Network
-  pub read : readSheet ed s ≡ accepted net
-  pub network : IsNetwork ed s net
+  pub read : readSheet known s ≡ accepted net
+  pub network : IsNetwork (editionOf known s) s net
   pub text : r ≡ wholeReport s net
   pub shows-the-sheet : ShowsSheet (bytes "whole") net (readReport s net r)
-  pub sizes : SizesAsGiven ed s net (readReport s net r)
-  pub names : NamesAsGiven ed s net r
+  pub sizes : SizesAsGiven known s net (readReport s net r)
+  pub names : NamesAsGiven known s net r
   pub has-a-largest-plan : LargestPlan net (readReport s net r)
   pub is-in-order : InOrder net (readReport s net r)
   pub has-its-sets : PrintedSets net (readReport s net r)

@@ -6,7 +6,7 @@ use Prim.Native.Nat.{ℕ, _≤_, _<_}
 use native.Mathlib.Omega.{arith}
 use lib.ListN.{length}
 use Rattle.model.specs.Limits.{REPORT}
-use Rattle.model.specs.Edition.{edition1}
+use Rattle.model.specs.Edition.{editions, largest}
 use Rattle.lists.specs.Numbers.{look}
 use Rattle.model.specs.Flows.{sites}
 use Rattle.model.specs.Text.{bytes}
@@ -17,8 +17,9 @@ use Rattle.theory_trees.specs.TerminalCuts.{cut-sizes-sum-to-the-terminals}
 use Rattle.theory_trees.specs.Bounds.{what-fits-fits-the-balanced, a-full-multiflow-has-the-greatest-total}
 use Rattle.theory_walk.specs.PartsTheorem.{pair-list-of-parts-ascends, pair-list-of-parts-lower-first}
 use Rattle.sheet_kinds.specs.LineKinds.{field}
-use Rattle.sheet.specs.Sheet.{Network, Read, refused, accepted, readSheet}
+use Rattle.sheet.specs.Sheet.{Network, Read, refused, accepted, readSheet, editionOf}
 use Rattle.sheet.specs.OwnLines.{a-link-stands-on-its-own-line}
+use Rattle.sheet.specs.Editions.{a-line-at-fault-is-within-the-limit}
 use Rattle.sheet.specs.SheetTheorem.{IsNetwork, an-accepted-sheet-is-a-tree, a-sheet-is-refused-for-its-cause}
 use Rattle.report.specs.Report.{report, refusalLine}
 use Rattle.planner.specs.Outcome.{number, Reporter, planned, Answer, answeredBy}
@@ -34,30 +35,30 @@ use Rattle.demands.specs.Spelling.{the-report-spells-names-as-given}
 use Rattle.demands.specs.Sets.{setBy, TellsSets, sizes-summed, told-sets-are-owned, owners-tell-the-cuts}
 use Rattle.demands.specs.Sets.{cut-sizes-are-set-sizes, cut-counts-are-set-counts}
 use Rattle.demands.specs.Sets.{an-owner-is-told-for-each-site, owners-are-told-or-dashes, a-dash-tells-no-owner, a-dash-tells-that-no-cut-holds-the-site}
-use Rattle.demands.specs.Refusals.{sheets-are-refused-with-a-sheet-number, sheets-are-refused-at-a-line-within-the-limit}
+use Rattle.demands.specs.Refusals.{sheets-are-refused-with-a-sheet-number}
 use Rattle.demands.specs.Outcomes.{sheet-refused, report-too-long, report-delivered, the-report-is-told}
 use Rattle.demands.specs.Outcomes.{fronted, the-front-is-printed, report-answered, refusal-answered, a-refusal-is-small}
 
 -- ---- demand 1
 
 -- a sheet that is accepted has no cause of a refusal
-pub accepted-without-cause : (ed : Edition) (s : List ℕ) (net : Network) → readSheet ed s ≡ accepted net → WithoutCause ed s
-accepted-without-cause ed s net read k l c = contradiction (cc (read, a-sheet-is-refused-for-its-cause ed s k l .1 c))
+pub accepted-without-cause : (known : List Edition) (s : List ℕ) (net : Network) → readSheet known s ≡ accepted net → WithoutCause known s
+accepted-without-cause known s net read k l c = contradiction (cc (read, a-sheet-is-refused-for-its-cause (editionOf known s) s k l .1 c))
 
-module _ (text : Reporter) (ed : Edition) (s b : List ℕ) where
-  pub a-refused-sheet-meets-demand-1 : (k l : ℕ) → readSheet ed s ≡ refused k l → Demand1 text ed s b
+module _ (text : Reporter) (known : List Edition) (s b : List ℕ) where
+  pub a-refused-sheet-meets-demand-1 : (k l : ℕ) → readSheet known s ≡ refused k l → Demand1 text known s b
   a-refused-sheet-meets-demand-1 k l e =
-      faulty-sheet k l e (a-sheet-is-refused-for-its-cause ed s k l .0 e) (sheets-are-refused-with-a-sheet-number ed s k l e)
-      (rw (sheet-refused text ed s b k l e) (record { number-told = refl; line-told = refl; length-told = refl; buffer-kept = refl }))
+      faulty-sheet k l e (a-sheet-is-refused-for-its-cause (editionOf known s) s k l .0 e) (sheets-are-refused-with-a-sheet-number known s k l e)
+      (rw (sheet-refused text known s b k l e) (record { number-told = refl; line-told = refl; length-told = refl; buffer-kept = refl }))
 
-  module _ (net : Network) (read : readSheet ed s ≡ accepted net) where
-    pub a-long-report-meets-demand-1 : length b < length (text s net) → Demand1 text ed s b
-    a-long-report-meets-demand-1 h = long-report (accepted-without-cause ed s net read) net read (omega arith)
-        (rw (report-too-long text ed s b net read h) (record { number-told = refl; line-told = refl; length-told = refl; buffer-kept = refl }))
+  module _ (net : Network) (read : readSheet known s ≡ accepted net) where
+    pub a-long-report-meets-demand-1 : length b < length (text s net) → Demand1 text known s b
+    a-long-report-meets-demand-1 h = long-report (accepted-without-cause known s net read) net read (omega arith)
+        (rw (report-too-long text known s b net read h) (record { number-told = refl; line-told = refl; length-told = refl; buffer-kept = refl }))
 
-    pub a-delivered-report-meets-demand-1 : length (text s net) ≤ length b → Demand1 text ed s b
-    a-delivered-report-meets-demand-1 h = full-report (accepted-without-cause ed s net read) net read (omega arith)
-        (rw (report-delivered text ed s b net read h) (record { number-told = refl; line-told = refl; length-told = refl; buffer-filled = refl }))
+    pub a-delivered-report-meets-demand-1 : length (text s net) ≤ length b → Demand1 text known s b
+    a-delivered-report-meets-demand-1 h = full-report (accepted-without-cause known s net read) net read (omega arith)
+        (rw (report-delivered text known s b net read h) (record { number-told = refl; line-told = refl; length-told = refl; buffer-filled = refl }))
 
 -- ---- either report
 
@@ -65,10 +66,10 @@ pub figures-show-sheet : (net : Network) (f : Figures) → ShowsSheet (f .word) 
 unfolding figuresSay
 figures-show-sheet net f = record { heading = refl; links = refl; sizes = refl; sites-shown = refl }
 
-pub figures-show-usable-sizes : (ed : Edition) (s : List ℕ) (net : Network) → readSheet ed s ≡ accepted net → (f : Figures)
-    → SizesAsGiven ed s net (figuresSay net f)
+pub figures-show-usable-sizes : (known : List Edition) (s : List ℕ) (net : Network) → readSheet known s ≡ accepted net → (f : Figures)
+    → SizesAsGiven known s net (figuresSay net f)
 unfolding figuresSay
-figures-show-usable-sizes ed s net read f = a-link-stands-on-its-own-line ed s net read
+figures-show-usable-sizes known s net read f = a-link-stands-on-its-own-line (editionOf known s) s net read
 
 -- the `X` lines are those of the ends
 pub a-set-is-told-for-each-end : (net : Network) (f : Figures) → let ends = endsAmong (isEnd net) (sites (siteCount net)) in
@@ -140,9 +141,9 @@ module _ {ed : Edition} {s : List ℕ} {net : Network} (N : IsNetwork ed s net) 
         trimmed = refl;
       }
 
-pub the-report-is-full : (ed : Edition) (s : List ℕ) (net : Network) → readSheet ed s ≡ accepted net → IsReport ed s (report s net)
-the-report-is-full ed s net read =
-    let N = an-accepted-sheet-is-a-tree ed s net read in
+pub the-report-is-full : (known : List Edition) (s : List ℕ) (net : Network) → readSheet known s ≡ accepted net → IsReport known s (report s net)
+the-report-is-full known s net read =
+    let N = an-accepted-sheet-is-a-tree (editionOf known s) s net read in
     let said = report-read-back N in
     record {
       net = net;
@@ -150,25 +151,25 @@ the-report-is-full ed s net read =
       network = N;
       whole = refl;
       shows-the-sheet = rw said (plan-shows-sheet N);
-      sizes = rw said (figures-show-usable-sizes ed s net read (halves net));
-      names = the-report-spells-names-as-given ed s net read;
+      sizes = rw said (figures-show-usable-sizes known s net read (halves net));
+      names = the-report-spells-names-as-given known s net read;
       meets-demand-2 = rw said (plan-meets-demand-2 N);
       is-in-order = rw said (plan-is-in-order N);
       meets-demand-3 = rw said (plan-meets-demand-3 N);
     }
 
 -- where planning tells success, what is printed is the plan
-pub the-plan-is-printed : (ed : Edition) (s b : List ℕ) (net : Network) → readSheet ed s ≡ accepted net → number (planned ed s b .outcome) ≡ 0
-    → printedBy s net (planned ed s b) ≡ planSays net
-the-plan-is-printed ed s b net read success =
-    ap (readReport s net) (the-report-is-told report ed s b net read success) ∙ report-read-back (an-accepted-sheet-is-a-tree ed s net read)
+pub the-plan-is-printed : (known : List Edition) (s b : List ℕ) (net : Network) → readSheet known s ≡ accepted net → number (planned known s b .outcome) ≡ 0
+    → printedBy s net (planned known s b) ≡ planSays net
+the-plan-is-printed known s b net read success =
+    ap (readReport s net) (the-report-is-told report known s b net read success) ∙ report-read-back (an-accepted-sheet-is-a-tree (editionOf known s) s net read)
 
 -- ---- the line of a refusal
 
-the-line-is-a-refusal : (ed : Edition) (s : List ℕ) (k l : ℕ) → readSheet ed s ≡ refused k l → IsRefusal ed s (refusalLine k l)
-the-line-is-a-refusal ed s k l e =
-    let told = sheets-are-refused-with-a-sheet-number ed s k l e in
-    let cause = a-sheet-is-refused-for-its-cause ed s k l .0 e in
+the-line-is-a-refusal : (known : List Edition) (s : List ℕ) (k l : ℕ) → readSheet known s ≡ refused k l → IsRefusal known s (refusalLine k l)
+the-line-is-a-refusal known s k l e =
+    let told = sheets-are-refused-with-a-sheet-number known s k l e in
+    let cause = a-sheet-is-refused-for-its-cause (editionOf known s) s k l .0 e in
     record {
       one-line = ap length (refusal-line k l);
       three-fields = ap length (refusal-fields k l);
@@ -181,23 +182,24 @@ the-line-is-a-refusal ed s k l e =
 -- ---- what the program prints
 
 -- with a buffer of REPORT bytes or more: a report or the line of a refusal, and as many bytes as the answer tells; for any report that fits and is full
-module _ (text : Reporter) (Full : Edition → List ℕ → List ℕ → Type 0) (s b : List ℕ) (room : REPORT ≤ length b)
-    (full : (net : Network) → readSheet edition1 s ≡ accepted net → Full edition1 s (text s net) × (length (text s net) ≤ REPORT)) where
+module _ (text : Reporter) (Full : List Edition → List ℕ → List ℕ → Type 0) (s b : List ℕ) (room : REPORT ≤ length b)
+    (full : (net : Network) → readSheet editions s ≡ accepted net → Full editions s (text s net) × (length (text s net) ≤ REPORT)) where
   abbrev Said : Answer → Type 0
   Said a = Prints Full s (bytesPrinted a) × (length (bytesPrinted a) ≡ a .length)
 
   front-said : (r : List ℕ) → Prints Full s r → Said (fronted b r)
   front-said r h = rw (the-front-is-printed b r) (h, refl)
 
-  pub the-answer-is-asked-for : Said (answeredBy text edition1 s b)
-  the-answer-is-asked-for = by (readSheet edition1 s) refl
+  pub the-answer-is-asked-for : Said (answeredBy text editions s b)
+  the-answer-is-asked-for = by (readSheet editions s) refl
     where
-      by : (r : Read) → readSheet edition1 s ≡ r → Said (answeredBy text edition1 s b)
+      by : (r : Read) → readSheet editions s ≡ r → Said (answeredBy text editions s b)
       by (refused k l) e =
-          let number = sheets-are-refused-with-a-sheet-number edition1 s k l e in
-          let small = a-refusal-is-small k l (number .known) (sheets-are-refused-at-a-line-within-the-limit edition1 s k l e) in
-          rw (refusal-answered text edition1 s b k l e (omega arith)) (front-said (refusalLine k l) (a-refusal (the-line-is-a-refusal edition1 s k l e)))
+          let number = sheets-are-refused-with-a-sheet-number editions s k l e in
+          let cause = a-sheet-is-refused-for-its-cause (editionOf editions s) s k l .0 e in
+          let small = a-refusal-is-small k l (number .known) (a-line-at-fault-is-within-the-limit s cause) in
+          rw (refusal-answered text editions s b k l e (omega arith)) (front-said (refusalLine k l) (a-refusal (the-line-is-a-refusal editions s k l e)))
       by (accepted net) e =
           let small = full net e .1 in
-          rw (report-answered text edition1 s b net e (omega arith))
-          (front-said (text s net) (a-full-report (accepted-without-cause edition1 s net e) (full net e .0)))
+          rw (report-answered text editions s b net e (omega arith))
+          (front-said (text s net) (a-full-report (accepted-without-cause editions s net e) (full net e .0)))

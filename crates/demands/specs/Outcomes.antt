@@ -27,23 +27,23 @@ pub the-front-is-printed : (b r : List ℕ) → bytesPrinted (fronted b r) ≡ r
 unfolding bytesPrinted
 the-front-is-printed b r = take-append-seam r (drop (length r) b)
 
-module _ (text : Reporter) (ed : Edition) (s b : List ℕ) where
-  pub sheet-refused : (k l : ℕ) → readSheet ed s ≡ refused k l → plannedBy text ed s b ≡ record { outcome = Refused k l; buffer = b }
+module _ (text : Reporter) (known : List Edition) (s b : List ℕ) where
+  pub sheet-refused : (k l : ℕ) → readSheet known s ≡ refused k l → plannedBy text known s b ≡ record { outcome = Refused k l; buffer = b }
   unfolding plannedBy planRead
   sheet-refused k l e = rw e
 
-  module _ (net : Network) (read : readSheet ed s ≡ accepted net) where
-    pub report-too-long : length b < length (text s net) → plannedBy text ed s b ≡ record { outcome = Refused 9 0; buffer = b }
+  module _ (net : Network) (read : readSheet known s ≡ accepted net) where
+    pub report-too-long : length b < length (text s net) → plannedBy text known s b ≡ record { outcome = Refused 9 0; buffer = b }
     unfolding plannedBy planRead deliver
     report-too-long l = rw (read, lt-leb (length (text s net)) (length b) l)
 
     pub report-delivered : length (text s net) ≤ length b
-        → plannedBy text ed s b ≡ record { outcome = Report (length (text s net)); buffer = text s net ++ drop (length (text s net)) b }
+        → plannedBy text known s b ≡ record { outcome = Report (length (text s net)); buffer = text s net ++ drop (length (text s net)) b }
     unfolding plannedBy planRead deliver
     report-delivered l = rw (read, le-leb (length (text s net)) (length b) l)
 
     -- where planning tells success, the bytes told are the report
-    pub the-report-is-told : number (plannedBy text ed s b .outcome) ≡ 0 → bytesTold (plannedBy text ed s b) ≡ text s net
+    pub the-report-is-told : number (plannedBy text known s b .outcome) ≡ 0 → bytesTold (plannedBy text known s b) ≡ text s net
     unfolding bytesTold
     the-report-is-told success = cases (decLe (length (text s net)) (length b))
         (λ l. rw (report-delivered l) (take-append-seam (text s net) (drop (length (text s net)) b)))
@@ -51,11 +51,11 @@ module _ (text : Reporter) (ed : Edition) (s b : List ℕ) where
 
   -- ---- what the program prints
 
-  pub report-answered : (net : Network) → readSheet ed s ≡ accepted net → length (text s net) ≤ length b → answeredBy text ed s b ≡ fronted b (text s net)
+  pub report-answered : (net : Network) → readSheet known s ≡ accepted net → length (text s net) ≤ length b → answeredBy text known s b ≡ fronted b (text s net)
   unfolding answeredBy spelt
   report-answered net read l = rw (report-delivered net read l)
 
-  pub refusal-answered : (k l : ℕ) → readSheet ed s ≡ refused k l → length (refusalLine k l) ≤ length b → answeredBy text ed s b ≡ fronted b (refusalLine k l)
+  pub refusal-answered : (k l : ℕ) → readSheet known s ≡ refused k l → length (refusalLine k l) ≤ length b → answeredBy text known s b ≡ fronted b (refusalLine k l)
   unfolding answeredBy spelt
   refusal-answered k l e h =
       let t = refusalLine k l in

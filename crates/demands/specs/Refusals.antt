@@ -4,13 +4,17 @@ use mathlib.Core.Path.{_≡_}
 use mathlib.Core.List.{List}
 use Prim.Native.Nat.{ℕ, _≤_}
 use Rattle.model.specs.declared.Edition.{Edition}
-use Rattle.sheet.specs.Sheet.{refused, readSheet}
+use Rattle.sheet.specs.Sheet.{refused, readSheet, editionOf}
+use Rattle.sheet.specs.Causes.{Refusal}
 use Rattle.sheet.specs.SheetTheorem.{a-sheet-is-refused-for-its-cause}
 use Rattle.sheet.specs.Answers.{SheetNumber, refusals-have-sheet-numbers, a-line-at-fault-is-on-the-sheet}
 
-module _ (ed : Edition) (s : List ℕ) (k l : ℕ) (e : readSheet ed s ≡ refused k l) where
-  pub sheets-are-refused-with-a-sheet-number : SheetNumber k
-  sheets-are-refused-with-a-sheet-number = refusals-have-sheet-numbers ed s (a-sheet-is-refused-for-its-cause ed s k l .0 e)
+module _ (known : List Edition) (s : List ℕ) (k l : ℕ) (e : readSheet known s ≡ refused k l) where
+  cause : Refusal (editionOf known s) s k l
+  cause = a-sheet-is-refused-for-its-cause (editionOf known s) s k l .0 e
 
-  pub sheets-are-refused-at-a-line-within-the-limit : l ≤ ed .bytes
-  sheets-are-refused-at-a-line-within-the-limit = a-line-at-fault-is-on-the-sheet ed s (a-sheet-is-refused-for-its-cause ed s k l .0 e) .1
+  pub sheets-are-refused-with-a-sheet-number : SheetNumber k
+  sheets-are-refused-with-a-sheet-number = refusals-have-sheet-numbers (editionOf known s) s cause
+
+  pub sheets-are-refused-at-a-line-within-the-limit : l ≤ editionOf known s .bytes
+  sheets-are-refused-at-a-line-within-the-limit = a-line-at-fault-is-on-the-sheet (editionOf known s) s cause .1

@@ -2,6 +2,7 @@
 use mathlib.Core.Path.{_≡_, refl, sym, ap, _∙_}
 use mathlib.Core.List.{List, [], _∷_, map}
 use Prim.Native.Nat.{ℕ, _+_, _-_, _≤_}
+use Rattle.model.specs.Edition.{largest}
 use Rattle.lists.specs.Numbers.{look}
 use Rattle.model.specs.Flows.{Links, Site, Tree, sites, total}
 use Rattle.model.specs.Whole.{WholePlan, EndSets, setSizes, oddPieces}
@@ -9,7 +10,7 @@ use Rattle.model.specs.declared.Edition.{Edition}
 use Rattle.model.specs.declared.Pair.{Pair}
 use Rattle.theory_whole.specs.Circuits.{PairsWhole, the-pairs-of-parts-of-whole-loads}
 use Rattle.theory_whole.specs.Duality.{no-sets-do-better}
-use Rattle.sheet.specs.Sheet.{Network, accepted, readSheet}
+use Rattle.sheet.specs.Sheet.{Network, accepted, readSheet, editionOf}
 use Rattle.sheet.specs.SheetTheorem.{IsNetwork, an-accepted-sheet-is-a-tree}
 use Rattle.report.specs.Report.{wholeReport}
 use Rattle.planner.specs.Figures.{wholes, pairsBy, the-whole-report-shows-wholes}
@@ -109,9 +110,9 @@ module _ (net : Network) (T : Tree (net .links) (siteCount net)) where
     no-sets-do-better = λ owner sets. no-whole-plan-passes-any-sets owner sets taken (whole-is-fitting taken (pairs .plan));
   }
 
-pub the-whole-report-is-full : (ed : Edition) (s : List ℕ) (net : Network) → readSheet ed s ≡ accepted net → IsWholeReport ed s (wholeReport s net)
-the-whole-report-is-full ed s net read =
-    let N = an-accepted-sheet-is-a-tree ed s net read in
+pub the-whole-report-is-full : (known : List Edition) (s : List ℕ) (net : Network) → readSheet known s ≡ accepted net → IsWholeReport known s (wholeReport s net)
+the-whole-report-is-full known s net read =
+    let N = an-accepted-sheet-is-a-tree (editionOf known s) s net read in
     let said = whole-report-read-back N in
     record {
       net = net;
@@ -119,8 +120,8 @@ the-whole-report-is-full ed s net read =
       network = N;
       text = refl;
       shows-the-sheet = rw said (figures-show-sheet net (wholes net));
-      sizes = rw said (figures-show-usable-sizes ed s net read (wholes net));
-      names = the-whole-report-spells-names-as-given ed s net read;
+      sizes = rw said (figures-show-usable-sizes known s net read (wholes net));
+      names = the-whole-report-spells-names-as-given known s net read;
       has-a-largest-plan = rw said (whole-has-a-largest-plan net (N .tree));
       is-in-order = rw said (figures-are-in-order N (wholes net) (wholes-can-be-shown net (N .tree)));
       has-its-sets = rw said (whole-has-its-sets net (N .tree));

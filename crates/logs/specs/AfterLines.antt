@@ -20,7 +20,7 @@ use Rattle.model.specs.declared.Request.the-variants as request
 use Rattle.theory_trees.specs.FreePairs.{free-iff-route}
 use Rattle.theory_log.specs.Pairs.{Sites}
 use Rattle.theory_log.specs.Logs as theory
-use Rattle.sheet.specs.Sheet.{Network, readSheet, accepted}
+use Rattle.sheet.specs.Sheet.{Network, readSheet, accepted, editionOf}
 use Rattle.sheet.specs.SheetTheorem.{an-accepted-sheet-is-a-tree}
 use Rattle.logs.specs.Log.{lines, requestAt, requests, isEnd, requestsOf, answersOf}
 use Rattle.logs.specs.LogLaws.{Free, the-requests-can-be-asked, the-requests-open-free-pairs-only}
@@ -84,11 +84,11 @@ module _ (s : List ℕ) (net : Network) (log : List ℕ) where
   }
 
   -- over an accepted sheet what is open is a plan: each entry joins two ends free to be joined (01: plan)
-  pub what-is-open-is-a-multiflow : (ed : Edition) → readSheet ed s ≡ accepted net → (i : ℕ) → Multiflow (net .links) number (isEnd net) (openAfter i)
-  what-is-open-is-a-multiflow ed e i =
+  pub what-is-open-is-a-multiflow : (known : List Edition) → readSheet known s ≡ accepted net → (i : ℕ) → Multiflow (net .links) number (isEnd net) (openAfter i)
+  what-is-open-is-a-multiflow known e i =
       let holds = after-every-line i in
       each-both (Entry number) (Sites (Free (net .links) (isEnd net))) (Route (net .links) number (isEnd net))
-      (λ p here free. free-iff-route (net .links) (isEnd net) number (an-accepted-sheet-is-a-tree ed s net e .tree .ends) p
+      (λ p here free. free-iff-route (net .links) (isEnd net) number (an-accepted-sheet-is-a-tree (editionOf known s) s net e .tree .ends) p
       (here .first-site) (here .second-site) .0 free)
       (openAfter i) (holds .entries) (holds .free)
 

@@ -51,5 +51,5 @@ replayRead s log l (refused n k) = record { outcome = Refused 1 n k; list = l }
 replayRead s log l (accepted net) = replayOver s net log l
 
 -- the log replayed over the sheet s, its answers into the lent list l
-unfoldable pub replayed : Edition → List ℕ → List ℕ → List ℕ → Replayed
-replayed ed s log l = replayRead s log l (readSheet ed s)
+unfoldable pub replayed : List Edition → List ℕ → List ℕ → List ℕ → Replayed
+replayed known s log l = replayRead s log l (readSheet known s)

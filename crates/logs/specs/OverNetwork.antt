@@ -7,15 +7,15 @@ use lib.ListN.{length, take, drop}
 use Rattle.lists.specs.Numbers.{look}
 use Rattle.lists.specs.Sums.{contradiction}
 use Rattle.model.specs.Limits.{SITES, LOGLINES, LOGBYTES}
-use Rattle.model.specs.Edition.{edition1}
+use Rattle.model.specs.Edition.{editions}
 use Rattle.model.specs.Flows.{Links, ends}
 use Rattle.model.specs.Booking.{answers}
 use Rattle.tree.specs.Offer.{links}
 use Rattle.sheet_names.specs.Names.{ranges, Different}
+use Rattle.sheet.specs.Editions.{an-accepted-sheet-is-within-the-largest}
 use Rattle.sheet.specs.Sheet.{Read, refused, accepted, readSheet}
 use Rattle.sheet.specs.Reading.{lists, reading}
 use Rattle.sheet.specs.ListLaws.{names-are}
-use Rattle.sheet.specs.SheetTheorem.{an-accepted-sheet-is-a-tree}
 use Rattle.sheet.specs.declared.Answer.the-variants as answered
 use Rattle.sheet.specs.declared.Lists.{Lists}
 use Rattle.planner.specs.Taken.{Listed, the-lists-are-taken-apart, the-marks-are-taken-apart, the-links-are-the-networks, the-ends-are-the-networks}
@@ -24,10 +24,10 @@ use Rattle.logs.specs.Outcome.{replayOver, replayRead, replayed}
 use Rattle.logs.specs.declared.Outcome.the-variants.{Answered, Refused}
 
 -- a refused sheet is refused with the same number and line, and the list stays
-pub refused-is-told : (s log l : List ℕ) (n k : ℕ) → reading (readSheet edition1 s) .answer ≡ answered.Refused n k
-    → replayed edition1 s log l ≡ record { outcome = Refused 1 n k; list = l }
+pub refused-is-told : (s log l : List ℕ) (n k : ℕ) → reading (readSheet editions s) .answer ≡ answered.Refused n k
+    → replayed editions s log l ≡ record { outcome = Refused 1 n k; list = l }
 unfolding reading replayed replayRead
-refused-is-told s log l n k e = by (readSheet edition1 s) e
+refused-is-told s log l n k e = by (readSheet editions s) e
   where
     by : (r : Read) → reading r .answer ≡ answered.Refused n k → replayRead s log l r ≡ record { outcome = Refused 1 n k; list = l }
     by (refused m j) e = let p : m ≡ n = cc in let q : j ≡ k = cc in rw (p, q)
@@ -46,25 +46,25 @@ module _ {s : List ℕ} {network : Lists} (r : Listed s network) where
   names-of-lists = rw (r .listed) (names-are SITES (r .net .names))
 
   pub the-names-are-different : Different s (ranges (network .start) (network .end) 0 (network .sites))
-  the-names-are-different = rw names-of-lists (an-accepted-sheet-is-a-tree edition1 s (r .net) (r .read) .different)
+  the-names-are-different = rw names-of-lists (an-accepted-sheet-is-within-the-largest s (r .net) (r .read) .different)
 
   module _ (log l : List ℕ) where
-    pub too-many-bytes : LOGBYTES < length log → replayed edition1 s log l ≡ record { outcome = Refused 2 1 0; list = l }
+    pub too-many-bytes : LOGBYTES < length log → replayed editions s log l ≡ record { outcome = Refused 2 1 0; list = l }
     unfolding replayed replayRead replayOver
     too-many-bytes h = rw (r .read, lt-leb _ _ h)
 
     module _ (bytes : length log ≤ LOGBYTES) where
-      pub too-many-lines : LOGLINES < length (lines log) → replayed edition1 s log l ≡ record { outcome = Refused 2 1 0; list = l }
+      pub too-many-lines : LOGLINES < length (lines log) → replayed editions s log l ≡ record { outcome = Refused 2 1 0; list = l }
       unfolding replayed replayRead replayOver
       too-many-lines h = rw (r .read, le-leb _ _ bytes, lt-leb _ _ h)
 
       module _ (few : length (lines log) ≤ LOGLINES) where
-        pub too-few-places : length l < length (lines log) → replayed edition1 s log l ≡ record { outcome = Refused 2 9 0; list = l }
+        pub too-few-places : length l < length (lines log) → replayed editions s log l ≡ record { outcome = Refused 2 9 0; list = l }
         unfolding replayed replayRead replayOver
         too-few-places h = rw (r .read, le-leb _ _ bytes, le-leb _ _ few, lt-leb _ _ h)
 
         pub every-line-answered : length (lines log) ≤ length l
-            → replayed edition1 s log l ≡ record { outcome = Answered (length (lines log)); list = answersOf s (r .net) log ++ drop (length (lines log)) l }
+            → replayed editions s log l ≡ record { outcome = Answered (length (lines log)); list = answersOf s (r .net) log ++ drop (length (lines log)) l }
         unfolding replayed replayRead replayOver
         every-line-answered h = rw (r .read, le-leb _ _ bytes, le-leb _ _ few, le-leb _ _ h)
 

@@ -21,7 +21,7 @@ use Rattle.theory_trees.specs.FreePairs.{free-parts, outer-pairs-are-free}
 use Rattle.text_lines.specs.Lines.{lineAt}
 use Rattle.sheet_names.specs.declared.Found.{Found}
 use Rattle.sheet_names.specs.declared.Found.the-variants.{At, Absent}
-use Rattle.sheet.specs.Sheet.{Network, part, lookup, readSheet, accepted}
+use Rattle.sheet.specs.Sheet.{Network, part, lookup, readSheet, accepted, editionOf}
 use Rattle.sheet.specs.SheetTheorem.{an-accepted-sheet-is-a-tree}
 use Rattle.log_lines.specs.declared.Line.{Line}
 use Rattle.log_lines.specs.declared.Line.the-variants.{Booking, Fault}
@@ -77,20 +77,20 @@ module _ (s : List ℕ) (names : List (ℕ × ℕ)) {ls : Links} (T : Tree ls (l
       (each-all _ (λ at. request-as-before (lineAt log at) (lineOf log at)) (lines log))
 
 -- so over an accepted sheet whose ends have one link each every line gets the answer that it got
-pub where-every-end-has-one-link-a-log-is-answered-as-before : (ed : Edition) (s : List ℕ) (net : Network) → readSheet ed s ≡ accepted net
+pub where-every-end-has-one-link-a-log-is-answered-as-before : (known : List Edition) (s : List ℕ) (net : Network) → readSheet known s ≡ accepted net
     → Outer (net .links) (length (net .names)) (isEnd net) → (log : List ℕ)
     → answersOf s net log ≡ answers (net .links) (look (net .capacities)) [] (requestsBefore s (net .names) (isEnd net) log)
-where-every-end-has-one-link-a-log-is-answered-as-before ed s net e O log =
+where-every-end-has-one-link-a-log-is-answered-as-before known s net e O log =
     ap (answers (net .links) (look (net .capacities)) [])
-    (where-every-end-has-one-link-a-log-asks-what-it-asked-before s (net .names) (an-accepted-sheet-is-a-tree ed s net e .tree) (isEnd net) O log)
+    (where-every-end-has-one-link-a-log-asks-what-it-asked-before s (net .names) (an-accepted-sheet-is-a-tree (editionOf known s) s net e .tree) (isEnd net) O log)
 
 -- so over a sheet without marks, whose ends are the sites with one link
-pub over-a-sheet-without-marks-a-log-is-answered-as-before : (ed : Edition) (s : List ℕ) → WithoutMarks s → (net : Network) → readSheet ed s ≡ accepted net
+pub over-a-sheet-without-marks-a-log-is-answered-as-before : (known : List Edition) (s : List ℕ) → WithoutMarks s → (net : Network) → readSheet known s ≡ accepted net
     → (log : List ℕ) → answersOf s net log
     ≡ answers (net .links) (look (net .capacities)) [] (requestsBefore s (net .names) (look (leaves (net .links) (length (net .names)))) log)
-over-a-sheet-without-marks-a-log-is-answered-as-before ed s none net e log =
+over-a-sheet-without-marks-a-log-is-answered-as-before known s none net e log =
     let n = length (net .names) in
-    let unmarked-net = unmarked ed s none net e in
-    where-every-end-has-one-link-a-log-is-answered-as-before ed s net e (unmarked-ends-are-outer (net .links) n (net .marks) unmarked-net) log
+    let unmarked-net = unmarked known s none net e in
+    where-every-end-has-one-link-a-log-is-answered-as-before known s net e (unmarked-ends-are-outer (net .links) n (net .marks) unmarked-net) log
     ∙ ap (λ ends. answers (net .links) (look (net .capacities)) [] (requestsBefore s (net .names) (look ends) log))
     (unmarked-ends-are-leaves (net .links) n (net .marks) unmarked-net)

@@ -6,7 +6,7 @@ ghost use Prim.Native.Nat.{_≤_};
 ghost use lib.ListN.{length, take, drop};
 ghost use Rattle.lists.specs.Numbers.{look};
 ghost use Rattle.model.specs.Limits.{SITES};
-ghost use Rattle.model.specs.Edition.{edition1, largest};
+ghost use Rattle.model.specs.Edition.{editions, largest};
 ghost use Rattle.model.specs.Flows.{ends};
 ghost use Rattle.model.specs.Booking.{answers};
 ghost use Rattle.theory_trees.specs.Leaves.{Outer};
@@ -306,8 +306,8 @@ fn answer_parts<'a>(
 // A log replayed over the network of an accepted sheet.
 fn replay_network(sheet: &[u8], network: Lists, log: &[u8], list: &mut [u64]) -> Outcome
     requires { ⌜ Listed (now sheet) network ⌝ }
-    ensures told { λ r. ⌜ r ≡ replayed edition1 (now (sheet .entry)) (now (log .entry)) (now (list .entry)) .outcome ⌝ }
-    ensures left { λ r. ⌜ now (list .exit) ≡ replayed edition1 (now (sheet .entry)) (now (log .entry)) (now (list .entry)) .list ⌝ }
+    ensures told { λ r. ⌜ r ≡ replayed editions (now (sheet .entry)) (now (log .entry)) (now (list .entry)) .outcome ⌝ }
+    ensures left { λ r. ⌜ now (list .exit) ≡ replayed editions (now (sheet .entry)) (now (log .entry)) (now (list .entry)) .list ⌝ }
 {
     let refusal = Outcome::Refused {
         text: 2,
@@ -349,8 +349,8 @@ fn replay_network(sheet: &[u8], network: Lists, log: &[u8], list: &mut [u64]) ->
 // Replays a log over a sheet: writes the answer to each line into the front of a lent list and tells the number of lines; or refuses the sheet, the log, or a
 // list with fewer places than lines, and leaves the list as it was.
 pub fn replay(sheet: &[u8], log: &[u8], answers: &mut [u64]) -> Outcome
-    ensures told { λ r. ⌜ r ≡ replayed edition1 (now (sheet .entry)) (now (log .entry)) (now (answers .entry)) .outcome ⌝ }
-    ensures left { λ r. ⌜ now (answers .exit) ≡ replayed edition1 (now (sheet .entry)) (now (log .entry)) (now (answers .entry)) .list ⌝ }
+    ensures told { λ r. ⌜ r ≡ replayed editions (now (sheet .entry)) (now (log .entry)) (now (answers .entry)) .outcome ⌝ }
+    ensures left { λ r. ⌜ now (answers .exit) ≡ replayed editions (now (sheet .entry)) (now (log .entry)) (now (answers .entry)) .list ⌝ }
 {
     let reading = sheet::read(sheet);
     let answer = reading.answer;

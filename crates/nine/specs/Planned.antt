@@ -3,7 +3,7 @@ use mathlib.Core.Path.{_≡_, refl}
 use mathlib.Core.List.{map, flatMap}
 use lib.ListN.{length, replicate}
 use native.Mathlib.Decide.{ℕ-discrete, decLe, decLt}
-use Rattle.model.specs.Edition.{edition1}
+use Rattle.model.specs.Edition.{editions}
 use Rattle.lists.specs.Numbers.{pick, is, differ, less, sum, over, count, upfrom}
 use Rattle.model.specs.Flows.{at, sumAt, leaf, endAt, ends, relabel, label, joined, total}
 use Rattle.model.specs.Trimming.{cutAt, cutSite, cutSites, unvisited, first, remove, taken, elimination, balancedAlong, balanced}
@@ -12,10 +12,10 @@ use Rattle.model.specs.Pairing.{put, takeHalves, dropHalves, halves, give, matc
 use Rattle.model.specs.Pairing.{lowestInner, lowerFirst, before, insert, ordered}
 use Rattle.model.specs.Parts.{within, single, region, member, home, lowest, root, pairsOfPart, pairOfLink, pairsOfParts, pairListOfParts}
 use Rattle.text_lines.specs.Lines.{lineLength, lineAt, afterLine, hasLine}
-use Rattle.sheet_kinds.specs.LineKinds.{same, push, fields, all, isName, isNumber, valueFrom, isHeading, checkedFields, checked, faultOf, judged}
-use Rattle.sheet_kinds.specs.LineKinds.{sizeOf, capacityOf, siteLine as sheetSite, sizedLink, linkLine as sheetLink, kindOf, kind}
+use Rattle.sheet_kinds.specs.LineKinds.{same, push, fields, all, isName, isNumber, valueFrom, isHeading, checkedFields, checked, faultOf, judged, siteLine as sheetSite, linkLine as sheetLink}
+use Rattle.sheet_kinds.specs.LineKinds.{sizeOf, capacityOf, sizedLink, kindOf, kind}
 use Rattle.sheet.specs.Sheet.{capitals, lookupFrom, siteStep, linkStep, headingStep, recordStep, stepOf, readLine, andThen, readLines, allJoined}
-use Rattle.sheet.specs.Sheet.{finish, readSheet}
+use Rattle.sheet.specs.Sheet.{finish, readAs, editionOf}
 use Rattle.report.specs.Report.{digits, decimal, line, lines, planOf, ownerName, headRecord, linkRecord, linkLine, siteRecord, siteLine, cutRecord, cutLine}
 use Rattle.report.specs.Report.{pairLine, reportOf, report}
 use Rattle.planner.specs.Outcome.{Planned, Reporter, deliver, planRead, plannedBy}
@@ -24,7 +24,7 @@ use Rattle.nine.specs.Sheets.{Example, sheets}
 
 -- planning a sheet by the definitions, into a buffer just as long as the report that is expected
 unfoldable pub plannedFor : Reporter → Example → Planned
-plannedFor text e = plannedBy text edition1 (e .sheet) (replicate (length (e .report)) 0)
+plannedFor text e = plannedBy text editions (e .sheet) (replicate (length (e .report)) 0)
 
 -- success, with the report's length and exactly the report's bytes
 unfoldable pub expected : Example → Planned
@@ -37,7 +37,7 @@ unfolding plannedFor expected plannedBy planRead deliver ℕ-discrete decLe decL
     within single region member home lowest root pairsOfPart pairOfLink pairsOfParts pairListOfParts flatMap
     lineLength lineAt afterLine hasLine same push fields all isName isNumber valueFrom isHeading checkedFields checked faultOf judged
     sizeOf capacityOf sheetSite sizedLink sheetLink kindOf kind capitals lookupFrom siteStep linkStep headingStep recordStep stepOf readLine andThen
-    readLines allJoined finish readSheet digits decimal line lines planOf
+    readLines allJoined finish readAs editionOf digits decimal line lines planOf
     ownerName headRecord linkRecord linkLine siteRecord siteLine cutRecord cutLine pairLine
     reportOf report
 nine-sheets = refl

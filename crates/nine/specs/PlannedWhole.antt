@@ -16,7 +16,7 @@ use Rattle.text_lines.specs.Lines.{lineLength, lineAt, afterLine, hasLine}
 use Rattle.sheet_kinds.specs.LineKinds.{same, push, fields, all, isName, isNumber, valueFrom, isHeading, checkedFields, checked, faultOf, judged}
 use Rattle.sheet_kinds.specs.LineKinds.{sizeOf, capacityOf, siteLine as sheetSite, sizedLink, linkLine as sheetLink, kindOf, kind}
 use Rattle.sheet.specs.Sheet.{capitals, lookupFrom, siteStep, linkStep, headingStep, recordStep, stepOf, readLine, andThen, readLines, allJoined}
-use Rattle.sheet.specs.Sheet.{finish, readSheet}
+use Rattle.sheet.specs.Sheet.{finish, readAs, editionOf}
 use Rattle.report.specs.Report.{digits, decimal, line, lines, oddLine, wholeOf, ownerName, headRecord, linkRecord, linkLine, siteRecord, siteLine, cutRecord}
 use Rattle.report.specs.Report.{cutLine, pairLine, reportOf, wholeReport}
 use Rattle.planner.specs.Outcome.{deliver, planRead, plannedBy}
@@ -32,7 +32,7 @@ unfolding plannedFor expected plannedBy planRead deliver ℕ-discrete decLe decL
     within single region member home lowestOf root pairsOfPart pairOfLink pairsOfParts pairListOfParts flatMap
     lineLength lineAt afterLine hasLine same push fields all isName isNumber valueFrom isHeading checkedFields checked faultOf judged
     sizeOf capacityOf sheetSite sizedLink sheetLink kindOf kind capitals lookupFrom siteStep linkStep headingStep recordStep stepOf readLine andThen
-    readLines allJoined finish readSheet digits decimal line lines oddLine
+    readLines allJoined finish readAs editionOf digits decimal line lines oddLine
     wholeOf ownerName headRecord linkRecord linkLine siteRecord siteLine cutRecord cutLine pairLine
     reportOf wholeReport
 sheets-in-whole-circuits = refl

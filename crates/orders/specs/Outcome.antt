@@ -42,5 +42,5 @@ orderRead l (refused n k) = record { outcome = Refused n k; list = l }
 orderRead l (accepted net) = store (elimination (net .links) (length (net .names))) l
 
 -- the order of work over the sheet s, into the lent list l
-unfoldable pub orderOf : Edition → List ℕ → List ℕ → Ordered
-orderOf ed s l = orderRead l (readSheet ed s)
+unfoldable pub orderOf : List Edition → List ℕ → List ℕ → Ordered
+orderOf known s l = orderRead l (readSheet known s)

@@ -6,7 +6,7 @@ use borrow.Author.Tests.{le-leb, lt-leb}
 use lib.ListN.{length, drop}
 use Rattle.lists.specs.Numbers.{look}
 use Rattle.tree.specs.Places.{filled, map-table}
-use Rattle.model.specs.Edition.{edition1}
+use Rattle.model.specs.Edition.{editions}
 use Rattle.lists.specs.Sums.{contradiction}
 use Rattle.model.specs.Trimming.{elimination}
 use Rattle.sheet.specs.Sheet.{Network, Read, refused, accepted, readSheet}
@@ -30,17 +30,17 @@ unfolding store
 list-long-enough order l h = rw (le-leb (length order) (length l) h, filled-order order l)
 
 -- a refused sheet is refused with the same number and line, and the list stays
-pub refused-is-told : (s l : List ℕ) (n k : ℕ) → reading (readSheet edition1 s) .answer ≡ answered.Refused n k
-    → orderOf edition1 s l ≡ record { outcome = Refused n k; list = l }
+pub refused-is-told : (s l : List ℕ) (n k : ℕ) → reading (readSheet editions s) .answer ≡ answered.Refused n k
+    → orderOf editions s l ≡ record { outcome = Refused n k; list = l }
 unfolding reading orderOf orderRead
-refused-is-told s l n k e = by (readSheet edition1 s) e
+refused-is-told s l n k e = by (readSheet editions s) e
   where
     by : (r : Read) → reading r .answer ≡ answered.Refused n k → orderRead l r ≡ record { outcome = Refused n k; list = l }
     by (refused m j) e = let p : m ≡ n = cc in let q : j ≡ k = cc in rw (p, q)
     by (accepted net) e = contradiction cc
 
 -- an accepted sheet's order is stored
-pub accepted-is-stored : (s l : List ℕ) (net : Network) → readSheet edition1 s ≡ accepted net
-    → orderOf edition1 s l ≡ store (elimination (net .links) (length (net .names))) l
+pub accepted-is-stored : (s l : List ℕ) (net : Network) → readSheet editions s ≡ accepted net
+    → orderOf editions s l ≡ store (elimination (net .links) (length (net .names))) l
 unfolding orderOf orderRead
 accepted-is-stored s l net e = rw e

@@ -2,7 +2,7 @@
 ghost use mathlib.Core.Path.{_≡_};
 ghost use Prim.Native.Nat.{_≤_};
 ghost use lib.ListN.{length, take};
-ghost use Rattle.model.specs.Edition.{edition1, largest};
+ghost use Rattle.model.specs.Edition.{editions, largest};
 ghost use Rattle.model.specs.Trimming.{elimination};
 ghost use Rattle.tree.specs.Offer.{links};
 ghost use Rattle.tree.specs.Accepted.{MarkedTree};
@@ -71,8 +71,8 @@ fn order_parts<'a>(
 // The order of work over the network of an accepted sheet.
 fn order_network(sheet: &[u8], network: Lists, list: &mut [usize]) -> Outcome
     requires { ⌜ Listed (now sheet) network ⌝ }
-    ensures told { λ r. ⌜ r ≡ orderOf edition1 (now (sheet .entry)) (now (list .entry)) .outcome ⌝ }
-    ensures left { λ r. ⌜ now (list .exit) ≡ orderOf edition1 (now (sheet .entry)) (now (list .entry)) .list ⌝ }
+    ensures told { λ r. ⌜ r ≡ orderOf editions (now (sheet .entry)) (now (list .entry)) .outcome ⌝ }
+    ensures left { λ r. ⌜ now (list .exit) ≡ orderOf editions (now (sheet .entry)) (now (list .entry)) .list ⌝ }
 {
     let n = network.sites;
     let m = network.links;
@@ -90,8 +90,8 @@ fn order_network(sheet: &[u8], network: Lists, list: &mut [usize]) -> Outcome
 // Writes the numbers of all sites of a sheet, in the order taken, into the front of a lent list and tells their count; or refuses the sheet, or a list
 // with fewer places than sites, and leaves the list as it was.
 pub fn order(sheet: &[u8], list: &mut [usize]) -> Outcome
-    ensures told { λ r. ⌜ r ≡ orderOf edition1 (now (sheet .entry)) (now (list .entry)) .outcome ⌝ }
-    ensures left { λ r. ⌜ now (list .exit) ≡ orderOf edition1 (now (sheet .entry)) (now (list .entry)) .list ⌝ }
+    ensures told { λ r. ⌜ r ≡ orderOf editions (now (sheet .entry)) (now (list .entry)) .outcome ⌝ }
+    ensures left { λ r. ⌜ now (list .exit) ≡ orderOf editions (now (sheet .entry)) (now (list .entry)) .list ⌝ }
 {
     let reading = sheet::read(sheet);
     let answer = reading.answer;

@@ -7,7 +7,7 @@ use native.Mathlib.Omega.{arith}
 use lib.Dec.{leb}
 use lib.ListN.{length, drop, length-append}
 use lib.Seq.{length-sets}
-use Rattle.model.specs.Edition.{edition1}
+use Rattle.model.specs.Edition.{editions}
 use Rattle.sheet.specs.Sheet.{Read, refused, accepted, readSheet}
 use Rattle.report.specs.Report.{refusalLine}
 use Rattle.text_writers.specs.Wrote.{Wrote}
@@ -30,18 +30,18 @@ delivered-within r b n e = by (leb (length r) (length b)) e
     by false q = contradiction cc
 
 module _ (text : Reporter) (s b : List ℕ) where
-  pub a-report-is-within-the-buffer : (n : ℕ) → plannedBy text edition1 s b .outcome ≡ Report n → n ≤ length (plannedBy text edition1 s b .buffer)
+  pub a-report-is-within-the-buffer : (n : ℕ) → plannedBy text editions s b .outcome ≡ Report n → n ≤ length (plannedBy text editions s b .buffer)
   unfolding plannedBy planRead
-  a-report-is-within-the-buffer n e = by (readSheet edition1 s) e
+  a-report-is-within-the-buffer n e = by (readSheet editions s) e
     where
       by : (r : Read) → planRead text s b r .outcome ≡ Report n → n ≤ length (planRead text s b r .buffer)
       by (refused k l) q = contradiction cc
       by (accepted net) q = delivered-within (text s net) b n q
 
   -- a refusal leaves the buffer
-  refused-stays : (k l : ℕ) → plannedBy text edition1 s b .outcome ≡ Refused k l → plannedBy text edition1 s b .buffer ≡ b
+  refused-stays : (k l : ℕ) → plannedBy text editions s b .outcome ≡ Refused k l → plannedBy text editions s b .buffer ≡ b
   unfolding plannedBy planRead deliver
-  refused-stays k l e = by (readSheet edition1 s) e
+  refused-stays k l e = by (readSheet editions s) e
     where
       within : (r : List ℕ) (t : Bool)
           → (cond {A = Planned} t (record { outcome = Report (length r); buffer = r ++ drop (length r) b })
@@ -56,15 +56,15 @@ module _ (text : Reporter) (s b : List ℕ) where
       by (accepted net) q = within (text s net) (leb (length (text s net)) (length b)) q
 
   -- a report is printed as it stands
-  pub a-report-is-printed : (n : ℕ) → plannedBy text edition1 s b .outcome ≡ Report n
-      → answeredBy text edition1 s b ≡ record { length = n; buffer = plannedBy text edition1 s b .buffer }
+  pub a-report-is-printed : (n : ℕ) → plannedBy text editions s b .outcome ≡ Report n
+      → answeredBy text editions s b ≡ record { length = n; buffer = plannedBy text editions s b .buffer }
   unfolding answeredBy spelt
   a-report-is-printed n e = rw e
 
-  module _ (k l : ℕ) (e : plannedBy text edition1 s b .outcome ≡ Refused k l)
-      (after : List ℕ) (r : ℕ) (w : Wrote (plannedBy text edition1 s b .buffer) 0 (refusalLine k l) after r) where
+  module _ (k l : ℕ) (e : plannedBy text editions s b .outcome ≡ Refused k l)
+      (after : List ℕ) (r : ℕ) (w : Wrote (plannedBy text editions s b .buffer) 0 (refusalLine k l) after r) where
     -- a refusal is printed as its line
-    pub a-refusal-is-printed : answeredBy text edition1 s b ≡ record { length = r; buffer = after }
+    pub a-refusal-is-printed : answeredBy text editions s b ≡ record { length = r; buffer = after }
     unfolding answeredBy spelt
     a-refusal-is-printed =
         let z : length (refusalLine k l) ≡ r = omega (arith, w .next) in
@@ -75,6 +75,6 @@ module _ (text : Reporter) (s b : List ℕ) where
     a-refusal-is-within-the-buffer small h = omega (
       arith,
       ap length (w .stored),
-      length-sets (plannedBy text edition1 s b .buffer) 0 (refusalLine k l),
+      length-sets (plannedBy text editions s b .buffer) 0 (refusalLine k l),
       ap length (refused-stays k l e),
     )

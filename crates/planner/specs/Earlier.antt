@@ -1,28 +1,31 @@
--- What Cards 1, 4, 5 and 7 changed in reading, for planning (document 02), for either report, every sheet and every buffer. By the numbering from before,
+-- What Cards 1, 4, 5, 7 and 8 changed in reading, for planning (document 02), for either report, every sheet and every buffer. By the numbering from before,
 -- which gave 2 for each fault of form, outcome and buffer are today's, but that 2 stands for 10, 11 and 12; by the look-up from before, which went by the
 -- bytes of names, they are today's wherever no two names differ in case alone; by the site lines from before, with the letter `N`, they are today's wherever
--- no line has the letter `T`; by the link lines from before, of four fields, they are today's wherever no link line has a reserve either. Since sheets are
--- read so, and a report that is too long is told as 9.
+-- no line has the letter `T`; by the link lines from before, of four fields, they are today's wherever no link line has a reserve either; by edition 1 alone
+-- they are today's wherever line 1 is not the heading of edition 2. Since sheets are read so, and a report that is too long is told as 9.
 use mathlib.Core.Bool.{Bool, true, false, cond}
 use mathlib.Core.List.{List}
-use mathlib.Core.Path.{_≡_, refl}
-use Prim.Native.Nat.{ℕ}
+use mathlib.Core.Path.{_≡_, refl, ap}
+use Prim.Native.Nat.{ℕ, _≤_, _<_}
 use lib.Dec.{leb}
 use lib.ListN.{length}
+use Rattle.model.specs.Edition.{edition1, edition2, editions}
 use Rattle.model.specs.declared.Edition.{Edition}
-use Rattle.sheet.specs.Sheet.{Read, refused, accepted, readSheet, lookup}
-use Rattle.sheet.specs.Earlier.{Kinds, kind, kindBefore, kindUnmarked, kindUnreserved, Lookup, lookupBytes, readSheetBy}
+use Rattle.sheet.specs.Sheet.{Read, refused, accepted, readSheet, lookup, editionOf}
+use Rattle.sheet.specs.Earlier.{Kinds, kind, kindBefore, kindUnmarked, kindUnreserved, Lookup, lookupBytes, readAsBy}
 use Rattle.sheet.specs.Renumbered.{numberBefore, readBefore, a-sheet-is-read-by-its-kinds, a-sheet-is-read-as-before}
 use Rattle.sheet.specs.Marks.{WithoutMarks, a-sheet-without-marks-is-read-as-before}
 use Rattle.sheet.specs.Reserves.{WithoutReserves, a-sheet-without-reserves-is-read-as-before}
+use Rattle.sheet.specs.Editions.{Headed, editionsBefore, other-sheets-are-read-as-before}
+use Rattle.sheet.specs.Editions.{the-new-heading-was-refused-with-2, the-new-heading-was-refused-with-1}
 use Rattle.sheet.specs.Spelling.{SpeltAlike, a-sheet-spelt-alike-is-read-as-before}
 use Rattle.planner.specs.Outcome.{Planned, Reporter, deliver, planRead, plannedBy}
 use Rattle.planner.specs.declared.Outcome.{Outcome}
 use Rattle.planner.specs.declared.Outcome.the-variants.{Report, Refused}
 
 -- planning by kinds of lines and a look-up of names: `plannedBy` is that by `kind` and `lookup`
-unfoldable pub plannedReading : Kinds → Lookup → Reporter → Edition → List ℕ → List ℕ → Planned
-plannedReading kinds find text ed s b = planRead text s b (readSheetBy kinds find ed s)
+unfoldable pub plannedReading : Kinds → Lookup → Reporter → List Edition → List ℕ → List ℕ → Planned
+plannedReading kinds find text known s b = planRead text s b (readAsBy kinds find (editionOf known s) s)
 
 -- the outcome before: 2 for 10, 11 and 12, at the same line; everything else stays, and so does the buffer
 abbrev pub outcomeBefore : Outcome → Outcome
@@ -32,7 +35,7 @@ outcomeBefore (Refused k l) = Refused (numberBefore k) l
 abbrev pub plannedBefore : Planned → Planned
 plannedBefore p = record { outcome = outcomeBefore (p .outcome); buffer = p .buffer }
 
-module _ (text : Reporter) (ed : Edition) (s b : List ℕ) where
+module _ (text : Reporter) (known : List Edition) (s b : List ℕ) where
   delivered-stays : (r : List ℕ) → deliver r b ≡ plannedBefore (deliver r b)
   unfolding deliver numberBefore
   delivered-stays r = by (leb (length r) (length b)) _ _ refl refl
@@ -47,27 +50,45 @@ module _ (text : Reporter) (ed : Edition) (s b : List ℕ) where
   read-before (accepted net) = delivered-stays (text s net)
 
   -- today's planning is the one by today's kinds of lines and look-up
-  pub a-sheet-is-planned-by-its-kinds : plannedReading kind lookup text ed s b ≡ plannedBy text ed s b
+  pub a-sheet-is-planned-by-its-kinds : plannedReading kind lookup text known s b ≡ plannedBy text known s b
   unfolding plannedReading plannedBy
-  a-sheet-is-planned-by-its-kinds = rw (a-sheet-is-read-by-its-kinds ed s)
+  a-sheet-is-planned-by-its-kinds = rw (a-sheet-is-read-by-its-kinds (editionOf known s) s)
 
   -- what was told as 2 before is told as one of 2, 10, 11, 12 now, at the same line; every other outcome, and the buffer, is as it was
-  pub a-sheet-is-planned-as-before : plannedReading kindBefore lookup text ed s b ≡ plannedBefore (plannedBy text ed s b)
+  pub a-sheet-is-planned-as-before : plannedReading kindBefore lookup text known s b ≡ plannedBefore (plannedBy text known s b)
   unfolding plannedReading plannedBy
-  a-sheet-is-planned-as-before = rw (a-sheet-is-read-as-before ed s) (read-before (readSheet ed s))
+  a-sheet-is-planned-as-before = rw (a-sheet-is-read-as-before (editionOf known s) s) (read-before (readSheet known s))
 
   -- a sheet on which no two names differ in case alone, and whose link lines spell as its site lines do, gets the outcome and the buffer that it had
-  pub a-sheet-spelt-alike-is-planned-as-before : SpeltAlike s → plannedReading kind lookupBytes text ed s b ≡ plannedBy text ed s b
+  pub a-sheet-spelt-alike-is-planned-as-before : SpeltAlike s → plannedReading kind lookupBytes text known s b ≡ plannedBy text known s b
   unfolding plannedReading plannedBy
-  a-sheet-spelt-alike-is-planned-as-before alike = rw (a-sheet-spelt-alike-is-read-as-before ed s alike)
+  a-sheet-spelt-alike-is-planned-as-before alike = rw (a-sheet-spelt-alike-is-read-as-before (editionOf known s) s alike)
 
   -- a sheet without marks gets the outcome and the buffer that it had by the site lines from before
-  pub a-sheet-without-marks-is-planned-as-before : WithoutMarks s → plannedReading kindUnmarked lookup text ed s b ≡ plannedBy text ed s b
+  pub a-sheet-without-marks-is-planned-as-before : WithoutMarks s → plannedReading kindUnmarked lookup text known s b ≡ plannedBy text known s b
   unfolding plannedReading plannedBy
-  a-sheet-without-marks-is-planned-as-before none = rw (a-sheet-without-marks-is-read-as-before ed s none)
+  a-sheet-without-marks-is-planned-as-before none = rw (a-sheet-without-marks-is-read-as-before (editionOf known s) s none)
 
   -- and one without reserves and marks gets those that it had by the link lines from before
   pub a-sheet-without-reserves-is-planned-as-before : WithoutReserves s → WithoutMarks s
-      → plannedReading kindUnreserved lookup text ed s b ≡ plannedBy text ed s b
+      → plannedReading kindUnreserved lookup text known s b ≡ plannedBy text known s b
   unfolding plannedReading plannedBy
-  a-sheet-without-reserves-is-planned-as-before none unmarked = rw (a-sheet-without-reserves-is-read-as-before ed s none unmarked)
+  a-sheet-without-reserves-is-planned-as-before none unmarked = rw (a-sheet-without-reserves-is-read-as-before (editionOf known s) s none unmarked)
+
+-- ---- Card 8
+
+module _ (text : Reporter) (s b : List ℕ) where
+  -- a sheet that is not headed as edition 2, as every sheet of edition 1, is planned as it was
+  pub other-sheets-are-planned-as-before : ¬ (Headed edition2 s) → plannedBy text editions s b ≡ plannedBy text editionsBefore s b
+  unfolding plannedBy
+  other-sheets-are-planned-as-before none = ap (planRead text s b) (other-sheets-are-read-as-before s none)
+
+  module _ (headed : Headed edition2 s) where
+    -- the new heading was refused with 2 at line 1, or with 1 where the sheet is longer than edition 1 allows, and the buffer stayed as it was
+    pub the-new-heading-was-told-as-2 : length s ≤ edition1 .bytes → plannedBy text editionsBefore s b ≡ record { outcome = Refused 2 1; buffer = b }
+    unfolding plannedBy planRead
+    the-new-heading-was-told-as-2 few = rw (the-new-heading-was-refused-with-2 s headed few)
+
+    pub the-new-heading-was-told-as-1 : edition1 .bytes < length s → plannedBy text editionsBefore s b ≡ record { outcome = Refused 1 0; buffer = b }
+    unfolding plannedBy planRead
+    the-new-heading-was-told-as-1 long = rw (the-new-heading-was-refused-with-1 s headed long)

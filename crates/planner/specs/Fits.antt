@@ -10,7 +10,7 @@ use lib.Dec.{leb}
 use lib.ListN.{length, drop}
 use lib.Seq.{sets-eq}
 use Rattle.model.specs.Limits.{REPORT}
-use Rattle.model.specs.Edition.{edition1}
+use Rattle.model.specs.Edition.{editions}
 use Rattle.model.specs.declared.Pairs.{Pairs}
 use Rattle.text_writers.specs.Wrote.{Wrote}
 use Rattle.report.specs.Report.{Plan, reportOf}
@@ -54,6 +54,6 @@ long-enough r b after k h w =
 
 -- a report that stands ready is delivered
 pub ready-is-delivered : {text : Reporter} {s starting stopping : List ℕ} {p : Plan} {pairs : Pairs} → ReadyBy text s starting stopping p pairs → (b : List ℕ)
-    → deliver (reportOf p) b ≡ plannedBy text edition1 s b
+    → deliver (reportOf p) b ≡ plannedBy text editions s b
 unfolding plannedBy planRead
 ready-is-delivered r b = rw (r .read, r .shows) refl

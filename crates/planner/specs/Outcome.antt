@@ -47,14 +47,14 @@ planRead text s b (refused n k) = record { outcome = Refused n k; buffer = b }
 planRead text s b (accepted net) = deliver (text s net) b
 
 -- the outcome of planning the sheet s into the buffer b
-unfoldable pub plannedBy : Reporter → Edition → List ℕ → List ℕ → Planned
-plannedBy text ed s b = planRead text s b (readSheet ed s)
+unfoldable pub plannedBy : Reporter → List Edition → List ℕ → List ℕ → Planned
+plannedBy text known s b = planRead text s b (readSheet known s)
 
 -- with the report in halves, headed `plan`; with that in whole circuits, headed `whole` (02, Card 2)
-abbrev pub planned : Edition → List ℕ → List ℕ → Planned
+abbrev pub planned : List Edition → List ℕ → List ℕ → Planned
 planned = plannedBy report
 
-abbrev pub plannedWhole : Edition → List ℕ → List ℕ → Planned
+abbrev pub plannedWhole : List Edition → List ℕ → List ℕ → Planned
 plannedWhole = plannedBy wholeReport
 
 -- the report that is asked for: in whole circuits, or in halves
@@ -75,11 +75,11 @@ spelt (Report n) b = record { length = n; buffer = b }
 spelt (Refused k l) b = record { length = length (refusalLine k l); buffer = sets b 0 (refusalLine k l) }
 
 -- the answer to the sheet s, in the buffer b
-unfoldable pub answeredBy : Reporter → Edition → List ℕ → List ℕ → Answer
-answeredBy text ed s b = spelt (plannedBy text ed s b .outcome) (plannedBy text ed s b .buffer)
+unfoldable pub answeredBy : Reporter → List Edition → List ℕ → List ℕ → Answer
+answeredBy text known s b = spelt (plannedBy text known s b .outcome) (plannedBy text known s b .buffer)
 
-abbrev pub answered : Edition → List ℕ → List ℕ → Answer
+abbrev pub answered : List Edition → List ℕ → List ℕ → Answer
 answered = answeredBy report
 
-abbrev pub answeredWhole : Edition → List ℕ → List ℕ → Answer
+abbrev pub answeredWhole : List Edition → List ℕ → List ℕ → Answer
 answeredWhole = answeredBy wholeReport

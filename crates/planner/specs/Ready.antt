@@ -4,7 +4,7 @@ use mathlib.Core.Path.{_≡_}
 use mathlib.Core.List.{List, map}
 use Prim.Native.Nat.{ℕ}
 use lib.ListN.{length, take}
-use Rattle.model.specs.Edition.{edition1}
+use Rattle.model.specs.Edition.{editions}
 use Rattle.lists.specs.Numbers.{look}
 use Rattle.model.specs.Trimming.{elimination}
 use Rattle.model.specs.declared.Pairs.{Pairs}
@@ -19,7 +19,7 @@ use Rattle.planner.specs.Shows.{starts, stops}
 -- the lists of the network of an accepted sheet: where its names start and stop, its number of sites, its links and their capacities
 pub record TakenApart (s starting stopping : List ℕ) (n : ℕ) (one two c : List ℕ) : Type 0 where
   pub net : Network
-  pub read : readSheet edition1 s ≡ accepted net
+  pub read : readSheet editions s ≡ accepted net
   pub started : starting ≡ starts net
   pub stopped : stopping ≡ stops net
   pub counted : n ≡ length (net .names)
@@ -41,7 +41,7 @@ pub record Charted {s starting stopping : List ℕ} {n : ℕ} {one two c : List 
 -- the report of the plan p is that of an accepted sheet, and can be written
 pub record ReadyBy (text : Reporter) (s starting stopping : List ℕ) (p : Plan) (pairs : Pairs) : Type 0 where
   pub net : Network
-  pub read : readSheet edition1 s ≡ accepted net
+  pub read : readSheet editions s ≡ accepted net
   pub shows : reportOf p ≡ text s net
   pub writable : CanWrite s starting stopping p pairs
 

@@ -8,8 +8,8 @@ use native.Mathlib.Omega.{arith}
 use native.Mathlib.Nat.{mul-le-mul-right}
 use native.Mathlib.Decide.{decLt}
 use lib.ListN.{length, length-map, List·getD-eq-default}
+use Rattle.model.specs.Edition.{largest}
 use Rattle.model.specs.Limits.{LINKS, SIZE, REPORT}
-use Rattle.model.specs.Edition.{edition1}
 use Rattle.lists.specs.Numbers.{is, sum, look}
 use Rattle.model.specs.Flows.{Links, sites, sumAt, total, atTerminals}
 use Rattle.model.specs.declared.Edition.{Edition}
@@ -38,7 +38,7 @@ name-or-nothing {ed} {s} {net} N P h e v = cases (decLt (v - 1) (length (net .na
     (λ l. h (nameAt s (net .names) (v - 1)) (N .names (v - 1) l .name))
     (λ l. rw (List·getD-eq-default (net .names) (0, 0) {n = v - 1} (omega arith)) e)
 
-module _ {s : List ℕ} {net : Network} (N : IsNetwork edition1 s net) where
+module _ {s : List ℕ} {net : Network} (N : IsNetwork largest s net) where
   abbrev ls : Links
   ls = net .links
 

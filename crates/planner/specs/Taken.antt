@@ -6,15 +6,16 @@ use native.Mathlib.Omega.{arith}
 use lib.ListN.{length, take, replicate, length-append, length-map, length-replicate}
 use lib.Seq.{take-at}
 use Rattle.model.specs.Limits.{LINKS, SITES}
-use Rattle.model.specs.Edition.{edition1, largest}
+use Rattle.model.specs.Edition.{editions, largest}
 use Rattle.lists.specs.Numbers.{look}
 use Rattle.model.specs.Flows.{Links, ends}
 use Rattle.tree.specs.Offer.{links, offer}
 use Rattle.tree.specs.Accepted.{TreeWithin, MarkedTree, a-tree-within-the-limits-is-accepted}
 use Rattle.tree.specs.declared.Offer.the-variants.{Accepted}
+use Rattle.sheet.specs.Editions.{an-accepted-sheet-is-within-the-largest}
 use Rattle.sheet.specs.Sheet.{Network, endsOf, Read, refused, accepted, readSheet}
 use Rattle.sheet.specs.Reading.{padded, lists, reading}
-use Rattle.sheet.specs.SheetTheorem.{IsNetwork, an-accepted-sheet-is-a-tree}
+use Rattle.sheet.specs.SheetTheorem.{IsNetwork}
 use Rattle.sheet.specs.declared.Answer.the-variants as answered
 use Rattle.sheet.specs.declared.Lists.{Lists}
 use Rattle.planner.specs.Outcome.{Reporter, planRead, plannedBy}
@@ -37,23 +38,23 @@ padded-front n m l e = take-at l (replicate (n - length l) 0) m e
 -- the lists of the network of an accepted sheet
 pub record Listed (s : List ℕ) (network : Lists) : Type 0 where
   pub net : Network
-  pub read : readSheet edition1 s ≡ accepted net
+  pub read : readSheet editions s ≡ accepted net
   pub listed : network ≡ lists net
 
 -- an accepted sheet's lists
-pub accepted-is-listed : (s : List ℕ) → reading (readSheet edition1 s) .answer ≡ answered.Accepted → Listed s (reading (readSheet edition1 s) .network)
+pub accepted-is-listed : (s : List ℕ) → reading (readSheet editions s) .answer ≡ answered.Accepted → Listed s (reading (readSheet editions s) .network)
 unfolding reading
-accepted-is-listed s e = by (readSheet edition1 s) refl e
+accepted-is-listed s e = by (readSheet editions s) refl e
   where
-    by : (r : Read) → readSheet edition1 s ≡ r → reading r .answer ≡ answered.Accepted → Listed s (reading r .network)
+    by : (r : Read) → readSheet editions s ≡ r → reading r .answer ≡ answered.Accepted → Listed s (reading r .network)
     by (refused n k) q e = contradiction cc
     by (accepted net) q e = record { net = net; read = q; listed = refl }
 
 -- a refused sheet is refused with the same number and line, and the buffer stays
-pub refused-is-told : (text : Reporter) (s b : List ℕ) (n k : ℕ) → reading (readSheet edition1 s) .answer ≡ answered.Refused n k
-    → plannedBy text edition1 s b ≡ record { outcome = Refused n k; buffer = b }
+pub refused-is-told : (text : Reporter) (s b : List ℕ) (n k : ℕ) → reading (readSheet editions s) .answer ≡ answered.Refused n k
+    → plannedBy text editions s b ≡ record { outcome = Refused n k; buffer = b }
 unfolding reading plannedBy planRead
-refused-is-told text s b n k e = by (readSheet edition1 s) e
+refused-is-told text s b n k e = by (readSheet editions s) e
   where
     by : (r : Read) → reading r .answer ≡ answered.Refused n k → planRead text s b r ≡ record { outcome = Refused n k; buffer = b }
     by (refused m l) e = let p : m ≡ n = cc in let q : l ≡ k = cc in rw (p, q)
@@ -68,8 +69,8 @@ module _ {s : List ℕ} {network : Lists} (r : Listed s network) where
   abbrev m : ℕ
   m = network .links
 
-  given : IsNetwork edition1 s net
-  given = an-accepted-sheet-is-a-tree edition1 s net (r .read)
+  given : IsNetwork largest s net
+  given = an-accepted-sheet-is-within-the-largest s net (r .read)
 
   firsts : length (map (λ l. l .0) (net .links)) ≡ length (net .links)
   firsts = length-map (net .links) (λ l. l .0)
@@ -126,8 +127,8 @@ links-again [] = refl
 links-again (l ∷ ls) = ap (λ r. l ∷ r) (links-again ls)
 
 module _ {s starting stopping : List ℕ} {n : ℕ} {one two c : List ℕ} (a : TakenApart s starting stopping n one two c) where
-  pub the-network-is-given : IsNetwork edition1 s (a .net)
-  the-network-is-given = an-accepted-sheet-is-a-tree edition1 s (a .net) (a .read)
+  pub the-network-is-given : IsNetwork largest s (a .net)
+  the-network-is-given = an-accepted-sheet-is-within-the-largest s (a .net) (a .read)
 
   pub the-links-are-the-networks : links one two ≡ a .net .links
   the-links-are-the-networks = rw (a .firsts, a .seconds) (links-again (a .net .links))

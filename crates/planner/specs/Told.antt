@@ -9,7 +9,7 @@ use native.Mathlib.Omega.{arith}
 use lib.Dec.{leb}
 use lib.ListN.{length}
 use Rattle.model.specs.declared.Edition.{Edition}
-use Rattle.sheet.specs.Sheet.{Read, refused, accepted, readSheet}
+use Rattle.sheet.specs.Sheet.{Read, refused, accepted, readSheet, editionOf}
 use Rattle.sheet.specs.Causes.{Refusal}
 use Rattle.sheet.specs.SheetTheorem.{a-sheet-is-refused-for-its-cause}
 use Rattle.planner.specs.Outcome.{Planned, number, lineOf, Reporter, deliver, planRead, plannedBy}
@@ -24,12 +24,12 @@ zero-or-nine r b = by (leb (length r) (length b)) _ _ refl refl
     by true p q e f = inl e
     by false p q e f = inr f
 
-module _ (text : Reporter) (ed : Edition) (s b : List ℕ) where
+module _ (text : Reporter) (known : List Edition) (s b : List ℕ) where
   pub a-number-of-the-sheet-is-told-just-for-its-cause : (k l : ℕ) → 1 ≤ k → k ≢ 9
-      → ((number (plannedBy text ed s b .outcome) ≡ k) × (lineOf (plannedBy text ed s b .outcome) ≡ l)) ↔ Refusal ed s k l
+      → ((number (plannedBy text known s b .outcome) ≡ k) × (lineOf (plannedBy text known s b .outcome) ≡ l)) ↔ Refusal (editionOf known s) s k l
   unfolding plannedBy planRead
   a-number-of-the-sheet-is-told-just-for-its-cause k l some other =
-      let law = a-sheet-is-refused-for-its-cause ed s k l in (λ t. law .0 (by (readSheet ed s) t), λ c. rw (law .1 c) (refl, refl))
+      let law = a-sheet-is-refused-for-its-cause (editionOf known s) s k l in (λ t. law .0 (by (readSheet known s) t), λ c. rw (law .1 c) (refl, refl))
     where
       by : (r : Read) → (number (planRead text s b r .outcome) ≡ k) × (lineOf (planRead text s b r .outcome) ≡ l) → r ≡ refused k l
       by (refused n m) t = let e = t .0 in let f = t .1 in cc

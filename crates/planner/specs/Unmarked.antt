@@ -12,7 +12,7 @@ use Rattle.model.specs.Pairing.{pairList}
 use Rattle.model.specs.declared.Edition.{Edition}
 use Rattle.theory_trees.specs.Ends.{unmarked-ends-are-leaves, unmarked-ends-are-outer}
 use Rattle.theory_walk.specs.Unmarked.{unmarked-pair-lists-stay}
-use Rattle.sheet.specs.Sheet.{Network, endsOf, Read, refused, accepted, readSheet, lookup}
+use Rattle.sheet.specs.Sheet.{Network, endsOf, Read, refused, accepted, readSheet, lookup, editionOf}
 use Rattle.sheet.specs.Earlier.{kindUnmarked}
 use Rattle.sheet.specs.Marks.{WithoutMarks, no-site-is-marked}
 use Rattle.sheet.specs.SheetTheorem.{an-accepted-sheet-is-a-tree}
@@ -58,17 +58,17 @@ module _ (s : List ℕ) (net : Network) where
 
 -- ---- planning before
 
-module _ (ed : Edition) (s : List ℕ) (none : WithoutMarks s) where
+module _ (known : List Edition) (s : List ℕ) (none : WithoutMarks s) where
   -- no site of the network is marked
-  pub unmarked : (net : Network) → readSheet ed s ≡ accepted net → (v : ℕ) → mark (net .marks) v ≢ 1
+  pub unmarked : (net : Network) → readSheet known s ≡ accepted net → (v : ℕ) → mark (net .marks) v ≢ 1
   unmarked net e zero m = absurd (omega arith)
-  unmarked net e (suc i) m = absurd (omega (arith, no-site-is-marked ed s none net e i))
+  unmarked net e (suc i) m = absurd (omega (arith, no-site-is-marked (editionOf known s) s none net e i))
 
   -- a text of the report that agrees on the network of the sheet plans alike
-  alike : (text before : Reporter) (b : List ℕ) → ((net : Network) → readSheet ed s ≡ accepted net → text s net ≡ before s net)
-      → plannedBy before ed s b ≡ plannedBy text ed s b
+  alike : (text before : Reporter) (b : List ℕ) → ((net : Network) → readSheet known s ≡ accepted net → text s net ≡ before s net)
+      → plannedBy before known s b ≡ plannedBy text known s b
   unfolding plannedBy planRead
-  alike text before b h = by (readSheet ed s) h
+  alike text before b h = by (readSheet known s) h
     where
       by : (r : Read) → ((net : Network) → r ≡ accepted net → text s net ≡ before s net) → planRead before s b r ≡ planRead text s b r
       by (refused k l) h = refl
@@ -76,13 +76,13 @@ module _ (ed : Edition) (s : List ℕ) (none : WithoutMarks s) where
 
   -- a sheet without marks gets the outcome and the buffer that it had: by the site lines, the ends and the walk from before
   pub an-unmarked-sheet-is-planned-as-before : (b : List ℕ)
-      → plannedReading kindUnmarked lookup (λ s net. reportBefore s net (halvesBy net)) ed s b ≡ planned ed s b
-  an-unmarked-sheet-is-planned-as-before b = a-sheet-without-marks-is-planned-as-before (λ s net. reportBefore s net (halvesBy net)) ed s b none
+      → plannedReading kindUnmarked lookup (λ s net. reportBefore s net (halvesBy net)) known s b ≡ planned known s b
+  an-unmarked-sheet-is-planned-as-before b = a-sheet-without-marks-is-planned-as-before (λ s net. reportBefore s net (halvesBy net)) known s b none
       ∙ alike report (λ s net. reportBefore s net (halvesBy net)) b
-      (λ net e. a-report-without-marks-is-as-before s net (an-accepted-sheet-is-a-tree ed s net e .tree) (unmarked net e))
+      (λ net e. a-report-without-marks-is-as-before s net (an-accepted-sheet-is-a-tree (editionOf known s) s net e .tree) (unmarked net e))
 
   pub an-unmarked-sheet-is-planned-whole-as-before : (b : List ℕ)
-      → plannedReading kindUnmarked lookup (λ s net. reportBefore s net (wholesBy net)) ed s b ≡ plannedWhole ed s b
-  an-unmarked-sheet-is-planned-whole-as-before b = a-sheet-without-marks-is-planned-as-before (λ s net. reportBefore s net (wholesBy net)) ed s b none
+      → plannedReading kindUnmarked lookup (λ s net. reportBefore s net (wholesBy net)) known s b ≡ plannedWhole known s b
+  an-unmarked-sheet-is-planned-whole-as-before b = a-sheet-without-marks-is-planned-as-before (λ s net. reportBefore s net (wholesBy net)) known s b none
       ∙ alike wholeReport (λ s net. reportBefore s net (wholesBy net)) b
-      (λ net e. a-whole-report-without-marks-is-as-before s net (an-accepted-sheet-is-a-tree ed s net e .tree) (unmarked net e))
+      (λ net e. a-whole-report-without-marks-is-as-before s net (an-accepted-sheet-is-a-tree (editionOf known s) s net e .tree) (unmarked net e))

@@ -6,8 +6,8 @@ use native.Mathlib.Omega.{arith}
 use native.Mathlib.Nat.{zero-add}
 use lib.ListN.{length, take, drop, length-map}
 use lib.Seq.{take-at, sets-eq}
+use Rattle.model.specs.Edition.{largest}
 use Rattle.model.specs.Limits.{SITES}
-use Rattle.model.specs.Edition.{edition1}
 use Rattle.lists.specs.Numbers.{look, upfrom}
 use Rattle.lists.specs.Places.{length-upfrom}
 use Rattle.model.specs.Flows.{Links, Site, leaf}
@@ -36,7 +36,7 @@ use Rattle.planner.specs.Taken.{the-network-is-given, the-links-are-the-
 use Rattle.planner.specs.Ready.{TakenApart, Charted, ReadyBy}
 use Rattle.planner.specs.Works.{place, terminal-place, figures-are-ready}
 
-module _ {s : List ℕ} {net : Network} (N : IsNetwork edition1 s net) where
+module _ {s : List ℕ} {net : Network} (N : IsNetwork largest s net) where
   abbrev n : ℕ
   n = length (net .names)
 

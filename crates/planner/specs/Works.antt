@@ -8,7 +8,7 @@ use native.Mathlib.Numerals.{one-add}
 use lib.ListN.{length, getD, take, drop, length-append, length-map, List·getD-map}
 use lib.Seq.{take-at, getD-take, length-take-le}
 use Rattle.model.specs.Limits.{SITES}
-use Rattle.model.specs.Edition.{edition1}
+use Rattle.model.specs.Edition.{editions, largest}
 use Rattle.lists.specs.Numbers.{look, Each}
 use Rattle.model.specs.Flows.{Links, Site, Route, one, two, ends as ends-of}
 use Rattle.model.specs.Trimming.{Balanced, balanced}
@@ -30,7 +30,7 @@ use Rattle.pairing_order.specs.Laws.{ordering-keeps-length}
 use Rattle.sheet.specs.Sheet.{Network, accepted, readSheet}
 use Rattle.sheet.specs.SheetTheorem.{IsNetwork}
 use Rattle.report.specs.Report.{lines, reportOf}
-use Rattle.report.specs.Shown.{Named, AllNamed, Links as Linked, Owners, Paired, no-pair, shownBy}
+use Rattle.report.specs.Shown.{Named, AllNamed, Owners, Paired, no-pair, shownBy, Links as Linked}
 use Rattle.planner.specs.Outcome.{Reporter}
 use Rattle.planner.specs.Figures.{Figures, Showable, terminal, halves, pairsBy, planShowing, halves-can-be-shown, the-report-shows-halves}
 use Rattle.planner.specs.Small.{few-links, pairs-shown-are-sound, total-shown-within, figures-are-small}
@@ -39,7 +39,7 @@ use Rattle.planner.specs.Taken.{padded-length, the-network-is-given, the
 use Rattle.planner.specs.Taken.{the-network-is-a-marked-tree, the-ends-are-the-networks}
 use Rattle.planner.specs.Ready.{TakenApart, Charted, ReadyBy, Ready}
 
-module _ {s : List ℕ} {net : Network} (N : IsNetwork edition1 s net) (f : Figures) (h : Showable net f) where
+module _ {s : List ℕ} {net : Network} (N : IsNetwork largest s net) (f : Figures) (h : Showable net f) where
   abbrev size : ℕ
   size = length (net .names)
 
@@ -116,7 +116,7 @@ module _ {s : List ℕ} {net : Network} (N : IsNetwork edition1 s net) (f : Figu
           rw (← (w .paired), getD-take (ps .count) (ps .list) i no-pair l) at named;
     }
 
-    pub figures-are-ready : {text : Reporter} → text s net ≡ reportOf (planShowing net s f) → readSheet edition1 s ≡ accepted net
+    pub figures-are-ready : {text : Reporter} → text s net ≡ reportOf (planShowing net s f) → readSheet editions s ≡ accepted net
         → ReadyBy text s (starts net) (stops net) (planBy net f s terminals owners sizes counts before ps) ps
     figures-are-ready told read =
         let shows = the-lists-show-the-figures net f s ps w in
@@ -139,7 +139,7 @@ module _ {s : List ℕ} {net : Network} (N : IsNetwork edition1 s net) (f : Figu
 
 -- ---- in halves
 
-module _ {s : List ℕ} {net : Network} (N : IsNetwork edition1 s net) where
+module _ {s : List ℕ} {net : Network} (N : IsNetwork largest s net) where
   abbrev count : ℕ
   count = length (net .names)
 

@@ -2,7 +2,7 @@
 ghost use mathlib.Core.Path.{_≡_};
 ghost use Prim.Native.Nat.{_≤_};
 ghost use lib.ListN.{length, take};
-ghost use Rattle.model.specs.Edition.{edition1};
+ghost use Rattle.model.specs.Edition.{editions};
 ghost use Rattle.tree_links.specs.Chains.{Chained};
 ghost use Rattle.report.specs.Report.{reportOf};
 ghost use Rattle.report.specs.Shown.{shownBy, CanWrite};
@@ -165,8 +165,8 @@ fn plan_charted(
 ) -> Outcome
     requires { ⌜ ((a : TakenApart (now sheet) (now start) (now end) n (now one) (now two) (now capacity))
         × Charted a (now order) (now ends) (now last) (now before)) ⌝ }
-    ensures told { λ r. ⌜ r ≡ planned edition1 (now (sheet .entry)) (now (report .entry)) .outcome ⌝ }
-    ensures left { λ r. ⌜ now (report .exit) ≡ planned edition1 (now (sheet .entry)) (now (report .entry)) .buffer ⌝ }
+    ensures told { λ r. ⌜ r ≡ planned editions (now (sheet .entry)) (now (report .entry)) .outcome ⌝ }
+    ensures left { λ r. ⌜ now (report .exit) ≡ planned editions (now (sheet .entry)) (now (report .entry)) .buffer ⌝ }
 {
     let m = one.len();
     let mut list = [0u64; SITES];
@@ -212,8 +212,8 @@ fn whole_charted(
 ) -> Outcome
     requires { ⌜ ((a : TakenApart (now sheet) (now start) (now end) n (now one) (now two) (now capacity))
         × Charted a (now order) (now ends) (now last) (now before)) ⌝ }
-    ensures told { λ r. ⌜ r ≡ plannedWhole edition1 (now (sheet .entry)) (now (report .entry)) .outcome ⌝ }
-    ensures left { λ r. ⌜ now (report .exit) ≡ plannedWhole edition1 (now (sheet .entry)) (now (report .entry)) .buffer ⌝ }
+    ensures told { λ r. ⌜ r ≡ plannedWhole editions (now (sheet .entry)) (now (report .entry)) .outcome ⌝ }
+    ensures left { λ r. ⌜ now (report .exit) ≡ plannedWhole editions (now (sheet .entry)) (now (report .entry)) .buffer ⌝ }
 {
     let m = one.len();
     let mut list = [0u64; SITES];
@@ -263,8 +263,8 @@ fn plan_chained<'a>(
 ) -> Outcome
     requires { ⌜ ((a : TakenApart (now sheet) (now start) (now end) n (now one) (now two) (now capacity)) × (now marks ≡ a .net .marks)
         × Ordered n (now one) (now two) (now order) × Chained (now one) (now two) (now last) (now before)) ⌝ }
-    ensures told { λ r. ⌜ r ≡ plannedBy (reporter whole) edition1 (now (sheet .entry)) (now (buf .entry)) .outcome ⌝ }
-    ensures left { λ r. ⌜ now (buf .exit) ≡ plannedBy (reporter whole) edition1 (now (sheet .entry)) (now (buf .entry)) .buffer ⌝ }
+    ensures told { λ r. ⌜ r ≡ plannedBy (reporter whole) editions (now (sheet .entry)) (now (buf .entry)) .outcome ⌝ }
+    ensures left { λ r. ⌜ now (buf .exit) ≡ plannedBy (reporter whole) editions (now (sheet .entry)) (now (buf .entry)) .buffer ⌝ }
 {
     let ends = tree_links::ends(n, last, before, one, two, marks);
     if whole {
@@ -314,8 +314,8 @@ fn plan_lists(
     report: &mut [u8],
 ) -> Outcome
     requires { ⌜ ((a : TakenApart (now sheet) (now start) (now end) n (now one) (now two) (now capacity)) × (now marks ≡ a .net .marks)) ⌝ }
-    ensures told { λ r. ⌜ r ≡ plannedBy (reporter whole) edition1 (now (sheet .entry)) (now (report .entry)) .outcome ⌝ }
-    ensures left { λ r. ⌜ now (report .exit) ≡ plannedBy (reporter whole) edition1 (now (sheet .entry)) (now (report .entry)) .buffer ⌝ }
+    ensures told { λ r. ⌜ r ≡ plannedBy (reporter whole) editions (now (sheet .entry)) (now (report .entry)) .outcome ⌝ }
+    ensures left { λ r. ⌜ now (report .exit) ≡ plannedBy (reporter whole) editions (now (sheet .entry)) (now (report .entry)) .buffer ⌝ }
 {
     let tree = tree::eliminate(n, one, two, marks, capacity);
     let chains = tree_links::chain(one, two);
@@ -353,8 +353,8 @@ fn plan_parts<'a>(
     requires { ⌜ ((a : TakenApart (now sheet) (now start) (now end) n (take m (now one)) (take m (now two)) (take m (now capacity)))
         × (take n (now mark) ≡ a .net .marks) × (m ≤ length (now one)) × (m ≤ length (now two)) × (m ≤ length (now capacity))
         × (n ≤ length (now mark))) ⌝ }
-    ensures told { λ r. ⌜ r ≡ plannedBy (reporter whole) edition1 (now (sheet .entry)) (now (report .entry)) .outcome ⌝ }
-    ensures left { λ r. ⌜ now (report .exit) ≡ plannedBy (reporter whole) edition1 (now (sheet .entry)) (now (report .entry)) .buffer ⌝ }
+    ensures told { λ r. ⌜ r ≡ plannedBy (reporter whole) editions (now (sheet .entry)) (now (report .entry)) .outcome ⌝ }
+    ensures left { λ r. ⌜ now (report .exit) ≡ plannedBy (reporter whole) editions (now (sheet .entry)) (now (report .entry)) .buffer ⌝ }
 {
     plan_lists(
         whole,
@@ -373,8 +373,8 @@ fn plan_parts<'a>(
 // The network of an accepted sheet, taken apart and planned in whole circuits or in halves.
 fn plan_network(whole: bool, sheet: &[u8], network: Lists, report: &mut [u8]) -> Outcome
     requires { ⌜ Listed (now sheet) network ⌝ }
-    ensures told { λ r. ⌜ r ≡ plannedBy (reporter whole) edition1 (now (sheet .entry)) (now (report .entry)) .outcome ⌝ }
-    ensures left { λ r. ⌜ now (report .exit) ≡ plannedBy (reporter whole) edition1 (now (sheet .entry)) (now (report .entry)) .buffer ⌝ }
+    ensures told { λ r. ⌜ r ≡ plannedBy (reporter whole) editions (now (sheet .entry)) (now (report .entry)) .outcome ⌝ }
+    ensures left { λ r. ⌜ now (report .exit) ≡ plannedBy (reporter whole) editions (now (sheet .entry)) (now (report .entry)) .buffer ⌝ }
 {
     let n = network.sites;
     let m = network.links;
@@ -395,8 +395,8 @@ fn plan_network(whole: bool, sheet: &[u8], network: Lists, report: &mut [u8]) ->
 
 // Plans a sheet in whole circuits or in halves: writes that report into the buffer and tells its length, or refuses the sheet and leaves the buffer as it was.
 pub fn report_on(whole: bool, sheet: &[u8], report: &mut [u8]) -> Outcome
-    ensures told { λ r. ⌜ r ≡ plannedBy (reporter whole) edition1 (now (sheet .entry)) (now (report .entry)) .outcome ⌝ }
-    ensures left { λ r. ⌜ now (report .exit) ≡ plannedBy (reporter whole) edition1 (now (sheet .entry)) (now (report .entry)) .buffer ⌝ }
+    ensures told { λ r. ⌜ r ≡ plannedBy (reporter whole) editions (now (sheet .entry)) (now (report .entry)) .outcome ⌝ }
+    ensures left { λ r. ⌜ now (report .exit) ≡ plannedBy (reporter whole) editions (now (sheet .entry)) (now (report .entry)) .buffer ⌝ }
 {
     let reading = sheet::read(sheet);
     let answer = reading.answer;
@@ -408,16 +408,16 @@ pub fn report_on(whole: bool, sheet: &[u8], report: &mut [u8]) -> Outcome
 
 // Plans a sheet in halves, with the report headed `plan`.
 pub fn plan(sheet: &[u8], report: &mut [u8]) -> Outcome
-    ensures told { λ r. ⌜ r ≡ planned edition1 (now (sheet .entry)) (now (report .entry)) .outcome ⌝ }
-    ensures left { λ r. ⌜ now (report .exit) ≡ planned edition1 (now (sheet .entry)) (now (report .entry)) .buffer ⌝ }
+    ensures told { λ r. ⌜ r ≡ planned editions (now (sheet .entry)) (now (report .entry)) .outcome ⌝ }
+    ensures left { λ r. ⌜ now (report .exit) ≡ planned editions (now (sheet .entry)) (now (report .entry)) .buffer ⌝ }
 {
     report_on(false, sheet, report)
 }
 
 // Plans a sheet in whole circuits, with the report headed `whole` (02, Card 2).
 pub fn whole(sheet: &[u8], report: &mut [u8]) -> Outcome
-    ensures told { λ r. ⌜ r ≡ plannedWhole edition1 (now (sheet .entry)) (now (report .entry)) .outcome ⌝ }
-    ensures left { λ r. ⌜ now (report .exit) ≡ plannedWhole edition1 (now (sheet .entry)) (now (report .entry)) .buffer ⌝ }
+    ensures told { λ r. ⌜ r ≡ plannedWhole editions (now (sheet .entry)) (now (report .entry)) .outcome ⌝ }
+    ensures left { λ r. ⌜ now (report .exit) ≡ plannedWhole editions (now (sheet .entry)) (now (report .entry)) .buffer ⌝ }
 {
     report_on(true, sheet, report)
 }
@@ -425,8 +425,8 @@ pub fn whole(sheet: &[u8], report: &mut [u8]) -> Outcome
 // The answer to a sheet in whole circuits or in halves, as the program prints it: the report, or the line of the refusal, from the start of the buffer, and
 // its length.
 pub fn answer_on(whole: bool, sheet: &[u8], buf: &mut [u8]) -> usize
-    ensures told { λ r. ⌜ r ≡ answeredBy (reporter whole) edition1 (now (sheet .entry)) (now (buf .entry)) .length ⌝ }
-    ensures left { λ r. ⌜ now (buf .exit) ≡ answeredBy (reporter whole) edition1 (now (sheet .entry)) (now (buf .entry)) .buffer ⌝ }
+    ensures told { λ r. ⌜ r ≡ answeredBy (reporter whole) editions (now (sheet .entry)) (now (buf .entry)) .length ⌝ }
+    ensures left { λ r. ⌜ now (buf .exit) ≡ answeredBy (reporter whole) editions (now (sheet .entry)) (now (buf .entry)) .buffer ⌝ }
     ensures within { λ r. ⌜ (50 ≤ length (now (buf .entry)) → r ≤ length (now (buf .exit))) ⌝ }
 {
     let outcome = report_on(whole, sheet, buf);
@@ -438,8 +438,8 @@ pub fn answer_on(whole: bool, sheet: &[u8], buf: &mut [u8]) -> usize
 
 // The answer to a sheet in halves.
 pub fn answer(sheet: &[u8], buf: &mut [u8]) -> usize
-    ensures told { λ r. ⌜ r ≡ answered edition1 (now (sheet .entry)) (now (buf .entry)) .length ⌝ }
-    ensures left { λ r. ⌜ now (buf .exit) ≡ answered edition1 (now (sheet .entry)) (now (buf .entry)) .buffer ⌝ }
+    ensures told { λ r. ⌜ r ≡ answered editions (now (sheet .entry)) (now (buf .entry)) .length ⌝ }
+    ensures left { λ r. ⌜ now (buf .exit) ≡ answered editions (now (sheet .entry)) (now (buf .entry)) .buffer ⌝ }
     ensures within { λ r. ⌜ (50 ≤ length (now (buf .entry)) → r ≤ length (now (buf .exit))) ⌝ }
 {
     answer_on(false, sheet, buf)

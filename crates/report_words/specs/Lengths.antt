@@ -1,17 +1,18 @@
 -- How long the words are: a number with commas by its digits, and the line of any refusal fits 130 bytes.
-use mathlib.Core.Path.{_≡_, ap}
+use mathlib.Core.Path.{_≡_, refl, ap}
 use mathlib.Core.List.{List, [], _∷_, _++_}
 use Prim.Native.Nat.{ℕ, _+_, _*_, _/_, _^_, _≤_, _<_}
 use native.Mathlib.Decide.{decLt}
 use native.Mathlib.Omega.{arith}
 use borrow.Author.Tests.{lt-ltb, le-ltb}
 use lib.ListN.{length, length-append}
-use Rattle.model.specs.Limits.{SITES, BYTES, SIZE}
+use Rattle.model.specs.Limits.{SIZE}
+use Rattle.model.specs.Edition.{edition1, edition2}
 use Rattle.model.specs.Text.{bytes}
 use Rattle.lists.specs.Sums.{pick-cases}
-use Rattle.text_writers.specs.Fields.{decimal}
+use Rattle.text_writers.specs.Fields.{digits, decimal}
 use Rattle.text_writers.specs.Decimal.{decimal-length}
-use Rattle.report_words.specs.Words.{three, comma, grouped, place, cause, words}
+use Rattle.report_words.specs.Words.{three, comma, grouped, either, place, cause, words}
 
 -- ---- a number with commas, by its size
 
@@ -26,6 +27,15 @@ grouped-thousands n h l = rw (le-ltb n 1000 h, lt-ltb n (1000 * 1000) l)
 pub grouped-millions : (n : ℕ) → 1000 * 1000 ≤ n → grouped n ≡ comma (comma (decimal (n / (1000 * 1000))) (n / 1000)) n
 unfolding grouped
 grouped-millions n h = rw (le-ltb n 1000 (omega arith), le-ltb n (1000 * 1000) h)
+
+-- the limits of both editions, as they are written
+pub the-bytes-are-told : either (edition1 .bytes) (edition2 .bytes) ≡ bytes "16,384 (edition 2: 24,576)"
+unfolding either grouped comma three decimal digits
+the-bytes-are-told = refl
+
+pub the-sites-are-told : either (edition1 .sites) (edition2 .sites) ≡ bytes "256 (edition 2: 384)"
+unfolding either grouped decimal digits
+the-sites-are-told = refl
 
 -- ---- lengths
 
@@ -70,10 +80,10 @@ pub cause-length : (n : ℕ) → length (cause n) ≤ 78
 unfolding cause
 cause-length n =
     let P : List ℕ → Type 0 = λ t. length t ≤ 78 in
-    pick-cases P n 1 _ _ (λ e. limit-length (bytes "no bytes, or more than ") BYTES (omega arith) (omega arith))
+    pick-cases P n 1 _ _ (λ e. rw the-bytes-are-told (omega arith))
     (λ d. pick-cases P n 2 _ _ (λ e. omega arith)
     (λ d. pick-cases P n 3 _ _ (λ e. limit-length (bytes "size or reserve above ") SIZE (omega arith) (omega arith))
-    (λ d. pick-cases P n 4 _ _ (λ e. limit-length (bytes "more sites than ") SITES (omega arith) (omega arith))
+    (λ d. pick-cases P n 4 _ _ (λ e. rw the-sites-are-told (omega arith))
     (λ d. pick-cases P n 5 _ _ (λ e. omega arith)
     (λ d. pick-cases P n 6 _ _ (λ e. omega arith)
     (λ d. pick-cases P n 7 _ _ (λ e. omega arith)

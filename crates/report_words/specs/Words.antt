@@ -4,7 +4,8 @@ use mathlib.Core.Bool.{cond}
 use mathlib.Core.List.{List, [], _∷_, _++_}
 use Prim.Native.Nat.{ℕ, _+_, _*_, _/_, _%_}
 use lib.Dec.{ltb}
-use Rattle.model.specs.Limits.{SITES, BYTES, SIZE}
+use Rattle.model.specs.Limits.{SIZE}
+use Rattle.model.specs.Edition.{edition1, edition2}
 use Rattle.lists.specs.Numbers.{pick}
 use Rattle.model.specs.Text.{bytes}
 use Rattle.text_writers.specs.Fields.{decimal}
@@ -24,6 +25,10 @@ grouped n =
     (cond (ltb n (1000 * 1000)) (comma (decimal (n / 1000)) n)
     (comma (comma (decimal (n / (1000 * 1000))) (n / 1000)) n))
 
+-- the limits of both editions (02, Card 8)
+unfoldable pub either : ℕ → ℕ → List ℕ
+either one two = grouped one ++ (bytes " (edition 2: " ++ (grouped two ++ bytes ")"))
+
 -- where the fault is: a line, or the sheet as a whole (01: line 0)
 unfoldable pub place : ℕ → List ℕ
 place l = pick l 0 (bytes "the sheet: ") (bytes "line " ++ (decimal l ++ bytes ": "))
@@ -31,10 +36,10 @@ place l = pick l 0 (bytes "the sheet: ") (bytes "line " ++ (decimal l ++ bytes "
 -- what is wrong, by the number of the refusal
 unfoldable pub cause : ℕ → List ℕ
 cause n =
-    pick n 1 (bytes "no bytes, or more than " ++ grouped BYTES)
+    pick n 1 (bytes "no bytes, or more than " ++ either (edition1 .bytes) (edition2 .bytes))
     (pick n 2 (bytes "wrong heading, letter or line ending")
     (pick n 3 (bytes "size or reserve above " ++ grouped SIZE)
-    (pick n 4 (bytes "more sites than " ++ grouped SITES)
+    (pick n 4 (bytes "more sites than " ++ either (edition1 .sites) (edition2 .sites))
     (pick n 5 (bytes "name already given to a site")
     (pick n 6 (bytes "link to a name not given on a line above")
     (pick n 7 (bytes "link whose sites are already joined by links above, or are one site")

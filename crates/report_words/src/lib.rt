@@ -4,10 +4,8 @@ ghost use Rattle.text_writers.specs.Wrote.{Wrote, Room};
 ghost use Prim.Native.Nat.{_≤_};
 ghost use Rattle.report_words.specs.Words.{three, grouped, place, cause, words};
 ghost use Rattle.report_words.specs.TwoTexts.{sheetWord, logLong, logWords, wordsOf, refusalOf};
-use model::BYTES;
 use model::LOGBYTES;
 use model::LOGLINES;
-use model::SITES;
 use model::SIZE;
 use text_writers::put_bytes;
 use text_writers::put_number;
@@ -72,10 +70,15 @@ fn put_cause(buf: &mut [u8], at: usize, number: u64) -> usize
     ensures { λ r. ⌜ Wrote (now (buf .entry)) at (cause number ++ (10 ∷ [])) (now (buf .exit)) r ⌝ }
 {
     match number {
-        1 => put_limit(buf, at, b"no bytes, or more than", BYTES as u64),
+        1 => put_bytes(
+            buf,
+            at,
+            b"no bytes, or more than 16,384 (edition 2: 24,576)",
+            b'\n',
+        ),
         2 => put_bytes(buf, at, b"wrong heading, letter or line ending", b'\n'),
         3 => put_limit(buf, at, b"size or reserve above", SIZE),
-        4 => put_limit(buf, at, b"more sites than", SITES as u64),
+        4 => put_bytes(buf, at, b"more sites than 256 (edition 2: 384)", b'\n'),
         5 => put_bytes(buf, at, b"name already given to a site", b'\n'),
         6 => put_bytes(buf, at, b"link to a name not given on a line above", b'\n'),
         7 => put_bytes(

@@ -3,7 +3,7 @@
 use mathlib.Core.Bool.{Bool, true, false, cond, _&&_}
 use mathlib.Core.List.{List, [], _∷_}
 use mathlib.Core.Logic.{inr}
-use mathlib.Core.Path.{_≡_, refl, sym, ap, subst, _∙_}
+use mathlib.Core.Path.{_≡_, refl, sym, ap, _∙_}
 use Prim.Native.Nat.{ℕ, _+_, _≤_, _<_}
 use native.Mathlib.Decide.{decLt}
 use native.Mathlib.Omega.{arith}
@@ -20,8 +20,9 @@ use Rattle.text_lines.specs.Lines.{lineLength, lineAt}
 use Rattle.text_fields.specs.FieldLaws.{both, fails}
 use Rattle.sheet_kinds.specs.LineKinds.{same, fields, field, isHeading}
 use Rattle.sheet_kinds.specs.LineKindLaws.{same-are-equal}
-use Rattle.sheet.specs.Sheet.{Network, Read, refused, accepted, readAs, editionOf, readSheet, rangeIn, nameRange}
-use Rattle.sheet.specs.Causes.{Ended, unended, no-heading, start, by-length, by-line}
+use Rattle.sheet.specs.Sheet.{Network, refused, accepted, readAs, editionOf, readSheet, rangeIn, nameRange}
+use Rattle.sheet.specs.Causes.{Refusal, unended, no-heading, start, by-length, by-line}
+use Rattle.sheet.specs.Answers.{a-line-at-fault-is-on-the-sheet}
 use Rattle.sheet.specs.SheetTheorem.{IsNetwork, an-accepted-sheet-is-a-tree, a-sheet-is-refused-for-its-cause}
 
 -- line 1 is the heading of an edition
@@ -77,6 +78,11 @@ edition-1-alone s = by (isHeading 49 (fields (lineAt s 0)))
     by false = refl
 
 -- ---- limits
+
+-- a line at fault is within the most bytes that a sheet may have
+pub a-line-at-fault-is-within-the-limit : (s : List ℕ) {n k : ℕ} → Refusal (editionOf editions s) s n k → k ≤ BYTES
+a-line-at-fault-is-within-the-limit s c =
+    omega (arith, a-line-at-fault-is-on-the-sheet (editionOf editions s) s c .1, of-the-edition (λ ed. ed .bytes ≤ BYTES) s (omega arith) (omega arith))
 
 -- an accepted sheet of either edition is a tree within the limits of the largest
 pub an-accepted-sheet-is-within-the-largest : (s : List ℕ) (net : Network) → readSheet editions s ≡ accepted net → IsNetwork largest s net

@@ -5,8 +5,8 @@ use mathlib.Core.List.{List}
 use Prim.Native.Nat.{ℕ, _≤_}
 use native.Mathlib.Omega.{arith}
 use Rattle.model.specs.Limits.{BYTES, LOGLINES}
-use Rattle.model.specs.Edition.{edition1}
-use Rattle.sheet.specs.Answers.{a-line-at-fault-is-on-the-sheet}
+use Rattle.model.specs.Edition.{editions}
+use Rattle.sheet.specs.Editions.{a-line-at-fault-is-within-the-limit}
 use Rattle.logs.specs.Outcome.{textOf, number, lineOf, countOf, replayed}
 use Rattle.logs.specs.Told.{ReplayTold, faulty-sheet, long-log, few-places, all-answered, the-replay-is-told-or-its-cause}
 use Rattle.logs.specs.declared.Outcome.{Outcome}
@@ -39,9 +39,9 @@ a-bounded-replay-is-told (Refused t k l) b =
     record { told-text = omega arith; told-number = omega arith; told-line = omega arith; told-count = omega arith }
 
 module _ (s log l : List ℕ) where
-  bounded : ReplayTold edition1 s log l → Bounded (replayed edition1 s log l .outcome)
+  bounded : ReplayTold editions s log l → Bounded (replayed editions s log l .outcome)
   bounded (faulty-sheet k line c n r) =
-      let near = a-line-at-fault-is-on-the-sheet edition1 s c in
+      let near = a-line-at-fault-is-within-the-limit s c in
       record {
         text-small = omega (arith, r .text-told);
         number-small = omega (arith, r .number-told, n .known);
@@ -68,6 +68,6 @@ module _ (s log l : List ℕ) where
   }
 
   -- the number returned, taken apart as the C header does, is the outcome's text, number, line and count
-  pub the-packed-number-tells-the-replay : TellsReplay (packedReplay (replayed edition1 s log l .outcome)) (replayed edition1 s log l .outcome)
+  pub the-packed-number-tells-the-replay : TellsReplay (packedReplay (replayed editions s log l .outcome)) (replayed editions s log l .outcome)
   the-packed-number-tells-the-replay =
-      a-bounded-replay-is-told (replayed edition1 s log l .outcome) (bounded (the-replay-is-told-or-its-cause edition1 s log l))
+      a-bounded-replay-is-told (replayed editions s log l .outcome) (bounded (the-replay-is-told-or-its-cause editions s log l))

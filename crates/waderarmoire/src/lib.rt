@@ -1,7 +1,7 @@
 // The planner as a library for other languages.
 use planner::Outcome;
 ghost use mathlib.Core.Path.{_≡_};
-ghost use Rattle.model.specs.Edition.{edition1};
+ghost use Rattle.model.specs.Edition.{editions};
 ghost use Rattle.planner.specs.Outcome.{planned, plannedWhole};
 ghost use Rattle.orders.specs.Outcome.{orderOf};
 ghost use Rattle.logs.specs.Outcome.{replayed};
@@ -21,8 +21,8 @@ fn pack(outcome: Outcome) -> u64
 // Plans a sheet into the caller's buffer, as planner::plan does, and tells the outcome as one number.
 #[no_mangle]
 pub extern "C" fn waderarmoire_plan(sheet: &[u8], report: &mut [u8]) -> u64
-    ensures told { λ r. ⌜ r ≡ packed (planned edition1 (now (sheet .entry)) (now (report .entry)) .outcome) ⌝ }
-    ensures left { λ r. ⌜ now (report .exit) ≡ planned edition1 (now (sheet .entry)) (now (report .entry)) .buffer ⌝ }
+    ensures told { λ r. ⌜ r ≡ packed (planned editions (now (sheet .entry)) (now (report .entry)) .outcome) ⌝ }
+    ensures left { λ r. ⌜ now (report .exit) ≡ planned editions (now (sheet .entry)) (now (report .entry)) .buffer ⌝ }
 {
     pack(planner::plan(sheet, report))
 }
@@ -30,8 +30,8 @@ pub extern "C" fn waderarmoire_plan(sheet: &[u8], report: &mut [u8]) -> u64
 // Plans a sheet in whole circuits into the caller's buffer, as planner::whole does, and tells the outcome as one number.
 #[no_mangle]
 pub extern "C" fn waderarmoire_whole(sheet: &[u8], report: &mut [u8]) -> u64
-    ensures told { λ r. ⌜ r ≡ packed (plannedWhole edition1 (now (sheet .entry)) (now (report .entry)) .outcome) ⌝ }
-    ensures left { λ r. ⌜ now (report .exit) ≡ plannedWhole edition1 (now (sheet .entry)) (now (report .entry)) .buffer ⌝ }
+    ensures told { λ r. ⌜ r ≡ packed (plannedWhole editions (now (sheet .entry)) (now (report .entry)) .outcome) ⌝ }
+    ensures left { λ r. ⌜ now (report .exit) ≡ plannedWhole editions (now (sheet .entry)) (now (report .entry)) .buffer ⌝ }
 {
     pack(planner::whole(sheet, report))
 }
@@ -49,8 +49,8 @@ fn as_outcome(order: orders::Outcome) -> Outcome
 // Writes the order of work over a sheet into the caller's list, as orders::order does, and tells the outcome as one number.
 #[no_mangle]
 pub extern "C" fn waderarmoire_order(sheet: &[u8], list: &mut [usize]) -> u64
-    ensures told { λ r. ⌜ r ≡ packed (asOutcome (orderOf edition1 (now (sheet .entry)) (now (list .entry)) .outcome)) ⌝ }
-    ensures left { λ r. ⌜ now (list .exit) ≡ orderOf edition1 (now (sheet .entry)) (now (list .entry)) .list ⌝ }
+    ensures told { λ r. ⌜ r ≡ packed (asOutcome (orderOf editions (now (sheet .entry)) (now (list .entry)) .outcome)) ⌝ }
+    ensures left { λ r. ⌜ now (list .exit) ≡ orderOf editions (now (sheet .entry)) (now (list .entry)) .list ⌝ }
 {
     pack(as_outcome(orders::order(sheet, list)))
 }
@@ -70,8 +70,8 @@ fn pack_replay(outcome: logs::Outcome) -> u64
 // Replays a booking log over a sheet into the caller's list of answers, as logs::replay does, and tells the outcome as one number.
 #[no_mangle]
 pub extern "C" fn waderarmoire_replay(sheet: &[u8], log: &[u8], answers: &mut [u64]) -> u64
-    ensures told { λ r. ⌜ r ≡ packedReplay (replayed edition1 (now (sheet .entry)) (now (log .entry)) (now (answers .entry)) .outcome) ⌝ }
-    ensures left { λ r. ⌜ now (answers .exit) ≡ replayed edition1 (now (sheet .entry)) (now (log .entry)) (now (answers .entry)) .list ⌝ }
+    ensures told { λ r. ⌜ r ≡ packedReplay (replayed editions (now (sheet .entry)) (now (log .entry)) (now (answers .entry)) .outcome) ⌝ }
+    ensures left { λ r. ⌜ now (answers .exit) ≡ replayed editions (now (sheet .entry)) (now (log .entry)) (now (answers .entry)) .list ⌝ }
 {
     pack_replay(logs::replay(sheet, log, answers))
 }

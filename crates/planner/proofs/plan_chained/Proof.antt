@@ -3,7 +3,7 @@ use mathlib.Core.Path.{_≡_, sym, ap, _∙_}
 use lib.ListN.{length}
 use borrow.Author.Needs.{needs}
 use Rattle.lists.specs.Numbers.{look}
-use Rattle.model.specs.Edition.{edition1}
+use Rattle.model.specs.Edition.{editions}
 use Rattle.model.specs.Flows.{ends}
 use Rattle.tree.specs.Offer.{links}
 use Rattle.report.specs.Report.{report, wholeReport}
@@ -41,8 +41,8 @@ returns c =
     let made = c .before .before in
     let a = c .before .before .before .before .before .before .before .before .before .before .before .before .before .before .before .args in
     let e : wholeReport ≡ reporter (a .whole) = sym (ap reporter (made .before .before .before .if1 .taken)) in (
-      made .whole-charted .ensures .0 ∙ ap (λ text. plannedBy text edition1 (a .sheet .now) (a .buf .now) .outcome) e,
-      made .whole-charted .ensures .1 ∙ ap (λ text. plannedBy text edition1 (a .sheet .now) (a .buf .now) .buffer) e,
+      made .whole-charted .ensures .0 ∙ ap (λ text. plannedBy text editions (a .sheet .now) (a .buf .now) .outcome) e,
+      made .whole-charted .ensures .1 ∙ ap (λ text. plannedBy text editions (a .sheet .now) (a .buf .now) .buffer) e,
     )
 
 returns-2 : tie.Need-returns-2
@@ -51,8 +51,8 @@ returns-2 c =
     let made = c .before .before in
     let a = c .before .before .before .before .before .before .before .before .before .before .before .before .before .before .before .args in
     let e : report ≡ reporter (a .whole) = sym (ap reporter (made .before .before .before .if1 .left)) in (
-      made .plan-charted .ensures .0 ∙ ap (λ text. plannedBy text edition1 (a .sheet .now) (a .buf .now) .outcome) e,
-      made .plan-charted .ensures .1 ∙ ap (λ text. plannedBy text edition1 (a .sheet .now) (a .buf .now) .buffer) e,
+      made .plan-charted .ensures .0 ∙ ap (λ text. plannedBy text editions (a .sheet .now) (a .buf .now) .outcome) e,
+      made .plan-charted .ensures .1 ∙ ap (λ text. plannedBy text editions (a .sheet .now) (a .buf .now) .buffer) e,
     )
 
 pub plan-chained-spec : {M : Type 1} → statement M

@@ -2,107 +2,108 @@
 use native.Mathlib.Decide.{ℕ-discrete}
 use Rattle.lists.specs.Numbers.{pick}
 use Rattle.report_words.specs.Words.{cause}
+use Rattle.report_words.specs.Lengths.{the-bytes-are-told, the-sites-are-told}
 use Rattle.report_words.proofs.Laws.{no-cause}
 use borrow.Author.Needs.{needs}
 use Rattle.report_words.proofs.put_cause.Statement.{statement}
 use Rattle.report_words.proofs.put_cause.Tie as tie
-
-slice-aggregate-put-limit : tie.Need-slice-aggregate-put-limit
-slice-aggregate-put-limit c = search needs
-
-put-limit-requires : tie.Need-put-limit-requires
-unfolding cause pick ℕ-discrete
-put-limit-requires c κs = rw (c .before .before .match .keys1) at (c .before .before .before .before .pre)
 
 slice-aggregate-put-bytes : tie.Need-slice-aggregate-put-bytes
 slice-aggregate-put-bytes c = search needs
 
 put-bytes-requires : tie.Need-put-bytes-requires
 unfolding cause pick ℕ-discrete
-put-bytes-requires c κs = rw (c .before .before .match .keys2) at (c .before .before .before .before .pre)
-
-slice-aggregate-put-limit-2 : tie.Need-slice-aggregate-put-limit-2
-slice-aggregate-put-limit-2 c = search needs
-
-put-limit-requires-2 : tie.Need-put-limit-requires-2
-unfolding cause pick ℕ-discrete
-put-limit-requires-2 c κs = rw (c .before .before .match .keys3) at (c .before .before .before .before .pre)
-
-slice-aggregate-put-limit-3 : tie.Need-slice-aggregate-put-limit-3
-slice-aggregate-put-limit-3 c = search needs
-
-put-limit-requires-3 : tie.Need-put-limit-requires-3
-unfolding cause pick ℕ-discrete
-put-limit-requires-3 c κs = rw (c .before .before .match .keys4) at (c .before .before .before .before .pre)
+put-bytes-requires c κs = rw (c .before .before .match .keys1, the-bytes-are-told) at (c .before .before .before .before .pre)
 
 slice-aggregate-put-bytes-2 : tie.Need-slice-aggregate-put-bytes-2
 slice-aggregate-put-bytes-2 c = search needs
 
 put-bytes-requires-2 : tie.Need-put-bytes-requires-2
 unfolding cause pick ℕ-discrete
-put-bytes-requires-2 c κs = rw (c .before .before .match .keys5) at (c .before .before .before .before .pre)
+put-bytes-requires-2 c κs = rw (c .before .before .match .keys2) at (c .before .before .before .before .pre)
+
+slice-aggregate-put-limit : tie.Need-slice-aggregate-put-limit
+slice-aggregate-put-limit c = search needs
+
+put-limit-requires : tie.Need-put-limit-requires
+unfolding cause pick ℕ-discrete
+put-limit-requires c κs = rw (c .before .before .match .keys3) at (c .before .before .before .before .pre)
 
 slice-aggregate-put-bytes-3 : tie.Need-slice-aggregate-put-bytes-3
 slice-aggregate-put-bytes-3 c = search needs
 
 put-bytes-requires-3 : tie.Need-put-bytes-requires-3
 unfolding cause pick ℕ-discrete
-put-bytes-requires-3 c κs = rw (c .before .before .match .keys6) at (c .before .before .before .before .pre)
+put-bytes-requires-3 c κs = rw (c .before .before .match .keys4, the-sites-are-told) at (c .before .before .before .before .pre)
 
 slice-aggregate-put-bytes-4 : tie.Need-slice-aggregate-put-bytes-4
 slice-aggregate-put-bytes-4 c = search needs
 
 put-bytes-requires-4 : tie.Need-put-bytes-requires-4
 unfolding cause pick ℕ-discrete
-put-bytes-requires-4 c κs = rw (c .before .before .match .keys7) at (c .before .before .before .before .pre)
+put-bytes-requires-4 c κs = rw (c .before .before .match .keys5) at (c .before .before .before .before .pre)
 
 slice-aggregate-put-bytes-5 : tie.Need-slice-aggregate-put-bytes-5
 slice-aggregate-put-bytes-5 c = search needs
 
 put-bytes-requires-5 : tie.Need-put-bytes-requires-5
 unfolding cause pick ℕ-discrete
-put-bytes-requires-5 c κs = rw (c .before .before .match .keys8) at (c .before .before .before .before .pre)
+put-bytes-requires-5 c κs = rw (c .before .before .match .keys6) at (c .before .before .before .before .pre)
 
 slice-aggregate-put-bytes-6 : tie.Need-slice-aggregate-put-bytes-6
 slice-aggregate-put-bytes-6 c = search needs
 
 put-bytes-requires-6 : tie.Need-put-bytes-requires-6
 unfolding cause pick ℕ-discrete
-put-bytes-requires-6 c κs = rw (c .before .before .match .keys9) at (c .before .before .before .before .pre)
+put-bytes-requires-6 c κs = rw (c .before .before .match .keys7) at (c .before .before .before .before .pre)
 
 slice-aggregate-put-bytes-7 : tie.Need-slice-aggregate-put-bytes-7
 slice-aggregate-put-bytes-7 c = search needs
 
 put-bytes-requires-7 : tie.Need-put-bytes-requires-7
 unfolding cause pick ℕ-discrete
-put-bytes-requires-7 c κs = rw (c .before .before .match .keys10) at (c .before .before .before .before .pre)
+put-bytes-requires-7 c κs = rw (c .before .before .match .keys8) at (c .before .before .before .before .pre)
 
 slice-aggregate-put-bytes-8 : tie.Need-slice-aggregate-put-bytes-8
 slice-aggregate-put-bytes-8 c = search needs
 
 put-bytes-requires-8 : tie.Need-put-bytes-requires-8
 unfolding cause pick ℕ-discrete
-put-bytes-requires-8 c κs = rw (c .before .before .match .keys11) at (c .before .before .before .before .pre)
+put-bytes-requires-8 c κs = rw (c .before .before .match .keys9) at (c .before .before .before .before .pre)
 
 slice-aggregate-put-bytes-9 : tie.Need-slice-aggregate-put-bytes-9
 slice-aggregate-put-bytes-9 c = search needs
 
 put-bytes-requires-9 : tie.Need-put-bytes-requires-9
 unfolding cause pick ℕ-discrete
-put-bytes-requires-9 c κs = rw (c .before .before .match .keys12) at (c .before .before .before .before .pre)
+put-bytes-requires-9 c κs = rw (c .before .before .match .keys10) at (c .before .before .before .before .pre)
 
 slice-aggregate-put-bytes-10 : tie.Need-slice-aggregate-put-bytes-10
 slice-aggregate-put-bytes-10 c = search needs
 
 put-bytes-requires-10 : tie.Need-put-bytes-requires-10
 unfolding cause pick ℕ-discrete
-put-bytes-requires-10 c κs = rw (c .before .before .match .keys13) at (c .before .before .before .before .pre)
+put-bytes-requires-10 c κs = rw (c .before .before .match .keys11) at (c .before .before .before .before .pre)
 
 slice-aggregate-put-bytes-11 : tie.Need-slice-aggregate-put-bytes-11
 slice-aggregate-put-bytes-11 c = search needs
 
 put-bytes-requires-11 : tie.Need-put-bytes-requires-11
-put-bytes-requires-11 c κs =
+unfolding cause pick ℕ-discrete
+put-bytes-requires-11 c κs = rw (c .before .before .match .keys12) at (c .before .before .before .before .pre)
+
+slice-aggregate-put-bytes-12 : tie.Need-slice-aggregate-put-bytes-12
+slice-aggregate-put-bytes-12 c = search needs
+
+put-bytes-requires-12 : tie.Need-put-bytes-requires-12
+unfolding cause pick ℕ-discrete
+put-bytes-requires-12 c κs = rw (c .before .before .match .keys13) at (c .before .before .before .before .pre)
+
+slice-aggregate-put-bytes-13 : tie.Need-slice-aggregate-put-bytes-13
+slice-aggregate-put-bytes-13 c = search needs
+
+put-bytes-requires-13 : tie.Need-put-bytes-requires-13
+put-bytes-requires-13 c κs =
     let s = c .before .before .before .before in
     let late = c .before .before .match .rest in
     let early = late .0 .0 .0 .0 .0 .0 .0 in
@@ -115,91 +116,91 @@ same-length c = search needs
 
 returns : tie.Need-returns
 unfolding cause pick ℕ-discrete
-returns c = rw (c .before .before .before .before .before .match .keys1) (c .before .before .put-limit .ensures)
+returns c = rw (c .before .before .before .before .before .match .keys1, the-bytes-are-told) (c .before .before .put-bytes .ensures)
 
 same-length-2 : tie.Need-same-length-2
 same-length-2 c = search needs
 
 returns-2 : tie.Need-returns-2
 unfolding cause pick ℕ-discrete
-returns-2 c = rw (c .before .before .before .before .before .match .keys2) (c .before .before .put-bytes .ensures)
+returns-2 c = rw (c .before .before .before .before .before .match .keys2) (c .before .before .put-bytes2 .ensures)
 
 same-length-3 : tie.Need-same-length-3
 same-length-3 c = search needs
 
 returns-3 : tie.Need-returns-3
 unfolding cause pick ℕ-discrete
-returns-3 c = rw (c .before .before .before .before .before .match .keys3) (c .before .before .put-limit2 .ensures)
+returns-3 c = rw (c .before .before .before .before .before .match .keys3) (c .before .before .put-limit .ensures)
 
 same-length-4 : tie.Need-same-length-4
 same-length-4 c = search needs
 
 returns-4 : tie.Need-returns-4
 unfolding cause pick ℕ-discrete
-returns-4 c = rw (c .before .before .before .before .before .match .keys4) (c .before .before .put-limit3 .ensures)
+returns-4 c = rw (c .before .before .before .before .before .match .keys4, the-sites-are-told) (c .before .before .put-bytes3 .ensures)
 
 same-length-5 : tie.Need-same-length-5
 same-length-5 c = search needs
 
 returns-5 : tie.Need-returns-5
 unfolding cause pick ℕ-discrete
-returns-5 c = rw (c .before .before .before .before .before .match .keys5) (c .before .before .put-bytes2 .ensures)
+returns-5 c = rw (c .before .before .before .before .before .match .keys5) (c .before .before .put-bytes4 .ensures)
 
 same-length-6 : tie.Need-same-length-6
 same-length-6 c = search needs
 
 returns-6 : tie.Need-returns-6
 unfolding cause pick ℕ-discrete
-returns-6 c = rw (c .before .before .before .before .before .match .keys6) (c .before .before .put-bytes3 .ensures)
+returns-6 c = rw (c .before .before .before .before .before .match .keys6) (c .before .before .put-bytes5 .ensures)
 
 same-length-7 : tie.Need-same-length-7
 same-length-7 c = search needs
 
 returns-7 : tie.Need-returns-7
 unfolding cause pick ℕ-discrete
-returns-7 c = rw (c .before .before .before .before .before .match .keys7) (c .before .before .put-bytes4 .ensures)
+returns-7 c = rw (c .before .before .before .before .before .match .keys7) (c .before .before .put-bytes6 .ensures)
 
 same-length-8 : tie.Need-same-length-8
 same-length-8 c = search needs
 
 returns-8 : tie.Need-returns-8
 unfolding cause pick ℕ-discrete
-returns-8 c = rw (c .before .before .before .before .before .match .keys8) (c .before .before .put-bytes5 .ensures)
+returns-8 c = rw (c .before .before .before .before .before .match .keys8) (c .before .before .put-bytes7 .ensures)
 
 same-length-9 : tie.Need-same-length-9
 same-length-9 c = search needs
 
 returns-9 : tie.Need-returns-9
 unfolding cause pick ℕ-discrete
-returns-9 c = rw (c .before .before .before .before .before .match .keys9) (c .before .before .put-bytes6 .ensures)
+returns-9 c = rw (c .before .before .before .before .before .match .keys9) (c .before .before .put-bytes8 .ensures)
 
 same-length-10 : tie.Need-same-length-10
 same-length-10 c = search needs
 
 returns-10 : tie.Need-returns-10
 unfolding cause pick ℕ-discrete
-returns-10 c = rw (c .before .before .before .before .before .match .keys10) (c .before .before .put-bytes7 .ensures)
+returns-10 c = rw (c .before .before .before .before .before .match .keys10) (c .before .before .put-bytes9 .ensures)
 
 same-length-11 : tie.Need-same-length-11
 same-length-11 c = search needs
 
 returns-11 : tie.Need-returns-11
 unfolding cause pick ℕ-discrete
-returns-11 c = rw (c .before .before .before .before .before .match .keys11) (c .before .before .put-bytes8 .ensures)
+returns-11 c = rw (c .before .before .before .before .before .match .keys11) (c .before .before .put-bytes10 .ensures)
 
 same-length-12 : tie.Need-same-length-12
 same-length-12 c = search needs
 
 returns-12 : tie.Need-returns-12
 unfolding cause pick ℕ-discrete
-returns-12 c = rw (c .before .before .before .before .before .match .keys12) (c .before .before .put-bytes9 .ensures)
+returns-12 c = rw (c .before .before .before .before .before .match .keys12) (c .before .before .put-bytes11 .ensures)
 
 same-length-13 : tie.Need-same-length-13
 same-length-13 c = search needs
 
 returns-13 : tie.Need-returns-13
 unfolding cause pick ℕ-discrete
-returns-13 c = rw (c .before .before .before .before .before .match .keys13) (c .before .before .put-bytes10 .ensures)
+returns-13 c = rw (c .before .before .before .before .before .match .keys13) (c .before .before .put-bytes12 .ensures)
 
 same-length-14 : tie.Need-same-length-14
 same-length-14 c = search needs
@@ -212,22 +213,18 @@ returns-14 c =
     let early = late .0 .0 .0 .0 .0 .0 .0 in
     let none = no-cause n (early .0 .0 .0 .0 .0 .1) (early .0 .0 .0 .0 .1) (early .0 .0 .0 .1) (early .0 .0 .1) (early .0 .1) (early .1)
     (late .0 .0 .0 .0 .0 .0 .1) (late .0 .0 .0 .0 .0 .1) (late .0 .0 .0 .0 .1) (late .0 .0 .0 .1) (late .0 .0 .1) (late .0 .1) (late .1) in
-    rw none (c .before .before .put-bytes11 .ensures)
+    rw none (c .before .before .put-bytes13 .ensures)
 
 pub put-cause-spec : {M : Type 1} → statement M
 put-cause-spec =
     tie.close
     (tie.spec
-    slice-aggregate-put-limit
-    put-limit-requires
     slice-aggregate-put-bytes
     put-bytes-requires
-    slice-aggregate-put-limit-2
-    put-limit-requires-2
-    slice-aggregate-put-limit-3
-    put-limit-requires-3
     slice-aggregate-put-bytes-2
     put-bytes-requires-2
+    slice-aggregate-put-limit
+    put-limit-requires
     slice-aggregate-put-bytes-3
     put-bytes-requires-3
     slice-aggregate-put-bytes-4
@@ -246,6 +243,10 @@ put-cause-spec =
     put-bytes-requires-10
     slice-aggregate-put-bytes-11
     put-bytes-requires-11
+    slice-aggregate-put-bytes-12
+    put-bytes-requires-12
+    slice-aggregate-put-bytes-13
+    put-bytes-requires-13
     same-length
     returns
     same-length-2
