@@ -119,7 +119,7 @@ module _ (ed : Edition) (s : List ℕ) (net : Network) (k at : ℕ) where
   step-adds =
       by (ltb (at + lineLength (drop at s)) (length s)) (eqb k 1) (kind (ed .size) (lineAt s at)) (a-kind-tells-its-form (ed .size) (lineAt s at))
     where
-      by : (t u : Bool) (w : Line) → Tells (ed .size) (lineAt s at) w 
+      by : (t u : Bool) (w : Line) → Tells (ed .size) (lineAt s at) w
           → Adds (cond t (cond u (headingStep ed (lineAt s at)) (recordStep ed s net k at w)) (Refused 2 k))
       by false u w form = tt
       by true true w form = heading-adds (isHeading (ed .digit) (fieldsAt s at))
