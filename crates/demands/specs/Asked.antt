@@ -52,7 +52,8 @@ WithoutCause known s = (k l : ℕ) → ¬ (Refusal (editionOf known s) s k l)
 -- what planning the sheet s into the buffer b comes to, with the text of either report: the sheet is refused for a cause of its own, with that cause's number
 -- and line; or it has no such cause, and its report is longer than the buffer; or it has no such cause and gets its full report
 pub data Demand1 (text : Reporter) (known : List Edition) (s b : List ℕ) : Type 0 where
-  faulty-sheet : (k l : ℕ) → readSheet known s ≡ refused k l → Refusal (editionOf known s) s k l → SheetNumber k → Refused k l b (plannedBy text known s b) → Demand1 text known s b
+  faulty-sheet : (k l : ℕ) → readSheet known s ≡ refused k l → Refusal (editionOf known s) s k l → SheetNumber k
+      → Refused k l b (plannedBy text known s b) → Demand1 text known s b
   long-report : WithoutCause known s → (net : Network) → readSheet known s ≡ accepted net → length b < length (text s net)
       → Refused 9 0 b (plannedBy text known s b) → Demand1 text known s b
   full-report : WithoutCause known s → (net : Network) → readSheet known s ≡ accepted net → length (text s net) ≤ length b

@@ -20,7 +20,7 @@ use Rattle.lists.specs.Sums.{cases}
 use Rattle.theory_trees.specs.Greatest.{balanced-again}
 use Rattle.sheet.specs.Editions.{an-accepted-sheet-is-within-the-largest}
 use Rattle.sheet.specs.Sheet.{Network, Read, refused, accepted, readSheet, editionOf}
-use Rattle.sheet.specs.SheetTheorem.{an-accepted-sheet-is-a-tree}
+use Rattle.sheet.specs.SheetTheorem.{IsNetwork, an-accepted-sheet-is-a-tree}
 use Rattle.report.specs.Report.{report}
 use Rattle.planner.specs.Small.{a-report-is-small}
 use Rattle.planner.specs.Outcome.{number, Reporter, plannedBy, planned, answered}
@@ -92,28 +92,34 @@ trimming-gives-its-own-answer-back = balanced-again
 -- ---- what is told and what is printed
 
 -- for every edition, sheet and buffer: where planning tells success, the bytes told are the full report
-pub a-success-is-a-full-report : (known : List Edition) (s b : List ℕ) → number (planned known s b .outcome) ≡ 0 → IsReport known s (bytesTold (planned known s b))
+pub a-success-is-a-full-report : (known : List Edition) (s b : List ℕ) → number (planned known s b .outcome) ≡ 0
+    → IsReport known s (bytesTold (planned known s b))
 a-success-is-a-full-report known s b success =
     let h = zero-is-told-exactly-for-a-full-report report known s b .0 success in
     rw (the-report-is-told report known s b (h .0) (h .1) success) (the-report-is-full known s (h .0) (h .1))
 
 -- its parts, for a network that is known
-module _ (known : List Edition) (s b : List ℕ) (net : Network) (read : readSheet known s ≡ accepted net) (success : number (planned known s b .outcome) ≡ 0) where
+module _ (known : List Edition) (s b : List ℕ) (net : Network) (read : readSheet known s ≡ accepted net)
+    (success : number (planned known s b .outcome) ≡ 0) where
+  given : IsNetwork (editionOf known s) s net
+  given = an-accepted-sheet-is-a-tree (editionOf known s) s net read
+
   pub the-report-shows-the-sheet : ShowsSheet (bytes "plan") net (printedBy s net (planned known s b))
-  the-report-shows-the-sheet = rw (the-plan-is-printed known s b net read success) (plan-shows-sheet (an-accepted-sheet-is-a-tree (editionOf known s) s net read))
+  the-report-shows-the-sheet = rw (the-plan-is-printed known s b net read success) (plan-shows-sheet given)
 
   pub demand-2 : Demand2 net (printedBy s net (planned known s b))
-  demand-2 = rw (the-plan-is-printed known s b net read success) (plan-meets-demand-2 (an-accepted-sheet-is-a-tree (editionOf known s) s net read))
+  demand-2 = rw (the-plan-is-printed known s b net read success) (plan-meets-demand-2 given)
 
   pub the-report-is-in-order : InOrder net (printedBy s net (planned known s b))
-  the-report-is-in-order = rw (the-plan-is-printed known s b net read success) (plan-is-in-order (an-accepted-sheet-is-a-tree (editionOf known s) s net read))
+  the-report-is-in-order = rw (the-plan-is-printed known s b net read success) (plan-is-in-order given)
 
   pub demand-3 : Demand3 net (printedBy s net (planned known s b))
-  demand-3 = rw (the-plan-is-printed known s b net read success) (plan-meets-demand-3 (an-accepted-sheet-is-a-tree (editionOf known s) s net read))
+  demand-3 = rw (the-plan-is-printed known s b net read success) (plan-meets-demand-3 given)
 
 -- two accepted sheets of one tree with the same marks, their reports printed: the plans that fit the usable sizes of the first are those that fit the
 -- usable sizes of the second exactly if the printed trimmed sizes agree on every link (02, Card 5: a fact about usable sizes)
-module _ (known : List Edition) (s b t d : List ℕ) (net other : Network) (read : readSheet known s ≡ accepted net) (read-other : readSheet known t ≡ accepted other)
+module _ (known : List Edition) (s b t d : List ℕ) (net other : Network) (read : readSheet known s ≡ accepted net)
+    (read-other : readSheet known t ≡ accepted other)
     (success : number (planned known s b .outcome) ≡ 0) (success-other : number (planned known t d .outcome) ≡ 0)
     (links : other .links ≡ net .links) (sites : siteCount other ≡ siteCount net) (marks : other .marks ≡ net .marks) where
   pub two-sheets-of-a-tree-admit-the-same-plans-exactly-if-the-printed-trimmed-sizes-agree :

@@ -162,7 +162,8 @@ the-report-is-full known s net read =
 pub the-plan-is-printed : (known : List Edition) (s b : List ℕ) (net : Network) → readSheet known s ≡ accepted net → number (planned known s b .outcome) ≡ 0
     → printedBy s net (planned known s b) ≡ planSays net
 the-plan-is-printed known s b net read success =
-    ap (readReport s net) (the-report-is-told report known s b net read success) ∙ report-read-back (an-accepted-sheet-is-a-tree (editionOf known s) s net read)
+    ap (readReport s net) (the-report-is-told report known s b net read success)
+    ∙ report-read-back (an-accepted-sheet-is-a-tree (editionOf known s) s net read)
 
 -- ---- the line of a refusal
 

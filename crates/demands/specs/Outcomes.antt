@@ -51,11 +51,13 @@ module _ (text : Reporter) (known : List Edition) (s b : List ℕ) where
 
   -- ---- what the program prints
 
-  pub report-answered : (net : Network) → readSheet known s ≡ accepted net → length (text s net) ≤ length b → answeredBy text known s b ≡ fronted b (text s net)
+  pub report-answered : (net : Network) → readSheet known s ≡ accepted net → length (text s net) ≤ length b
+      → answeredBy text known s b ≡ fronted b (text s net)
   unfolding answeredBy spelt
   report-answered net read l = rw (report-delivered net read l)
 
-  pub refusal-answered : (k l : ℕ) → readSheet known s ≡ refused k l → length (refusalLine k l) ≤ length b → answeredBy text known s b ≡ fronted b (refusalLine k l)
+  pub refusal-answered : (k l : ℕ) → readSheet known s ≡ refused k l → length (refusalLine k l) ≤ length b
+      → answeredBy text known s b ≡ fronted b (refusalLine k l)
   unfolding answeredBy spelt
   refusal-answered k l e h =
       let t = refusalLine k l in

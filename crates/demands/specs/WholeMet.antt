@@ -110,7 +110,8 @@ module _ (net : Network) (T : Tree (net .links) (siteCount net)) where
     no-sets-do-better = λ owner sets. no-whole-plan-passes-any-sets owner sets taken (whole-is-fitting taken (pairs .plan));
   }
 
-pub the-whole-report-is-full : (known : List Edition) (s : List ℕ) (net : Network) → readSheet known s ≡ accepted net → IsWholeReport known s (wholeReport s net)
+pub the-whole-report-is-full : (known : List Edition) (s : List ℕ) (net : Network) → readSheet known s ≡ accepted net
+    → IsWholeReport known s (wholeReport s net)
 the-whole-report-is-full known s net read =
     let N = an-accepted-sheet-is-a-tree (editionOf known s) s net read in
     let said = whole-report-read-back N in

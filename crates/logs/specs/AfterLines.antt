@@ -84,7 +84,8 @@ module _ (s : List ℕ) (net : Network) (log : List ℕ) where
   }
 
   -- over an accepted sheet what is open is a plan: each entry joins two ends free to be joined (01: plan)
-  pub what-is-open-is-a-multiflow : (known : List Edition) → readSheet known s ≡ accepted net → (i : ℕ) → Multiflow (net .links) number (isEnd net) (openAfter i)
+  pub what-is-open-is-a-multiflow : (known : List Edition) → readSheet known s ≡ accepted net → (i : ℕ)
+      → Multiflow (net .links) number (isEnd net) (openAfter i)
   what-is-open-is-a-multiflow known e i =
       let holds = after-every-line i in
       each-both (Entry number) (Sites (Free (net .links) (isEnd net))) (Route (net .links) number (isEnd net))

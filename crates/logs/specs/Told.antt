@@ -55,7 +55,8 @@ pub data ReplayTold (known : List Edition) (s log l : List ℕ) : Type 0 where
   faulty-sheet : (k line : ℕ) → Refusal (editionOf known s) s k line → SheetNumber k → IsRefused 1 k line l (replayed known s log l) → ReplayTold known s log l
   long-log : (net : Network) → Sheet known s net → (LOGBYTES < length log) ⊎ (LOGLINES < length (lines log)) → IsRefused 2 1 0 l (replayed known s log l)
       → ReplayTold known s log l
-  few-places : (net : Network) → Sheet known s net → Short log → length l < length (lines log) → IsRefused 2 9 0 l (replayed known s log l) → ReplayTold known s log l
+  few-places : (net : Network) → Sheet known s net → Short log → length l < length (lines log) → IsRefused 2 9 0 l (replayed known s log l)
+      → ReplayTold known s log l
   all-answered : (net : Network) → Sheet known s net → Short log → length (lines log) ≤ length l → AllAnswered s net log l (replayed known s log l)
       → ReplayTold known s log l
 

@@ -82,10 +82,12 @@ pub where-every-end-has-one-link-a-log-is-answered-as-before : (known : List Edi
     → answersOf s net log ≡ answers (net .links) (look (net .capacities)) [] (requestsBefore s (net .names) (isEnd net) log)
 where-every-end-has-one-link-a-log-is-answered-as-before known s net e O log =
     ap (answers (net .links) (look (net .capacities)) [])
-    (where-every-end-has-one-link-a-log-asks-what-it-asked-before s (net .names) (an-accepted-sheet-is-a-tree (editionOf known s) s net e .tree) (isEnd net) O log)
+    (where-every-end-has-one-link-a-log-asks-what-it-asked-before s (net .names)
+    (an-accepted-sheet-is-a-tree (editionOf known s) s net e .tree) (isEnd net) O log)
 
 -- so over a sheet without marks, whose ends are the sites with one link
-pub over-a-sheet-without-marks-a-log-is-answered-as-before : (known : List Edition) (s : List ℕ) → WithoutMarks s → (net : Network) → readSheet known s ≡ accepted net
+pub over-a-sheet-without-marks-a-log-is-answered-as-before : (known : List Edition) (s : List ℕ) → WithoutMarks s → (net : Network)
+    → readSheet known s ≡ accepted net
     → (log : List ℕ) → answersOf s net log
     ≡ answers (net .links) (look (net .capacities)) [] (requestsBefore s (net .names) (look (leaves (net .links) (length (net .names)))) log)
 over-a-sheet-without-marks-a-log-is-answered-as-before known s none net e log =

@@ -1,5 +1,5 @@
--- The limits of the planner, by the names that src/lib.rt gives them. Document 01, "The network sheet", and 02, Cards 6 and 8; a number changes here and there.
--- Nothing but these two files knows them.
+-- The limits of the planner, by the names that src/lib.rt gives them. Document 01, "The network sheet", and 02, Cards 6 and 8. A number changes here and
+-- there; nothing but these two files knows them. Those of sheets and trees are the largest edition's.
 use Prim.Native.Nat.{ℕ, _+_, _-_, _*_, _/_}
 
 -- the largest number of sites of a tree

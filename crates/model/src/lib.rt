@@ -72,7 +72,7 @@ pub enum Request {
     Fault(u64),
 }
 
-// An edition of the sheet (01: edition; 02, Card 8): the digit in its heading, and the limits that go with it: bytes of a sheet, sites, and the size of a link.
+// An edition of the sheet (01: edition; 02, Card 8): the digit in its heading, and the limits that go with it: bytes of a sheet, sites, the size of a link.
 pub struct Edition {
     pub digit: u8,
     pub bytes: usize,

@@ -12,8 +12,8 @@ use Rattle.model.specs.Pairing.{put, takeHalves, dropHalves, halves, give, matc
 use Rattle.model.specs.Pairing.{lowestInner, lowerFirst, before, insert, ordered}
 use Rattle.model.specs.Parts.{within, single, region, member, home, lowest, root, pairsOfPart, pairOfLink, pairsOfParts, pairListOfParts}
 use Rattle.text_lines.specs.Lines.{lineLength, lineAt, afterLine, hasLine}
-use Rattle.sheet_kinds.specs.LineKinds.{same, push, fields, all, isName, isNumber, valueFrom, isHeading, checkedFields, checked, faultOf, judged, siteLine as sheetSite, linkLine as sheetLink}
-use Rattle.sheet_kinds.specs.LineKinds.{sizeOf, capacityOf, sizedLink, kindOf, kind}
+use Rattle.sheet_kinds.specs.LineKinds.{same, push, fields, all, isName, isNumber, valueFrom, isHeading, checkedFields, checked, faultOf, judged}
+use Rattle.sheet_kinds.specs.LineKinds.{sizeOf, capacityOf, siteLine as sheetSite, sizedLink, linkLine as sheetLink, kindOf, kind}
 use Rattle.sheet.specs.Sheet.{capitals, lookupFrom, siteStep, linkStep, headingStep, recordStep, stepOf, readLine, andThen, readLines, allJoined}
 use Rattle.sheet.specs.Sheet.{finish, readAs, editionOf}
 use Rattle.report.specs.Report.{digits, decimal, line, lines, planOf, ownerName, headRecord, linkRecord, linkLine, siteRecord, siteLine, cutRecord, cutLine}

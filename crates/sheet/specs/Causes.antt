@@ -1,7 +1,7 @@
 -- Why a sheet is refused: the causes of document 01's table, each with its number, in the order in which they decide.
 -- Document 01, "The network sheet", and 02, Cards 1, 5 and 7 (the forms of lines: `isHeading`, `IsSite`, `IsLink` in LineKinds; broken rules of a form:
 -- Grammar, FaultyLines): 1 comes first, then the lowest line with a fault, in a site line 2, 10, 11, 4, 5, in a link line 2, 10, 11, 12, 3, 13, 6, 7; then 8.
-use mathlib.Core.Bool.{true, false}
+use mathlib.Core.Bool.{false}
 use mathlib.Core.List.{List}
 use mathlib.Core.Logic.{_⊎_, _≢_}
 use mathlib.Core.Path.{_≡_}

@@ -44,7 +44,8 @@ second-field digit fs e =
 
 -- so it is of one edition
 one-digit : (fs : List (List ℕ)) → isHeading 50 fs ≡ true → isHeading 49 fs ≡ false
-one-digit fs e = fails (isHeading 49 fs) (λ f. contradiction (omega (arith, ap (λ g. look g 0) (second-field 49 fs f .1), ap (λ g. look g 0) (second-field 50 fs e .1))))
+one-digit fs e = fails (isHeading 49 fs)
+    (λ f. contradiction (omega (arith, ap (λ g. look g 0) (second-field 49 fs f .1), ap (λ g. look g 0) (second-field 50 fs e .1))))
 
 -- what holds of both editions that are known holds of that of a sheet
 pub of-the-edition : (P : Edition → Type 0) (s : List ℕ) → P edition1 → P edition2 → P (editionOf editions s)

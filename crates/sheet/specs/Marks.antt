@@ -45,7 +45,8 @@ module _ (ed : Edition) (s : List ℕ) (net : Network) (k at : ℕ) where
   pub a-marked-line-was-refused-with-2 : MarkedAt s at → stepBy kindUnmarked lookup ed s net k at ≡ Refused 2 k
   unfolding stepBy headingStep recordBy
   a-marked-line-was-refused-with-2 e =
-      rw (a-marked-line-had-no-known-letter (ed .size) (lineAt s at) e, a-marked-line-is-no-heading (ed .digit) (lineAt s at) e) (by (ltb (at + lineLength (drop at s)) (length s)) (eqb k 1) refl)
+      rw (a-marked-line-had-no-known-letter (ed .size) (lineAt s at) e, a-marked-line-is-no-heading (ed .digit) (lineAt s at) e)
+      (by (ltb (at + lineLength (drop at s)) (length s)) (eqb k 1) refl)
     where
       by : (t u : Bool) → eqb k 1 ≡ u → cond t (cond u (Refused 2 1) (Refused 2 k)) (Refused 2 k) ≡ Refused 2 k
       by false u f = refl

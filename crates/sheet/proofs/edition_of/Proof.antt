@@ -1,7 +1,6 @@
 -- `edition_of` meets its contract: by what the heading is found to be; one heading has one digit.
 use mathlib.Core.Bool.{false≢true}
-use mathlib.Core.Path.{_≡_, sym, ap, _∙_}
-use Rattle.model.specs.declared.Edition.{Edition}
+use mathlib.Core.Path.{_≡_, sym, _∙_}
 use Rattle.text_lines.specs.Lines.{lineAt}
 use Rattle.sheet_kinds.specs.LineKinds.{fields, isHeading}
 use Rattle.sheet.specs.Editions.{headed-as-edition-2, not-headed-as-edition-2}

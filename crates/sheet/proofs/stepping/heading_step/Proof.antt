@@ -1,5 +1,5 @@
 -- `heading_step` meets its contract: by what the heading is found to be.
-use mathlib.Core.Path.{_≡_, sym, _∙_}
+use mathlib.Core.Path.{sym, _∙_}
 use borrow.Author.Needs.{needs}
 use Rattle.sheet.specs.Sheet.{headingStep}
 use Rattle.sheet.proofs.stepping.heading_step.Statement.{statement}
