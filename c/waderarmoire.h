@@ -11,9 +11,12 @@
  * or list of its own. It reads the sheet and writes the buffer or list within their lengths and
  * touches no other memory of the caller's. Every call ends, whatever the sheet holds.
  *
- * A plan or an order needs at most 116 KiB of stack, whatever the shape of the tree: nothing
- * recurses (measured, with what a new thread itself needs). A thread of WADERARMOIRE_STACK_BYTES
- * has enough for every sheet, and for a replay, which is tried with that much alone.
+ * A plan, an order or a replay needs less than 192 KiB of stack, whatever the shape of the tree:
+ * nothing recurses. A thread of WADERARMOIRE_STACK_BYTES has enough for every sheet and log, which
+ * is tried on the largest trees.
+ *
+ * The heading of a sheet tells its edition, and that its limits: under "network", tab, "1" it may
+ * have 256 sites and 16,384 bytes, under "network", tab, "2" 384 sites and 24,576 bytes.
  */
 #ifndef WADERARMOIRE_H
 #define WADERARMOIRE_H
@@ -25,21 +28,24 @@
 extern "C" {
 #endif
 
-/* The largest sheet that is read, in bytes. */
-#define WADERARMOIRE_SHEET_BYTES 16384
+/* The largest sheet that is read, in bytes: one of edition 2. Of edition 1 it has 16,384. */
+#define WADERARMOIRE_SHEET_BYTES 24576
 
 /* A report buffer of this length is enough for every accepted sheet. */
 #define WADERARMOIRE_REPORT_BYTES 65536
 
-/* A list of this length is enough for the order of every accepted sheet. */
-#define WADERARMOIRE_SITES 256
+/*
+ * A list of this length is enough for the order of every accepted sheet: one of edition 2 has so
+ * many sites at most. Of edition 1 it has 256.
+ */
+#define WADERARMOIRE_SITES 384
 
 /* The largest log that is replayed, in bytes and in lines; a list of so many answers is enough. */
 #define WADERARMOIRE_LOG_BYTES 65536
 #define WADERARMOIRE_LOG_LINES 4096
 
 /* A thread with a stack of this length can plan every sheet. */
-#define WADERARMOIRE_STACK_BYTES 131072
+#define WADERARMOIRE_STACK_BYTES 196608
 
 /*
  * Plans the network of a sheet of sheet_len bytes in halves of a circuit and writes the report
@@ -105,10 +111,10 @@ uint64_t waderarmoire_replay(const uint8_t *sheet, size_t sheet_len, const uint8
 
 /*
  * The number of the refusal, or 0 for success:
- *   1  no bytes, or more than 16,384
+ *   1  no bytes, or more than 16,384 (edition 2: 24,576)
  *   2  wrong heading, letter or line ending
  *   3  size or reserve above 1,000,000
- *   4  more sites than 256
+ *   4  more sites than 256 (edition 2: 384)
  *   5  name already given to a site (a-z read as A-Z)
  *   6  link to a name not given on a line above (a-z read as A-Z)
  *   7  link whose sites are already joined by links above, or are one site
@@ -118,8 +124,9 @@ uint64_t waderarmoire_replay(const uint8_t *sheet, size_t sheet_len, const uint8
  *  11  a name is not 1 to 12 letters or digits
  *  12  a number is not written in decimal without a leading zero
  *  13  reserve above the size
- * The lowest line with a fault decides; within a line the order is 2, 10, 11, 12, then 4, 5 for a
- * site and 3, 13, 6, 7 for a link.
+ * A sheet whose line 1 is no heading is measured by edition 1. The lowest line with a fault
+ * decides; within a line the order is 2, 10, 11, 12, then 4, 5 for a site and 3, 13, 6, 7 for a
+ * link.
  */
 static inline unsigned waderarmoire_number(uint64_t answer)
 {

@@ -1,6 +1,7 @@
 //! The time of one plan, by both libraries in turn.
 
 use second::{Outcome, REPORT_BYTES};
+use std::fmt::Write;
 use std::hint::black_box;
 use std::time::{Duration, Instant};
 
@@ -9,11 +10,29 @@ const ROUNDS: usize = 201;
 /// A timing covers as many plans as take about this long, after one that is not timed.
 const TIMING: Duration = Duration::from_micros(200);
 
-/// Microseconds of one plan, the median of many, and the length of the proved report.
+/// Microseconds of one plan or log, the median of many.
 pub struct Times {
     pub proved: f64,
     pub second: f64,
-    pub report_bytes: usize,
+    /// The length of the sheet, or of the log.
+    pub input_bytes: usize,
+    /// The length of the proved report, or the number of lines answered with 0.
+    pub answered: usize,
+}
+
+impl Times {
+    /// Writes the line of one plan or log.
+    pub fn write_row(&self, text: &mut String, title: &str) -> std::fmt::Result {
+        writeln!(
+            text,
+            "| {title} | {} | {} | {:.1} | {:.1} | {:.2} |",
+            self.input_bytes,
+            self.answered,
+            self.proved,
+            self.second,
+            self.proved / self.second
+        )
+    }
 }
 
 /// Times both libraries on a sheet.
@@ -23,18 +42,23 @@ pub struct Times {
 /// If one of them refuses the sheet.
 pub fn time(libraries: &Libraries, sheet: &[u8]) -> Times {
     let mut buffer = vec![0; REPORT_BYTES];
-    let report_bytes = (libraries.proved)(sheet, &mut buffer);
+    let answered = (libraries.proved)(sheet, &mut buffer);
 
     let mut other = vec![0; REPORT_BYTES];
     time_calls(
         || _ = black_box((libraries.proved)(black_box(sheet), &mut buffer)),
         || _ = black_box((libraries.second)(black_box(sheet), &mut other)),
-        report_bytes,
+        [sheet.len(), answered],
     )
 }
 
-/// Times two calls in turn, of the proved library and of the second.
-pub fn time_calls(proved: impl FnMut(), second: impl FnMut(), report_bytes: usize) -> Times {
+/// Times two calls in turn, of the proved library and of the second, given the bytes of their input and how
+/// much is answered.
+pub fn time_calls(
+    proved: impl FnMut(),
+    second: impl FnMut(),
+    [input_bytes, answered]: [usize; 2],
+) -> Times {
     let mut proved = Timer::new(proved);
     let mut second = Timer::new(second);
     for _ in 0..ROUNDS {
@@ -44,7 +68,8 @@ pub fn time_calls(proved: impl FnMut(), second: impl FnMut(), report_bytes: usiz
     Times {
         proved: median(&mut proved.timings),
         second: median(&mut second.timings),
-        report_bytes,
+        input_bytes,
+        answered,
     }
 }
 

@@ -1,5 +1,6 @@
 //! The time of one booking log, by both libraries in turn.
 
+use crate::growth;
 use crate::library::{Times, time_calls};
 use second::{LOG_LINES, Replayed};
 use sheets::logs::{Case, crowded_log, log_of};
@@ -12,22 +13,21 @@ const LINES: [usize; 5] = [256, 512, 1_024, 2_048, LOG_LINES];
 
 /// The log of most lines over a tree of a shape.
 pub fn largest(shape: Shape) -> Case {
-    log(shape, LOG_LINES)
+    log(shape, SITES, LOG_LINES)
 }
 
-/// A log over a tree of 256 sites with large sizes.
-fn log(shape: Shape, count: usize) -> Case {
-    log_of(shape, SITES, Sizes::Wide, count, &mut Random::new(1))
+/// A log over a tree with large sizes.
+fn log(shape: Shape, sites: usize, count: usize) -> Case {
+    log_of(shape, sites, Sizes::Wide, count, &mut Random::new(1))
 }
 
-/// Times both libraries on a log; the count of lines answered with 0 stands in the place of the
-/// report's bytes.
+/// Times both libraries on a log.
 fn time(case: &Case) -> Times {
     let Case { sheet, log, .. } = case;
     let mut proved = vec![0; LOG_LINES];
     let mut second = vec![0; LOG_LINES];
     let answers = waderarmoire::replay(sheet, log, &mut proved).expect("the log is answered");
-    let opened = answers.iter().filter(|&&answer| answer == 0).count();
+    let done = answers.iter().filter(|&&answer| answer == 0).count();
     let count = answers.len();
     assert_eq!(
         second::replay(sheet, log, &mut second),
@@ -37,30 +37,13 @@ fn time(case: &Case) -> Times {
     time_calls(
         || _ = black_box(waderarmoire::replay(black_box(sheet), log, &mut proved)),
         || _ = black_box(second::replay(black_box(sheet), log, &mut second)),
-        opened,
-    )
-}
-
-/// The line of one log.
-fn row(text: &mut String, title: &str, log_bytes: usize, times: &Times) -> std::fmt::Result {
-    writeln!(
-        text,
-        "| {title} | {log_bytes} | {} | {:.1} | {:.1} | {:.2} |",
-        times.report_bytes,
-        times.proved,
-        times.second,
-        times.proved / times.second
+        [log.len(), done],
     )
 }
 
 /// The tables.
 pub fn tables(text: &mut String) -> std::fmt::Result {
-    let measured = SHAPES.map(|shape| {
-        LINES.map(|count| {
-            let case = log(shape, count);
-            (case.log.len(), time(&case))
-        })
-    });
+    let by_lines = SHAPES.map(|shape| LINES.map(|count| time(&log(shape, SITES, count))));
     writeln!(
         text,
         "\n### One log of {LOG_LINES} lines over {SITES} sites, in microseconds\n"
@@ -70,34 +53,26 @@ pub fn tables(text: &mut String) -> std::fmt::Result {
         "| shape | log bytes | lines answered 0 | proved | second | ratio |"
     )?;
     writeln!(text, "|---|---:|---:|---:|---:|---:|")?;
-    for (shape, by_lines) in SHAPES.iter().zip(&measured) {
-        let (log_bytes, times) = &by_lines[LINES.len() - 1];
-        row(text, shape.name(), *log_bytes, times)?;
+    for (shape, by_lines) in SHAPES.iter().zip(&by_lines) {
+        by_lines[LINES.len() - 1].write_row(text, shape.name())?;
     }
     for shape in [Shape::Star, Shape::Prufer] {
         let case = crowded_log(shape, SITES, LOG_LINES, &mut Random::new(1));
         let title = format!("{}, about 512 pairs open", shape.name());
-        row(text, &title, case.log.len(), &time(&case))?;
+        time(&case).write_row(text, &title)?;
     }
 
     writeln!(
         text,
-        "\n### Growth of a log with the number of lines, in microseconds\n"
+        "\n### Growth of a log over {SITES} sites with the number of lines, in microseconds\n"
     )?;
-    let columns = LINES.map(|count| format!(" {count} |")).concat();
-    writeln!(text, "| shape | planner |{columns} 4096 : 2048 |")?;
-    writeln!(text, "|---|---|{}---:|", "---:|".repeat(LINES.len()))?;
-    for (shape, by_lines) in SHAPES.iter().zip(&measured) {
-        let proved = by_lines.each_ref().map(|(_, times)| times.proved);
-        let second = by_lines.each_ref().map(|(_, times)| times.second);
-        for (planner, times) in [("proved", proved), ("second", second)] {
-            write!(text, "| {} | {planner} |", shape.name())?;
-            for time in &times {
-                write!(text, " {time:.1} |")?;
-            }
-            let growth = times[LINES.len() - 1] / times[LINES.len() - 2];
-            writeln!(text, " {growth:.2} |")?;
-        }
-    }
-    Ok(())
+    growth::table(text, LINES, 1, &by_lines)?;
+
+    writeln!(
+        text,
+        "\n### Growth of a log of {LOG_LINES} lines with the number of sites, in microseconds\n"
+    )?;
+    let by_sites =
+        SHAPES.map(|shape| growth::SITES.map(|sites| time(&log(shape, sites, LOG_LINES))));
+    growth::table(text, growth::SITES, 2, &by_sites)
 }

@@ -7,6 +7,7 @@
 //! Prints tables in Markdown, or puts them into a file between the lines `<!-- measured -->` and
 //! `<!-- end -->`.
 
+mod growth;
 mod library;
 mod log;
 mod machine;
@@ -14,12 +15,10 @@ mod program;
 
 use library::Libraries;
 use program::Input;
-use sheets::{Layout, Names, Network, Random, SHAPES, Shape, Sizes};
+use sheets::{Layout, Names, Network, Random, SHAPES, SITES, Shape, Sizes};
 use std::fmt::Write;
 use std::path::{Path, PathBuf};
 use std::process::ExitCode;
-
-const SITES: [usize; 5] = [16, 32, 64, 128, 256];
 
 struct Options {
     program: PathBuf,
@@ -108,15 +107,12 @@ fn tables(options: &Options) -> Result<String, Box<dyn std::error::Error>> {
 
 fn library_tables(text: &mut String, unit: &str, libraries: &Libraries) -> std::fmt::Result {
     let measured = SHAPES.map(|shape| {
-        SITES.map(|sites| {
-            let sheet = largest_sheet(shape, sites);
-            (sheet.len(), library::time(libraries, &sheet))
-        })
+        growth::SITES.map(|sites| library::time(libraries, &largest_sheet(shape, sites)))
     });
 
     writeln!(
         text,
-        "\n### One plan {unit} of 256 sites, in microseconds\n"
+        "\n### One plan {unit} of {SITES} sites, in microseconds\n"
     )?;
     writeln!(
         text,
@@ -124,38 +120,14 @@ fn library_tables(text: &mut String, unit: &str, libraries: &Libraries) -> std::
     )?;
     writeln!(text, "|---|---:|---:|---:|---:|---:|")?;
     for (shape, by_sites) in SHAPES.iter().zip(&measured) {
-        let (sheet_bytes, times) = &by_sites[SITES.len() - 1];
-        writeln!(
-            text,
-            "| {} | {sheet_bytes} | {} | {:.1} | {:.1} | {:.2} |",
-            shape.name(),
-            times.report_bytes,
-            times.proved,
-            times.second,
-            times.proved / times.second
-        )?;
+        by_sites[growth::SITES.len() - 1].write_row(text, shape.name())?;
     }
 
     writeln!(
         text,
         "\n### Growth of a plan {unit} with the number of sites, in microseconds\n"
     )?;
-    let columns = SITES.map(|sites| format!(" {sites} |")).concat();
-    writeln!(text, "| shape | planner |{columns} 256 : 128 |")?;
-    writeln!(text, "|---|---|{}---:|", "---:|".repeat(SITES.len()))?;
-    for (shape, by_sites) in SHAPES.iter().zip(&measured) {
-        let proved: Vec<f64> = by_sites.iter().map(|(_, times)| times.proved).collect();
-        let second: Vec<f64> = by_sites.iter().map(|(_, times)| times.second).collect();
-        for (planner, times) in [("proved", proved), ("second", second)] {
-            write!(text, "| {} | {planner} |", shape.name())?;
-            for time in &times {
-                write!(text, " {time:.1} |")?;
-            }
-            let growth = times[SITES.len() - 1] / times[SITES.len() - 2];
-            writeln!(text, " {growth:.2} |")?;
-        }
-    }
-    Ok(())
+    growth::table(text, growth::SITES, 2, &measured)
 }
 
 fn program_table(text: &mut String, options: &Options) -> Result<(), Box<dyn std::error::Error>> {
@@ -168,11 +140,11 @@ fn program_table(text: &mut String, options: &Options) -> Result<(), Box<dyn std
     let two_sites = b"network\t1\nN\ta\nN\tb\nL\ta\tb\t4\n".to_vec();
     let sheets = [
         ("two sites", two_sites),
-        ("star of 256 sites", largest_sheet(Shape::Star, 256)),
-        ("path of 256 sites", largest_sheet(Shape::Path, 256)),
+        ("star of 384 sites", largest_sheet(Shape::Star, SITES)),
+        ("path of 384 sites", largest_sheet(Shape::Path, SITES)),
         (
-            "random labelled tree of 256 sites",
-            largest_sheet(Shape::Prufer, 256),
+            "random labelled tree of 384 sites",
+            largest_sheet(Shape::Prufer, SITES),
         ),
     ];
     let file = |kind| std::env::temp_dir().join(format!("bench-{}.{kind}", std::process::id()));
@@ -181,9 +153,10 @@ fn program_table(text: &mut String, options: &Options) -> Result<(), Box<dyn std
     writeln!(text, "\n### Programs, from start to end\n")?;
     writeln!(
         text,
-        "| sheet | proved, µs | second, µs | ratio | proved, peak KiB | second, peak KiB |"
+        "| sheet | proved, µs | second, µs | ratio | proved, peak KiB | second, peak KiB \
+         | proved, stack KiB | second, stack KiB |"
     )?;
-    writeln!(text, "|---|---:|---:|---:|---:|---:|")?;
+    writeln!(text, "|---|{}", "---:|".repeat(7))?;
     for (title, sheet) in sheets {
         std::fs::write(&sheet_file, sheet)?;
         program_row(text, title, planners, &Input::Sheet(sheet_file.clone()))?;
@@ -207,13 +180,16 @@ fn program_row(
     input: &Input,
 ) -> Result<(), Box<dyn std::error::Error>> {
     let [proved, second] = program::times(programs, input)?;
-    let [proved_peak, second_peak] = programs.map(|program| program::peak_memory(program, input));
+    let [proved_memory, second_memory] = programs.map(|program| program::memory(program, input));
+    let (proved_memory, second_memory) = (proved_memory?, second_memory?);
     writeln!(
         text,
-        "| {title} | {proved:.0} | {second:.0} | {:.2} | {} | {} |",
+        "| {title} | {proved:.0} | {second:.0} | {:.2} | {} | {} | {} | {} |",
         proved / second,
-        proved_peak?,
-        second_peak?
+        proved_memory.peak,
+        second_memory.peak,
+        proved_memory.stack,
+        second_memory.stack
     )?;
     Ok(())
 }

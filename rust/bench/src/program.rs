@@ -44,10 +44,19 @@ pub fn times(programs: [&Path; 2], input: &Input) -> Result<[f64; 2]> {
     Ok(timings.map(|mut timings| median(&mut timings)))
 }
 
-/// The most memory a program has used, in KiB, by the time it prints its answer.
+/// The memory of a program, in KiB.
+#[derive(Clone, Copy, Default)]
+pub struct Memory {
+    /// The most that was resident.
+    pub peak: u64,
+    /// What the stack of its first thread has grown to.
+    pub stack: u64,
+}
+
+/// The memory that a program has used by the time it prints its answer.
 ///
 /// Its output goes into a pipe that is full, so that it waits while the memory is looked up.
-pub fn peak_memory(program: &Path, input: &Input) -> Result<u64> {
+pub fn memory(program: &Path, input: &Input) -> Result<Memory> {
     const PIPE_BYTES: usize = 65_536;
     let (reader, mut writer) = pipe()?;
     writer.write_all(&[0; PIPE_BYTES])?;
@@ -58,7 +67,7 @@ pub fn peak_memory(program: &Path, input: &Input) -> Result<u64> {
         .spawn()?;
     let status = format!("/proc/{}/status", child.id());
     let mut seen_waiting = 0;
-    let mut peak = 0;
+    let mut memory = Memory::default();
     while seen_waiting < 5 {
         sleep(Duration::from_millis(10));
         let status = std::fs::read_to_string(&status)?;
@@ -71,14 +80,15 @@ pub fn peak_memory(program: &Path, input: &Input) -> Result<u64> {
         } else {
             0
         };
-        peak = field("VmHWM:")
-            .and_then(|text| text.parse().ok())
-            .unwrap_or(peak);
+        let number = |name: &str| field(name).and_then(|text| text.parse().ok());
+        if let (Some(peak), Some(stack)) = (number("VmHWM:"), number("VmStk:")) {
+            memory = Memory { peak, stack };
+        }
         if field("State:") == Some("Z") {
             break;
         }
     }
     drop(reader);
     child.wait()?;
-    Ok(peak)
+    Ok(memory)
 }

@@ -2,8 +2,7 @@
 
 use sheets::cases::in_either_case;
 use sheets::{
-    HEADING, Layout, Names, Network, Random, SHEET_BYTES, SITES, SIZE, Shape, Sizes, join_lines,
-    some_reserve,
+    Edition, Layout, Names, Network, Random, SIZE, Shape, Sizes, join_lines, some_reserve,
 };
 use std::collections::HashSet;
 
@@ -15,30 +14,35 @@ pub struct Damaged {
 
 type Lines = Vec<Vec<u8>>;
 
-/// A sheet damaged in one of many ways.
-pub fn damaged(random: &mut Random) -> Damaged {
-    let mut damaged = any_damage(random);
-    if damaged.sheet.len() > SHEET_BYTES {
+/// A sheet of an edition damaged in one of many ways.
+pub fn damaged(edition: Edition, random: &mut Random) -> Damaged {
+    let mut damaged = any_damage(edition, random);
+    if is_too_long(&damaged.sheet) {
         damaged.refusal = Some((1, 0));
     }
     damaged
 }
 
-fn any_damage(random: &mut Random) -> Damaged {
+/// Whether a sheet has more bytes than its line 1 lets it have.
+fn is_too_long(sheet: &[u8]) -> bool {
+    sheet.len() > Edition::told(sheet).unwrap_or(Edition::One).bytes()
+}
+
+fn any_damage(edition: Edition, random: &mut Random) -> Damaged {
     match random.below(48) {
-        0 => wrong_length(random),
-        1 => near_the_limit(random),
-        2 => too_many_sites(random),
-        3 | 4 => sheet_of_pieces(random),
-        5 => random_bytes(random),
-        6 => edited(random),
-        7 => cut_off(random),
-        8 => unended(random),
-        9 => with_carriage_returns(random),
-        10 => rearranged(random),
-        11 => not_joined(random),
+        0 => wrong_length(edition, random),
+        1 => near_the_limit(edition, random),
+        2 => too_many_sites(edition, random),
+        3 | 4 => sheet_of_pieces(edition, random),
+        5 => random_bytes(edition, random),
+        6 => edited(edition, random),
+        7 => cut_off(edition, random),
+        8 => unended(edition, random),
+        9 => with_carriage_returns(edition, random),
+        10 => rearranged(edition, random),
+        11 => not_joined(edition, random),
         _ => {
-            let (mut lines, number, line) = with_faulty_line(random);
+            let (mut lines, number, line) = with_faulty_line(edition, random);
             // The lowest faulty line decides, so what comes after it does not matter.
             if random.once_in(2) {
                 spoil_after(&mut lines, line, random);
@@ -51,24 +55,26 @@ fn any_damage(random: &mut Random) -> Damaged {
     }
 }
 
-fn small_network(random: &mut Random) -> Network {
+fn small_network(edition: Edition, random: &mut Random) -> Network {
     let most = *random.pick(&[3, 8, 8, 20]);
-    Network::any(most, random)
+    let mut network = Network::any(most, random);
+    network.edition = edition;
+    network
 }
 
-fn small_lines(random: &mut Random) -> Lines {
-    let network = small_network(random);
+fn small_lines(edition: Edition, random: &mut Random) -> Lines {
+    let network = small_network(edition, random);
     network.lines(Layout::any(random), random)
 }
 
 /// No byte, or more bytes than a sheet may have.
-fn wrong_length(random: &mut Random) -> Damaged {
+fn wrong_length(edition: Edition, random: &mut Random) -> Damaged {
     let mut sheet = Vec::new();
     if !random.once_in(4) {
-        sheet = join_lines(&small_lines(random));
+        sheet = join_lines(&small_lines(edition, random));
         let over = *random.pick(&[1, 1, 2, 100, 5_000]);
         let filler = *random.pick(b"\n9a\0");
-        sheet.resize(SHEET_BYTES + over, filler);
+        sheet.resize(edition.bytes() + over, filler);
     }
     Damaged {
         sheet,
@@ -76,12 +82,12 @@ fn wrong_length(random: &mut Random) -> Damaged {
     }
 }
 
-/// A sheet of nearly 16,384 bytes or just above.
-fn near_the_limit(random: &mut Random) -> Damaged {
-    let mut lines = small_lines(random);
-    let length = random.between(SHEET_BYTES - 3, SHEET_BYTES + 3);
-    let too_long = length > SHEET_BYTES;
-    let line = lines.len() as u32 + 1;
+/// A sheet of nearly as many bytes as one of the editions has, or just above; with a heading or without.
+fn near_the_limit(edition: Edition, random: &mut Random) -> Damaged {
+    let mut lines = small_lines(edition, random);
+    let limit = random.pick(&Edition::ALL).bytes();
+    let length = random.between(limit - 3, limit + 3);
+    let mut line = lines.len() as u32 + 1;
     let room = length - join_lines(&lines).len();
     let name = lines[1][2..].to_vec();
     let (mut text, mut number) = match random.below(8) {
@@ -101,16 +107,23 @@ fn near_the_limit(random: &mut Random) -> Damaged {
         *sheet.last_mut().expect("a sheet has bytes") = b'7';
         number = 2;
     }
+    if random.once_in(4) {
+        // The same length under a line of the same length that is no heading.
+        sheet[random.below(edition.heading().len())] ^= 1;
+        (number, line) = (2, 1);
+    }
     Damaged {
         sheet,
-        refusal: Some(if too_long { (1, 0) } else { (number, line) }),
+        refusal: Some((number, line)),
     }
 }
 
-/// A 257th site line, of the wrong form or with a name already given, in either case, or not.
-fn too_many_sites(random: &mut Random) -> Damaged {
+/// A site line more than an edition has, of the wrong form or with a name already given, in either case, or
+/// not.
+fn too_many_sites(edition: Edition, random: &mut Random) -> Damaged {
     let names = *random.pick(&[Names::Counted, Names::Any]);
-    let mut network = Network::random(Shape::Attached, SITES, Sizes::Small, names, random);
+    let sites = edition.sites();
+    let mut network = Network::random(Shape::Attached, sites, Sizes::Small, names, random);
     if random.once_in(2) {
         network.mark(random);
     }
@@ -133,7 +146,7 @@ fn too_many_sites(random: &mut Random) -> Damaged {
 }
 
 /// Pieces of lines put together at random.
-fn sheet_of_pieces(random: &mut Random) -> Damaged {
+fn sheet_of_pieces(edition: Edition, random: &mut Random) -> Damaged {
     const LINES: [&[u8]; 19] = [
         b"N\ta\n",
         b"N\tb\n",
@@ -155,7 +168,7 @@ fn sheet_of_pieces(random: &mut Random) -> Damaged {
         b"L\tc\tb\t1\t2\n",
         b"L\tA\tq\t1\t1000001\n",
     ];
-    const PIECES: [&[u8]; 25] = [
+    const PIECES: [&[u8]; 26] = [
         b"L\ta\tb\t01\n",
         b"L\ta\tb\t1\t\n",
         b"L\ta\tb\t5\t1\t1\n",
@@ -180,10 +193,11 @@ fn sheet_of_pieces(random: &mut Random) -> Damaged {
         b"1000000",
         b"\r",
         b"network\t1\n",
+        b"network\t2\n",
         b"\0",
     ];
     let whole_lines = random.once_in(2);
-    let mut sheet = b"network\t1\n".to_vec();
+    let mut sheet = [edition.heading(), b"\n"].concat();
     for _ in 0..random.below(14) {
         let is_line = if whole_lines {
             !random.once_in(12)
@@ -200,11 +214,12 @@ fn sheet_of_pieces(random: &mut Random) -> Damaged {
     }
 }
 
-fn random_bytes(random: &mut Random) -> Damaged {
-    let mut sheet = HEADING.to_vec();
-    sheet.truncate(random.below(HEADING.len() + 1));
+fn random_bytes(edition: Edition, random: &mut Random) -> Damaged {
+    let mut sheet = edition.heading().to_vec();
     if random.once_in(2) {
-        sheet = b"network\t1\n".to_vec();
+        sheet.truncate(random.below(sheet.len() + 1));
+    } else {
+        sheet.push(b'\n');
         sheet.extend(*random.pick(&[b"N\t", b"T\t"]));
     }
     let few = random.once_in(2);
@@ -222,8 +237,8 @@ fn random_bytes(random: &mut Random) -> Damaged {
 }
 
 /// A few bytes changed, put in, taken out or said twice.
-fn edited(random: &mut Random) -> Damaged {
-    let mut sheet = join_lines(&small_lines(random));
+fn edited(edition: Edition, random: &mut Random) -> Damaged {
+    let mut sheet = join_lines(&small_lines(edition, random));
     for _ in 0..random.between(1, 6) {
         let place = random.below(sheet.len());
         let byte = match random.below(4) {
@@ -250,8 +265,8 @@ fn edited(random: &mut Random) -> Damaged {
 }
 
 /// The start of a sheet.
-fn cut_off(random: &mut Random) -> Damaged {
-    let lines = small_lines(random);
+fn cut_off(edition: Edition, random: &mut Random) -> Damaged {
+    let lines = small_lines(edition, random);
     let mut sheet = join_lines(&lines);
     sheet.truncate(random.below(sheet.len()));
     let line = sheet.split(|&byte| byte == b'\n').count() as u32;
@@ -264,8 +279,8 @@ fn cut_off(random: &mut Random) -> Damaged {
 }
 
 /// A last line without byte 10, of the right form or not.
-fn unended(random: &mut Random) -> Damaged {
-    let mut lines = small_lines(random);
+fn unended(edition: Edition, random: &mut Random) -> Damaged {
+    let mut lines = small_lines(edition, random);
     if random.once_in(2) {
         let line = random.pick(&lines[1..]).clone();
         let (mut line, _) = wrong_form(&line, random);
@@ -283,8 +298,8 @@ fn unended(random: &mut Random) -> Damaged {
 }
 
 /// Byte 13 before the byte 10 of all lines or of one.
-fn with_carriage_returns(random: &mut Random) -> Damaged {
-    let mut lines = small_lines(random);
+fn with_carriage_returns(edition: Edition, random: &mut Random) -> Damaged {
+    let mut lines = small_lines(edition, random);
     let first = if random.once_in(3) {
         0
     } else {
@@ -309,8 +324,8 @@ fn with_carriage_returns(random: &mut Random) -> Damaged {
 }
 
 /// Lines in another order, left out or said twice.
-fn rearranged(random: &mut Random) -> Damaged {
-    let mut lines = small_lines(random);
+fn rearranged(edition: Edition, random: &mut Random) -> Damaged {
+    let mut lines = small_lines(edition, random);
     let from = usize::from(!random.once_in(8));
     match random.below(3) {
         0 => random.shuffle(&mut lines[from..]),
@@ -332,8 +347,8 @@ fn rearranged(random: &mut Random) -> Damaged {
 }
 
 /// A link left out, a site without a link, or under two sites.
-fn not_joined(random: &mut Random) -> Damaged {
-    let network = small_network(random);
+fn not_joined(edition: Edition, random: &mut Random) -> Damaged {
+    let network = small_network(edition, random);
     let mut lines = network.lines(Layout::any(random), random);
     match random.below(4) {
         0 => lines.truncate(random.between(1, 2)),
@@ -564,7 +579,7 @@ fn count_wrongly(fields: &mut Lines, random: &mut Random) {
 fn spoil_letter(fields: &mut Lines, random: &mut Random) {
     match random.below(8) {
         0 => *fields = vec![Vec::new()],
-        1 => *fields = vec![b"network".to_vec(), b"1".to_vec()],
+        1 => *fields = vec![random.pick(&Edition::ALL).heading().to_vec()],
         2 => fields[0][0] ^= 0x20,
         3 => fields[0][0] = *random.pick(b"PXSU#\x80"),
         4 => fields[0].insert(0, *random.pick(b"\r NT")),
@@ -583,30 +598,32 @@ fn spoil_letter(fields: &mut Lines, random: &mut Random) {
 
 /// A first line that is no heading.
 fn wrong_heading(lines: &[Vec<u8>], random: &mut Random) -> Vec<u8> {
-    let mut line = HEADING.to_vec();
+    const OTHERS: [&[u8]; 6] = [b"3", b"0", b"12", b"21", b"22", b"02"];
+    let mut line = lines[0].clone();
     let place = random.below(line.len());
-    match random.below(8) {
+    match random.below(10) {
         0 => line.push(*random.pick(b"\r \t\x000")),
         1 => line.insert(0, *random.pick(b"\r \tN\xef")),
         2 => line[place] ^= 0x20,
         3 => _ = line.remove(place),
         4 => line.truncate(place),
         5 => line = [b"network ", &b"\t"[random.below(2)..], b"1"].concat(),
-        6 => line.clone_from(random.pick(&lines[1..])),
+        6 | 7 => line = [b"network", *random.pick(&OTHERS)].join(&b'\t'),
+        8 => line.clone_from(random.pick(&lines[1..])),
         _ => {
             let copied = random.between(1, lines.len() - 1);
             (line, _) = wrong_form(&lines[copied], random);
         }
     }
-    if line == HEADING {
+    if Edition::told(&line).is_some() {
         line.clear();
     }
     line
 }
 
 /// A sheet with one faulty line: its lines, the refusal's number, and the line counted from 1.
-fn with_faulty_line(random: &mut Random) -> (Lines, u8, usize) {
-    let network = small_network(random);
+fn with_faulty_line(edition: Edition, random: &mut Random) -> (Lines, u8, usize) {
+    let network = small_network(edition, random);
     let mut lines = network.lines(Layout::any(random), random);
     let sites = places(&lines, is_site);
     let links = places(&lines, |line| !is_site(line));

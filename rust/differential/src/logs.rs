@@ -6,9 +6,9 @@
 
 use crate::{Failure, damage};
 use second::{LOG_LINES, REPORT_BYTES, Replayed};
-use sheets::Random;
 use sheets::ledger::{self, Seen, is_too_long};
 use sheets::logs::{Case, case, every_small_log};
+use sheets::{Edition, Network, Random};
 use std::cell::Cell;
 use std::path::{Path, PathBuf};
 use std::process::Command;
@@ -26,6 +26,9 @@ const ENOUGH_FOR_SHARES: u64 = 10_000;
 const LEAST_SHARE: u64 = 100;
 /// At least one in this many logs must have a line for two ends with another one between them.
 const LEAST_ACROSS_SHARE: u64 = 10;
+/// At least one in so many logs must be over a sheet of edition 2, and over one of more sites than edition 1
+/// has.
+const LEAST_SECOND_SHARES: [u64; 2] = [5, 100];
 /// All answers that a line can get.
 const ANSWERS: [usize; 10] = [0, 2, 3, 6, 10, 11, 12, 14, 15, 16];
 
@@ -148,20 +151,26 @@ struct Tally {
     crowded: [u64; 2],
     /// How many logs have a line for two ends with another one between them.
     across: u64,
+    /// How many answered logs are over a sheet of edition 2, and over one of more sites than edition 1 has.
+    second: [u64; 2],
 }
 
 impl Tally {
     fn add(&mut self, other: &Tally) {
-        let counts = |tally: &Tally| [&tally.logs[..], &tally.refused, &tally.crowded].concat();
+        let counts = |tally: &Tally| {
+            let of_logs = [&tally.logs[..], &tally.refused, &tally.crowded];
+            [&of_logs.concat()[..], &tally.second].concat()
+        };
         let own = self.logs.iter_mut().chain(&mut self.refused);
-        for (count, more) in own.chain(&mut self.crowded).zip(counts(other)) {
+        let own = own.chain(&mut self.crowded).chain(&mut self.second);
+        for (count, more) in own.zip(counts(other)) {
             *count += more;
         }
         self.lines += other.lines;
         self.across += other.across;
     }
 
-    fn see(&mut self, answers: &[u64], seen: Seen) {
+    fn see(&mut self, network: &Network, answers: &[u64], seen: Seen) {
         let mut occurs = [0; 17];
         for &answer in answers {
             occurs[answer as usize] = 1;
@@ -174,6 +183,11 @@ impl Tally {
             *count += u64::from(seen.most_open >= least);
         }
         self.across += u64::from(seen.across > 0);
+        let is_large = network.names.len() > Edition::One.sites();
+        let of_second = [network.edition == Edition::Two, is_large];
+        for (count, is_seen) in self.second.iter_mut().zip(of_second) {
+            *count += u64::from(is_seen);
+        }
     }
 
     /// Whether each answer and each refusal occurred in enough of so many logs.
@@ -186,6 +200,11 @@ impl Tally {
             .all(|&logs| logs >= least)
             && self.refused[1] >= least / 4
             && self.across >= count / LEAST_ACROSS_SHARE
+            && self
+                .second
+                .iter()
+                .zip(LEAST_SECOND_SHARES)
+                .all(|(&logs, share)| logs >= count / share)
     }
 }
 
@@ -208,7 +227,7 @@ fn compare(lists: &mut Lists, case: &Case, places: usize, tally: &mut Tally) -> 
     } else {
         let seen = ledger::check(&case.network, &case.log, answers)
             .map_err(|what| format!("both planners: {what}"))?;
-        tally.see(answers, seen);
+        tally.see(&case.network, answers, seen);
         Replayed::Answered { count }
     };
     lists.clear(count_of(outcome));
@@ -267,7 +286,8 @@ fn compare_random(
         }
     }
     if random.once_in(8) {
-        let sheet = damage::damaged(random).sheet;
+        let edition = *random.pick(&Edition::ALL);
+        let sheet = damage::damaged(edition, random).sheet;
         compare_damaged(lists, &sheet, &case.log, longer, tally)?;
         compare_damaged(lists, &sheet, &case.log, random.below(3), tally)?;
     }
@@ -381,8 +401,8 @@ pub fn compare_all(seed: u64, count: u64) -> Result<(), Different> {
     );
     println!(
         "  511 pairs open, 512: {:?}; another end on a path: {}; refused for the sheet, their length, the \
-         list: {:?}",
-        tally.crowded, tally.across, tally.refused
+         list: {:?}; edition 2, more sites than edition 1 has: {:?}",
+        tally.crowded, tally.across, tally.refused, tally.second
     );
     if count >= ENOUGH_FOR_SHARES && !tally.has_shares(count) {
         return Err(Different {
@@ -420,7 +440,8 @@ impl Programs {
         for index in 0..count {
             let (mut case, mut random) = case(seed, index);
             if random.once_in(6) {
-                case.sheet = damage::damaged(&mut random).sheet;
+                let edition = *random.pick(&Edition::ALL);
+                case.sheet = damage::damaged(edition, &mut random).sheet;
             }
             let examples = if index % 5 == 0 { examples } else { &[] };
             self.compare_one(&case, &files, examples)

@@ -7,8 +7,8 @@
 //! ```
 //!
 //! The sheets of the scope document come first, then small sheets with names in either case, with
-//! reserves and with marks, then all small trees, then random trees and damaged sheets from a seed, then the programs over
-//! standard input and output. Reports headed `plan` are compared byte for byte. Of those headed
+//! reserves and with marks, then sheets at the limits of both editions, then all small trees, then random
+//! trees and damaged sheets of both editions from a seed, then the programs over standard input and output. Reports headed `plan` are compared byte for byte. Of those headed
 //! `whole` loads and end sets are free: totals are compared, and pairs with those that the walk gives
 //! for the printed loads. Of every accepted sheet the reports are checked against the demands on
 //! them. Orders of work are compared place for place, and some checked against the card's rule. The
@@ -25,6 +25,7 @@ mod circuits;
 mod compare;
 mod damage;
 mod demands;
+mod editions;
 mod exact;
 mod inward;
 mod logs;
@@ -35,6 +36,7 @@ mod random;
 mod search;
 mod small;
 mod spelling;
+mod tally;
 mod usable;
 
 use programs::Programs;
@@ -74,7 +76,7 @@ fn main() -> ExitCode {
 
 fn options() -> Result<Options, String> {
     let mut options = Options {
-        sheets: 200_000,
+        sheets: 230_000,
         seed: 1,
         only: None,
         keep: PathBuf::from("differing.sheet"),
@@ -156,6 +158,7 @@ fn run(options: &Options) -> ExitCode {
             .and_then(|()| small::names_in_either_case())
             .and_then(|()| small::reserves())
             .and_then(|()| small::site_lines())
+            .and_then(|()| small::headings())
             .and_then(|()| small::small_trees())
             .and_then(|()| small::marked_trees())
             .and_then(|()| random::compare_all(options.seed, options.sheets))
@@ -178,9 +181,10 @@ fn run(options: &Options) -> ExitCode {
 
 /// Whether a planted error is one in the replay of logs.
 fn is_of_logs(number: u64) -> bool {
-    use second::planted::Error::{AcrossAccepted, FirstLinkOnly, UnendedLeftOut};
+    use second::planted::Error::{AcrossAccepted, FirstLinkOnly, PairsByByte, UnendedLeftOut};
     let first_of_logs = FirstLinkOnly as u64..=UnendedLeftOut as u64;
-    first_of_logs.contains(&number) || number == AcrossAccepted as u64
+    let of_later_cards = [AcrossAccepted, PairsByByte].map(|error| error as u64);
+    first_of_logs.contains(&number) || of_later_cards.contains(&number)
 }
 
 /// Compares the planners on booking logs: on a single one, on random ones, or on all.

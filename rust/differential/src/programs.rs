@@ -2,7 +2,7 @@
 
 use crate::{Failure, damage};
 use second::{Outcome, REPORT_BYTES};
-use sheets::{Layout, Network, Random, tried};
+use sheets::{Edition, Layout, Network, Random, SITES, tried};
 use std::io::{ErrorKind, Write};
 use std::path::{Path, PathBuf};
 use std::process::{Command, Stdio};
@@ -124,16 +124,18 @@ impl Programs {
     }
 }
 
-/// The sheets of the scope document, one far too long, random ones and damaged ones.
+/// The sheets of the scope document, two far too long, random ones and damaged ones, of either edition.
 fn some_sheets(seed: u64, count: usize) -> Vec<Vec<u8>> {
     let mut random = Random::new(seed);
     let mut sheets: Vec<Vec<u8>> = tried::ACCEPTED.iter().map(tried::Accepted::sheet).collect();
     sheets.push(vec![b'\n'; 1_000_000]);
+    sheets.push([Edition::Two.heading(), &[b'\n'; 1_000_000]].concat());
     while sheets.len() < count {
         sheets.push(if random.once_in(2) {
-            Network::any(256, &mut random).sheet(Layout::any(&mut random), &mut random)
+            Network::any(SITES, &mut random).sheet(Layout::any(&mut random), &mut random)
         } else {
-            damage::damaged(&mut random).sheet
+            let edition = *random.pick(&Edition::ALL);
+            damage::damaged(edition, &mut random).sheet
         });
     }
     sheets.truncate(count);

@@ -4,9 +4,10 @@ use crate::compare::{Answer, LIST_PLACES, Planners};
 use crate::damage::{self, Damaged};
 use crate::printed;
 use crate::small::accepted;
-use crate::{Failure, circuits, demands, inward, marks, spelling, usable};
+use crate::tally::{SECOND_SHARE, Tally};
+use crate::{Failure, circuits, demands, editions, inward, marks, spelling, usable};
 use second::REPORT_BYTES;
-use sheets::{Layout, Network, Random};
+use sheets::{Edition, Layout, Network, Random, SITES};
 use std::cell::Cell;
 use std::sync::Mutex;
 use std::sync::atomic::{AtomicU64, Ordering};
@@ -16,66 +17,9 @@ use std::time::Instant;
 const THREADS: usize = 2;
 /// So many sheets are handed to a thread at once.
 const BLOCK: u64 = 64;
-/// At least one in this many sheets must have each outcome, so that no kind of sheet is missing.
-const LEAST_SHARE: u64 = 2_000;
-/// The refusals for the form of a line and for a reserve above the size, and the share that each of
-/// them must have.
-const OFTEN: [usize; 5] = [2, 10, 11, 12, 13];
-const LEAST_OFTEN_SHARE: u64 = 12;
-/// One in this many sheets must at least be accepted and have a reserve.
-const LEAST_RESERVE_SHARE: u64 = 8;
-/// One in this many sheets must at least be accepted and have an end with several links; and each cause of
-/// a site line must be told of a line that starts with `T` for one in so many others.
-const LEAST_MARKED_SHARE: u64 = 8;
-const OF_SITE_LINES: [usize; 5] = [2, 10, 11, 4, 5];
-const LEAST_MARKED_SHARES: u64 = 2_000;
-/// One in this many sheets must at least have odd pieces when planned in whole circuits.
-const LEAST_ODD_SHARE: u64 = 20;
-/// One in this many sheets must at least have another answer when names are read by bytes, and one in
-/// this many of each of the answers that names decide: a report, and refusals 5 and 7.
-const LEAST_SPELT_SHARE: u64 = 10;
-const SPELT: [usize; 3] = [0, 5, 7];
-const LEAST_SPELT_SHARES: u64 = 200;
-/// With fewer sheets the shares are left to chance.
-const ENOUGH_FOR_SHARES: u64 = 100_000;
-
 thread_local! {
     /// The index of the sheet a thread compares.
     static CURRENT: Cell<Option<u64>> = const { Cell::new(None) };
-}
-
-/// How many sheets had each outcome: at 0 the accepted ones, else by the number of the refusal.
-#[derive(Default)]
-pub struct Tally {
-    outcomes: [u64; 14],
-    solved: u64,
-    /// How many accepted trees have odd pieces in whole circuits.
-    odd: u64,
-    /// How many orders of work are checked against the rule, and trimmed along.
-    ordered: u64,
-    /// How many sheets of each outcome would have another one if names were read by bytes.
-    spelt: [u64; 14],
-    /// How many accepted sheets with reserves are compared with the same without.
-    reserved: u64,
-    /// How many accepted sheets have an end with several links.
-    marked: u64,
-    /// How many sheets are refused for a line that starts with `T`, by the number of the refusal.
-    marked_lines: [u64; 14],
-}
-
-impl Tally {
-    fn add(&mut self, other: &Tally) {
-        let counts = |tally: &Tally| [tally.outcomes, tally.spelt, tally.marked_lines].concat();
-        let own = self.outcomes.iter_mut().chain(&mut self.spelt);
-        for (count, more) in own.chain(&mut self.marked_lines).zip(counts(other)) {
-            *count += more;
-        }
-        self.solved += other.solved;
-        self.odd += other.odd;
-        self.ordered += other.ordered;
-        self.reserved += other.reserved;
-        self.marked += other.marked;
-    }
 }
 
 /// A random sheet, and what is known of it.
@@ -96,13 +40,14 @@ impl Case {
     fn new(seed: u64, index: u64) -> Self {
         let start = Random::new(seed).bits() ^ index.wrapping_mul(0xd134_2543_de82_ef95);
         let mut random = Random::new(start);
+        let is_second = index % SECOND_SHARE == SECOND_SHARE - 1;
+        let edition = Edition::ALL[usize::from(is_second)];
         let (sheet, kind) = if random.below(5) < 2 {
-            let most = *random.pick(&[7, 7, 16, 16, 32, 64, 128, 256]);
-            let network = Network::any(most, &mut random);
+            let network = tree(edition, &mut random);
             let sheet = network.sheet(Layout::any(&mut random), &mut random);
             (sheet, Kind::Tree(network))
         } else {
-            let Damaged { sheet, refusal } = damage::damaged(&mut random);
+            let Damaged { sheet, refusal } = damage::damaged(edition, &mut random);
             (sheet, Kind::Damaged(refusal))
         };
         Case {
@@ -126,6 +71,10 @@ impl Case {
                 tally.spelt[0] += u64::from(spelling::matters(&self.sheet, None));
                 tally.solved += u64::from(solve);
                 let sites = network.names.len();
+                tally.see_edition(&self.sheet, 0);
+                if self.random.once_in(4) {
+                    tally.turned += u64::from(editions::compare(planners, &self.sheet)?);
+                }
                 self.check_order(sites, planners, tally)?;
                 if self.random.once_in(8) {
                     tally.outcomes[9] += 1;
@@ -274,6 +223,8 @@ impl Case {
         };
         self.check_damaged_whole(answer, length, planners)?;
         self.check_damaged_order(answer, planners)?;
+        tally.turned += u64::from(editions::compare(planners, &self.sheet)?);
+        tally.see_edition(&self.sheet, answer.map_or(0, |(number, _)| number));
         let outcome = answer.map_or(0, |(number, _)| usize::from(number));
         tally.outcomes[outcome] += 1;
         tally.marked_lines[outcome] += u64::from(self.is_for_marked(answer));
@@ -285,6 +236,19 @@ impl Case {
         }
         Ok(())
     }
+}
+
+/// A random tree of an edition: of edition 2 some with all sites that it may have, or nearly so.
+fn tree(edition: Edition, random: &mut Random) -> Network {
+    let mut network = match edition {
+        Edition::Two if random.once_in(8) => Network::any_of(SITES - 8..=SITES, random),
+        _ => {
+            let most = *random.pick(&[7, 7, 16, 16, 32, 64, 128, edition.sites()]);
+            Network::any(most, random)
+        }
+    };
+    network.edition = edition;
+    network
 }
 
 /// Compares the planners on one sheet of a seed, after `keep` has seen it.
@@ -360,47 +324,8 @@ pub fn compare_all(seed: u64, count: u64) -> Result<(), Failure> {
         "random sheets: {count} of seed {seed} in {seconds:.1} s, {:.0} a second",
         count as f64 / seconds
     );
-    println!(
-        "  {} accepted, {} solved, {} with odd pieces, {} trimmed in order; refused 1 to 13: {:?}",
-        tally.outcomes[0],
-        tally.solved,
-        tally.odd,
-        tally.ordered,
-        &tally.outcomes[1..]
-    );
-    println!(
-        "  names in either case decide {} sheets; accepted, refused with 5, with 7: {:?}",
-        tally.spelt.iter().sum::<u64>(),
-        SPELT.map(|outcome| tally.spelt[outcome])
-    );
-    println!(
-        "  {} trees with reserves, reports as on their usable sizes",
-        tally.reserved
-    );
-    println!(
-        "  {} trees with ends inside, orders as without marks; lines of marked sites refused with \
-         {OF_SITE_LINES:?}: {:?}",
-        tally.marked,
-        OF_SITE_LINES.map(|number| tally.marked_lines[number])
-    );
-    let has_share = |(number, &sheets): (usize, &u64)| {
-        let share = if OFTEN.contains(&number) {
-            LEAST_OFTEN_SHARE
-        } else {
-            LEAST_SHARE
-        };
-        sheets >= count / share
-    };
-    let has_shares = tally.outcomes.iter().enumerate().all(has_share)
-        && tally.odd >= count / LEAST_ODD_SHARE
-        && tally.reserved >= count / LEAST_RESERVE_SHARE
-        && tally.marked >= count / LEAST_MARKED_SHARE
-        && OF_SITE_LINES
-            .iter()
-            .all(|&number| tally.marked_lines[number] >= count / LEAST_MARKED_SHARES)
-        && tally.spelt.iter().sum::<u64>() >= count / LEAST_SPELT_SHARE
-        && SPELT.map(|outcome| tally.spelt[outcome] >= count / LEAST_SPELT_SHARES) == [true; 3];
-    if count >= ENOUGH_FOR_SHARES && !has_shares {
+    tally.print(count);
+    if !tally.has_shares(count) {
         return Err(Failure {
             sheet: None,
             index: None,

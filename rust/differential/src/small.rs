@@ -3,11 +3,11 @@
 use crate::card::Checked;
 use crate::compare::{Answer, LIST_PLACES, Planners};
 use crate::exact::{self, Fraction};
-use crate::{Failure, circuits, demands, inward, marks, search};
+use crate::{Failure, circuits, demands, editions, inward, marks, search, usable};
 use second::REPORT_BYTES;
 use sheets::cases::{self, Due};
-use sheets::{Layout, Names, Network, Random, SHAPES, Sizes, Spelling};
-use sheets::{marks as site_lines, order, prufer_links, reserve, tried, whole};
+use sheets::{Edition, Layout, Names, Network, Random, SHAPES, Sizes, Spelling};
+use sheets::{headings, marks as site_lines, order, prufer_links, reserve, tried, whole};
 use std::collections::HashSet;
 use std::time::Instant;
 
@@ -28,6 +28,8 @@ pub fn tried_sheets() -> Result<(), Failure> {
                 return Err(failure(&tried.sheet(), what));
             }
         }
+        editions::compare(&mut planners, &tried.sheet())
+            .map_err(|what| failure(&tried.sheet(), what))?;
     }
     let refused = tried::refused();
     for tried in &refused {
@@ -38,6 +40,8 @@ pub fn tried_sheets() -> Result<(), Failure> {
             let what = format!("{}: {answer:?}", tried.title);
             return Err(failure(&tried.sheet, what));
         }
+        editions::compare(&mut planners, &tried.sheet)
+            .map_err(|what| failure(&tried.sheet, what))?;
     }
     println!(
         "sheets to try: {} reports and {} refusals as written by hand",
@@ -87,10 +91,10 @@ fn tried_orders(planners: &mut Planners) -> Result<(), Failure> {
 /// what is due by the words of the card.
 pub fn names_in_either_case() -> Result<(), Failure> {
     let mut planners = Planners::new();
-    let count = cases::every_sheet(|sheet, due| {
-        two_sites(&mut planners, sheet, due).map_err(|what| failure(sheet, what))
-    })?;
-    println!("names in either case: {count} sheets of two sites, answers by the words of the card");
+    let count = cases::every_sheet(|sheet, due| of_both(&mut planners, sheet, due))?;
+    println!(
+        "names in either case: {count} sheets of two sites of both editions, answers by the words of the card"
+    );
     Ok(())
 }
 
@@ -98,10 +102,10 @@ pub fn names_in_either_case() -> Result<(), Failure> {
 /// by the words of the card.
 pub fn reserves() -> Result<(), Failure> {
     let mut planners = Planners::new();
-    let count = reserve::every_sheet(|sheet, due| {
-        two_sites(&mut planners, sheet, due).map_err(|what| failure(sheet, what))
-    })?;
-    println!("reserves: {count} sheets of two sites, answers by the words of the card");
+    let count = reserve::every_sheet(|sheet, due| of_both(&mut planners, sheet, due))?;
+    println!(
+        "reserves: {count} sheets of two sites of both editions, answers by the words of the card"
+    );
     Ok(())
 }
 
@@ -109,45 +113,100 @@ pub fn reserves() -> Result<(), Failure> {
 /// the card.
 pub fn site_lines() -> Result<(), Failure> {
     let mut planners = Planners::new();
-    let count = site_lines::every_sheet(|sheet, due| {
+    let count = site_lines::every_sheet(|sheet, due| of_both(&mut planners, sheet, due))?;
+    println!(
+        "marks: {count} sheets of two sites of both editions, answers by the words of the card"
+    );
+    Ok(())
+}
+
+/// Both planners on sheets at the limits of both editions, under many first lines and of many lengths, and
+/// on trees with about as many sites as an edition has, against what is due by the words of the card.
+pub fn headings() -> Result<(), Failure> {
+    let start = Instant::now();
+    let mut planners = Planners::new();
+    let sheets = headings::every_sheet(|sheet, due| {
         two_sites(&mut planners, sheet, due).map_err(|what| failure(sheet, what))
     })?;
-    println!("marks: {count} sheets of two sites, answers by the words of the card");
+    let mut random = Random::new(1);
+    let trees = headings::every_tree(|network, sheet, refusal| {
+        let compared = match refusal {
+            Some(due) => refused(&mut planners, sheet, due),
+            None => large_tree(network, sheet, &mut planners, &mut random),
+        };
+        compared.map_err(|what| failure(sheet, what))
+    })?;
+    println!(
+        "editions: {sheets} sheets under many first lines and {trees} trees at the limits in {:.1} s, answers by \
+         the words of the card",
+        start.elapsed().as_secs_f64()
+    );
     Ok(())
+}
+
+/// Both planners on a tree that must be accepted: both reports, with and without its marks and reserves, and
+/// the order of work.
+fn large_tree(
+    network: &Network,
+    sheet: &[u8],
+    planners: &mut Planners,
+    random: &mut Random,
+) -> Result<(), String> {
+    accepted(network, sheet, planners, false)?;
+    circuits::accepted(planners, sheet)?;
+    usable::compare(planners, sheet)?;
+    marks::compare(planners, sheet)?;
+    inward::accepted(planners, sheet, random)
+}
+
+/// Both planners on a sheet of two sites, and on the same under the heading of edition 2.
+fn of_both(planners: &mut Planners, sheet: &[u8], due: &Due) -> Result<(), Failure> {
+    two_sites(planners, sheet, due).map_err(|what| failure(sheet, what))?;
+    let second = Edition::Two.head(sheet).expect("it has a heading");
+    two_sites(planners, &second, due).map_err(|what| failure(&second, what))
 }
 
 /// Both planners on a sheet of two sites, with what is due of it.
 fn two_sites(planners: &mut Planners, sheet: &[u8], due: &Due) -> Result<(), String> {
-    let answer = match planners.plan(sheet, REPORT_BYTES)? {
-        Answer::Report(report) => Due::Report(report.to_vec()),
-        Answer::Refused(number, line) => Due::Refused(number, line),
+    let report = match due {
+        Due::Report(report) => report,
+        Due::Refused(number, line) => return refused(planners, sheet, (*number, *line)),
     };
-    if answer != *due {
-        return Err(format!(
-            "both planners answer {answer:?} where {due:?} is due"
-        ));
-    }
-    let refusal = match due {
-        Due::Report(report) => {
-            demands::check(sheet, report)?;
-            let (whole, _) = circuits::accepted(planners, sheet)?;
-            if Due::Report(whole.to_vec()) != due.in_whole_circuits() {
-                return Err("whole: another report is due of two sites".to_string());
-            }
-            return inward::compare(planners, sheet, Answer::Report(2), LIST_PLACES);
+    match planners.plan(sheet, REPORT_BYTES)? {
+        Answer::Report(answer) if answer == report => (),
+        answer => {
+            return Err(format!(
+                "both planners answer {answer:?} where {due:?} is due"
+            ));
         }
-        Due::Refused(number, line) => (*number, *line),
-    };
+    }
+    demands::check(sheet, report)?;
+    let (whole, _) = circuits::accepted(planners, sheet)?;
+    if Due::Report(whole.to_vec()) != due.in_whole_circuits() {
+        return Err("whole: another report is due of two sites".to_string());
+    }
+    inward::compare(planners, sheet, Answer::Report(2), LIST_PLACES)
+}
+
+/// Both planners on a sheet that must be refused.
+fn refused(planners: &mut Planners, sheet: &[u8], due: (u8, u32)) -> Result<(), String> {
+    match planners.plan(sheet, REPORT_BYTES)? {
+        Answer::Refused(number, line) if (number, line) == due => (),
+        answer => {
+            return Err(format!(
+                "both planners answer {answer:?} where {due:?} is due"
+            ));
+        }
+    }
     match planners.whole(sheet, REPORT_BYTES)? {
-        Answer::Refused(number, line) if (number, line) == refusal => (),
+        Answer::Refused(number, line) if (number, line) == due => (),
         answer => {
             return Err(format!(
                 "whole: the answer is {answer:?} where {due:?} is due"
             ));
         }
     }
-    let due = Answer::Refused(refusal.0, refusal.1);
-    inward::compare(planners, sheet, due, LIST_PLACES)
+    inward::compare(planners, sheet, Answer::Refused(due.0, due.1), LIST_PLACES)
 }
 
 /// Both planners on all trees of 2 to 5 sites: in halves with sizes 0 to 2, in whole circuits with
@@ -273,6 +332,7 @@ fn every_tree(
             for number in 0..sizings * markings {
                 let (sizing, marking) = (number / markings, number % markings);
                 let network = Network {
+                    edition: Edition::ALL[sizing as usize % 2],
                     names: (1..=sites).map(|site| format!("s{site}").into()).collect(),
                     marks: (0..sites).map(|site| marking >> site & 1 == 1).collect(),
                     links: links.clone(),

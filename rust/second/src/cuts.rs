@@ -1,36 +1,36 @@
 //! End sets: the terminal cuts that show the plan cannot be larger.
 
-use crate::SITES;
 use crate::network::Network;
 use crate::planted::{Error, planted};
 use crate::tree::RootedTree;
 use crate::trim::Balanced;
+use crate::{PLACES, Site};
 
 /// The end sets of a tree.
 pub struct TerminalCuts {
     /// The end whose set holds each site, if one does.
-    owner: [Option<u8>; SITES],
+    owner: [Option<Site>; PLACES],
     /// For each end, the sum of capacities of links with one site in its set.
-    size: [u32; SITES],
+    size: [u32; PLACES],
     /// For each end, the number of sites in its set.
-    site_count: [u16; SITES],
+    site_count: [u16; PLACES],
     /// The sum of all sizes.
     total: u32,
 }
 
 impl TerminalCuts {
     #[inline]
-    pub fn owner(&self, site: u8) -> Option<u8> {
+    pub fn owner(&self, site: Site) -> Option<Site> {
         self.owner[usize::from(site)]
     }
 
     #[inline]
-    pub fn size(&self, terminal: u8) -> u32 {
+    pub fn size(&self, terminal: Site) -> u32 {
         self.size[usize::from(terminal)]
     }
 
     #[inline]
-    pub fn site_count(&self, terminal: u8) -> u16 {
+    pub fn site_count(&self, terminal: Site) -> u16 {
         self.site_count[usize::from(terminal)]
     }
 
@@ -38,14 +38,17 @@ impl TerminalCuts {
         self.total
     }
 
-    /// The end sets in which each site has a given owner, or none.
-    pub fn of_owners(network: &Network, owner: &[Option<u8>; SITES]) -> Self {
+    /// The end sets in which each site has the owner that is put at its place, or none. (They are put where
+    /// they stay, as a copy would take its time.)
+    #[inline]
+    pub fn of_owners(network: &Network, put: impl FnOnce(&mut [Option<Site>; PLACES])) -> Self {
         let mut cuts = TerminalCuts {
-            owner: *owner,
-            size: [0; SITES],
-            site_count: [0; SITES],
+            owner: [None; PLACES],
+            size: [0; PLACES],
+            site_count: [0; PLACES],
             total: 0,
         };
+        put(&mut cuts.owner);
         for owner in cuts.owner[..network.site_count()].iter().flatten() {
             cuts.site_count[usize::from(*owner)] += 1;
         }
@@ -77,28 +80,28 @@ pub fn terminal_cuts(network: &Network, tree: &RootedTree, balanced: &Balanced) 
 /// The same with the capacities of a tree.
 #[inline(always)]
 fn reached(network: &Network, tree: &RootedTree, balanced: &Balanced) -> TerminalCuts {
-    let mut owner = [None; SITES];
-    if tree.is_terminal(tree.root()) {
-        owner[usize::from(tree.root())] = Some(tree.root());
-    }
     let is_trimmed =
         |site| balanced.capacity(site) < tree.capacity(site) || planted(Error::SetsOverFull);
-    for &site in tree.leaves_first() {
-        if tree.is_terminal(site) {
-            owner[usize::from(site)] = Some(site);
+    TerminalCuts::of_owners(network, |owner| {
+        if tree.is_terminal(tree.root()) {
+            owner[usize::from(tree.root())] = Some(tree.root());
         }
-        let own = owner[usize::from(site)];
-        let parent = tree.parent(site);
-        if own.is_some() && is_trimmed(site) && !tree.is_terminal(parent) {
-            owner[usize::from(parent)] = own;
-        }
-    }
-    if !planted(Error::UpwardSets) {
-        for &site in tree.leaves_first().iter().rev() {
-            if is_trimmed(site) && !tree.is_terminal(site) {
-                owner[usize::from(site)] = owner[usize::from(tree.parent(site))];
+        for &site in tree.leaves_first() {
+            if tree.is_terminal(site) {
+                owner[usize::from(site)] = Some(site);
+            }
+            let own = owner[usize::from(site)];
+            let parent = tree.parent(site);
+            if own.is_some() && is_trimmed(site) && !tree.is_terminal(parent) {
+                owner[usize::from(parent)] = own;
             }
         }
-    }
-    TerminalCuts::of_owners(network, &owner)
+        if !planted(Error::UpwardSets) {
+            for &site in tree.leaves_first().iter().rev() {
+                if is_trimmed(site) && !tree.is_terminal(site) {
+                    owner[usize::from(site)] = owner[usize::from(tree.parent(site))];
+                }
+            }
+        }
+    })
 }

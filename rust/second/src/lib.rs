@@ -11,6 +11,7 @@
 //!
 //! | module | step |
 //! |---|---|
+//! | `edition` | tells the edition of a sheet, which has the limits |
 //! | `network` | reads the sheet: sites, links, refusals 1 to 8 and 10 to 13 |
 //! | `form` | tells what is off in a line of the wrong form: refusals 2, 10, 11, 12 |
 //! | `names` | finds a site by its name, in either case |
@@ -35,6 +36,7 @@
 #![forbid(unsafe_code)]
 
 mod cuts;
+mod edition;
 mod forest;
 mod form;
 mod names;
@@ -51,6 +53,7 @@ mod tree;
 mod trim;
 mod whole;
 
+pub use edition::Edition;
 use forest::Forest;
 use network::Network;
 use planted::{Error, planted};
@@ -59,14 +62,21 @@ use report::Shown;
 use tree::RootedTree;
 use trim::Balanced;
 
-/// The largest sheet that is read, in bytes.
-pub const SHEET_BYTES: usize = 16_384;
-/// The most sites a sheet may have.
-pub const SITES: usize = 256;
+/// The largest sheet that is read, in bytes: one of edition 2.
+pub const SHEET_BYTES: usize = Edition::TWO.bytes;
+/// The most sites a sheet may have: one of edition 2.
+pub const SITES: usize = Edition::TWO.sites;
 /// The largest size and the largest reserve of a link, in circuits.
 pub const CAPACITY: u32 = 1_000_000;
 /// The length of the program's report buffer, enough for every accepted sheet.
 pub const REPORT_BYTES: usize = 65_536;
+
+/// The number of a site or a link, from 0 in the order of their lines; or how many there are.
+type Site = u16;
+
+/// The places of a table with one for each site. There is one more where an error can be planted that
+/// accepts a site more.
+const PLACES: usize = SITES + cfg!(feature = "planted") as usize;
 
 /// What a planner answers.
 #[derive(Clone, Copy, Debug, PartialEq, Eq)]
@@ -95,7 +105,12 @@ struct Refusal {
 ///
 /// On a refusal the buffer keeps its values; after a report the bytes past it keep theirs.
 pub fn plan(sheet: &[u8], buffer: &mut [u8]) -> Outcome {
-    answer(sheet, buffer, |network, tree| {
+    plan_knowing(&Edition::ALL, sheet, buffer)
+}
+
+/// The same by a planner that knows some editions, to which the heading of another is none.
+pub fn plan_knowing(known: &[Edition], sheet: &[u8], buffer: &mut [u8]) -> Outcome {
+    answer(sheet, known, buffer, |network, tree| {
         let balanced = trim::balance(tree);
         let cuts = cuts::terminal_cuts(network, tree, &balanced);
         let shown = Shown {
@@ -113,7 +128,7 @@ pub fn plan(sheet: &[u8], buffer: &mut [u8]) -> Outcome {
 /// Plans the network of `sheet` in whole circuits and writes the report headed `whole` into
 /// `buffer`, as [`plan`] does the other.
 pub fn whole(sheet: &[u8], buffer: &mut [u8]) -> Outcome {
-    answer(sheet, buffer, |network, tree| {
+    answer(sheet, &Edition::ALL, buffer, |network, tree| {
         if planted(Error::WholeFromHighest) {
             return write_whole(network, &RootedTree::rooted(network, true));
         }
@@ -148,7 +163,7 @@ fn write_whole(network: &Network, tree: &RootedTree) -> Vec<u8> {
 /// On a refusal the list keeps its values; after an order the places past it keep theirs.
 pub fn order(sheet: &[u8], list: &mut [usize]) -> Outcome {
     let mut network = Network::new(sheet);
-    let read = network.read();
+    let read = network.read(&Edition::ALL);
     let is_short = network.site_count() > list.len();
     if let Err(Refusal { number, line }) = read
         && !(planted(Error::ShortListFirst) && is_short)
@@ -171,7 +186,9 @@ pub fn order(sheet: &[u8], list: &mut [usize]) -> Outcome {
 /// Writes a line for each site of `sheet` in the order taken into `buffer`: its number, tab, its
 /// name.
 pub fn order_lines(sheet: &[u8], buffer: &mut [u8]) -> Outcome {
-    answer(sheet, buffer, |network, _| order::lines(network))
+    answer(sheet, &Edition::ALL, buffer, |network, _| {
+        order::lines(network)
+    })
 }
 
 /// The `P` lines of the walk over an accepted sheet, with loads of its links, in the order of
@@ -181,12 +198,12 @@ pub fn order_lines(sheet: &[u8], buffer: &mut [u8]) -> Outcome {
 #[must_use]
 pub fn pair_lines(sheet: &[u8], loads: &[u32]) -> Option<Vec<u8>> {
     let mut network = Network::new(sheet);
-    network.read().ok()?;
+    network.read(&Edition::ALL).ok()?;
     if network.links().len() != loads.len() {
         return None;
     }
     let tree = RootedTree::new(&network);
-    let mut by_child = [0; SITES];
+    let mut by_child = [0; PLACES];
     for (link, &load) in network.links().iter().zip(loads) {
         by_child[usize::from(tree.child(link.sites))] = load;
     }
@@ -196,15 +213,16 @@ pub fn pair_lines(sheet: &[u8], loads: &[u32]) -> Option<Vec<u8>> {
     Some(text)
 }
 
-/// Reads a sheet, lets its report be written, and puts that into `buffer`.
+/// Reads a sheet by the editions that are known, lets its report be written, and puts that into `buffer`.
 #[inline]
 fn answer(
     sheet: &[u8],
+    known: &[Edition],
     buffer: &mut [u8],
     write: impl FnOnce(&Network, &RootedTree) -> Vec<u8>,
 ) -> Outcome {
     let mut network = Network::new(sheet);
-    if let Err(Refusal { number, line }) = network.read() {
+    if let Err(Refusal { number, line }) = network.read(known) {
         return Outcome::Refused { number, line };
     }
     let report = write(&network, &RootedTree::new(&network));

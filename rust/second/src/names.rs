@@ -1,6 +1,7 @@
 //! Names of sites, and a table that finds a site by its name, in either case.
 
 use crate::planted::{Error, planted};
+use crate::{PLACES, Site};
 
 /// A name of 1 to 12 bytes as it is spelt: its bytes in order from the lowest, then zero bytes.
 ///
@@ -99,19 +100,19 @@ fn telling() -> u128 {
     !(EVERY_BYTE * CASE_BIT)
 }
 
-const SLOT_BITS: u32 = 9;
+const SLOT_BITS: u32 = 10;
 const SLOTS: usize = 1 << SLOT_BITS;
 
 /// An open-addressed table from names to sites, never more than half full.
 pub struct NameTable {
     /// The site of each slot plus one, or 0 for an empty slot.
-    slots: [u16; SLOTS],
+    slots: [Site; SLOTS],
 }
 
 /// Where a search in the table ended.
 pub enum Found {
     /// At the site of that name.
-    Site(u8),
+    Site(Site),
     /// At an empty slot, where the name would be put.
     Empty(usize),
 }
@@ -124,14 +125,14 @@ impl NameTable {
     /// Looks `name` up, in either case, among the `names` of the sites put into the table; but by
     /// bytes if the error that does so is planted.
     #[inline]
-    pub fn find(&self, names: &[Name; crate::SITES], name: Name, by_bytes: Error) -> Found {
+    pub fn find(&self, names: &[Name; PLACES], name: Name, by_bytes: Error) -> Found {
         let mut slot = name.slot();
         loop {
             let entry = self.slots[slot];
             if entry == 0 {
                 return Found::Empty(slot);
             }
-            let site = (entry - 1) as u8;
+            let site = entry - 1;
             let other = names[usize::from(site)];
             let is_same = if planted(by_bytes) {
                 name == other
@@ -147,8 +148,8 @@ impl NameTable {
 
     /// Puts `site` into the empty slot a search for its name ended at.
     #[inline]
-    pub fn put(&mut self, slot: usize, site: u8) {
-        self.slots[slot] = u16::from(site) + 1;
+    pub fn put(&mut self, slot: usize, site: Site) {
+        self.slots[slot] = site + 1;
     }
 }
 
@@ -257,7 +258,7 @@ mod tests {
     }
 
     /// Looks a name up as a link line does.
-    fn find(table: &NameTable, names: &[Name; crate::SITES], text: &str) -> Option<u8> {
+    fn find(table: &NameTable, names: &[Name; PLACES], text: &str) -> Option<Site> {
         match table.find(names, name(text.as_bytes()), Error::LinksByBytes) {
             Found::Site(site) => Some(site),
             Found::Empty(_) => None,
@@ -265,11 +266,11 @@ mod tests {
     }
 
     #[test]
-    fn the_table_holds_256_names() {
-        let mut names = [Name::NONE; crate::SITES];
+    fn the_table_holds_384_names() {
+        let mut names = [Name::NONE; PLACES];
         let mut table = NameTable::new();
         let text = |number: usize| format!("Site{number}p");
-        for site in 0..=255_u8 {
+        for site in 0..PLACES as Site {
             let name = name(text(site.into()).as_bytes());
             let Found::Empty(slot) = table.find(&names, name, Error::SitesByBytes) else {
                 panic!("found before it was put");
@@ -277,7 +278,7 @@ mod tests {
             names[usize::from(site)] = name;
             table.put(slot, site);
         }
-        for site in 0..=255_u8 {
+        for site in 0..PLACES as Site {
             let text = text(site.into());
             let small = text.to_ascii_lowercase();
             for spelling in [&text, &small, &text.to_ascii_uppercase()] {
@@ -287,6 +288,6 @@ mod tests {
             assert_eq!(find(&table, &names, &small.replace('p', "0")), None);
             assert_eq!(find(&table, &names, &small.replace('p', "")), None);
         }
-        assert_eq!(find(&table, &names, &text(256)), None);
+        assert_eq!(find(&table, &names, &text(PLACES)), None);
     }
 }

@@ -1,44 +1,45 @@
 //! Reading a network sheet: sites, links, and its refusals.
 
+use crate::edition::Edition;
 use crate::form;
 use crate::names::{Found, Name, NameTable};
 use crate::planted::{Error, planted};
-use crate::{CAPACITY, Refusal, SHEET_BYTES, SITES};
-
-const HEADING: &[u8] = b"network\t1\n";
+use crate::{CAPACITY, PLACES, Refusal, Site};
 
 /// A link between two sites. (It has no padding, so that clearing many is quick.)
 #[derive(Clone, Copy)]
 pub struct Link {
-    pub sites: [u8; 2],
+    pub sites: [Site; 2],
     /// The usable size: the size less the reserve.
     pub capacity: u32,
     /// Where its line starts in the sheet.
     start: u16,
     /// The length of its line, byte 10 left off, or 0 if the report prints another: the line has a
     /// reserve, or spells a name otherwise than the site's own line.
-    length: u32,
+    length: u16,
 }
 
 /// The links at one site, folded together: how many there are, and the exclusive or of their
 /// other sites and of their numbers. With one link left these are its other site and its number.
 #[derive(Clone, Copy, Default)]
 pub struct Fold {
-    pub degree: u8,
-    pub neighbours: u8,
-    pub links: u8,
+    pub degree: Site,
+    pub neighbours: Site,
+    pub links: Site,
 }
 
 /// The sites and links of a sheet.
 pub struct Network<'sheet> {
     sheet: &'sheet [u8],
-    names: [Name; SITES],
-    is_marked: [bool; SITES],
+    /// What the sheet is measured by.
+    edition: Edition,
+    names: [Name; PLACES],
+    is_marked: [bool; PLACES],
     has_marks: bool,
     site_count: usize,
-    links: [Link; SITES],
+    links: [Link; PLACES],
     link_count: usize,
-    folds: [Fold; SITES],
+    folds: [Fold; PLACES],
 }
 
 /// A fault of one line.
@@ -79,31 +80,34 @@ impl<'sheet> Network<'sheet> {
         };
         Network {
             sheet,
-            names: [Name::NONE; SITES],
-            is_marked: [false; SITES],
+            edition: Edition::of_no_heading(),
+            names: [Name::NONE; PLACES],
+            is_marked: [false; PLACES],
             has_marks: false,
             site_count: 0,
-            links: [no_link; SITES],
+            links: [no_link; PLACES],
             link_count: 0,
-            folds: [Fold::default(); SITES],
+            folds: [Fold::default(); PLACES],
         }
     }
 
-    /// Reads the whole sheet, or tells its refusal.
-    pub fn read(&mut self) -> Result<(), Refusal> {
-        self.read_with(&mut NameTable::new())
+    /// Reads the whole sheet by the editions that are known, or tells its refusal.
+    pub fn read(&mut self, known: &[Edition]) -> Result<(), Refusal> {
+        self.read_with(&mut NameTable::new(), known)
     }
 
     /// The same with an empty table, which then finds the sites of the sheet.
-    pub fn read_with(&mut self, table: &mut NameTable) -> Result<(), Refusal> {
-        if self.sheet.is_empty() || self.sheet.len() > SHEET_BYTES {
+    pub fn read_with(&mut self, table: &mut NameTable, known: &[Edition]) -> Result<(), Refusal> {
+        let told = Edition::of(self.sheet, known);
+        self.edition = told.unwrap_or(self.edition);
+        if self.sheet.is_empty() || self.sheet.len() > self.edition.bytes {
             return Err(Refusal { number: 1, line: 0 });
         }
-        if !self.sheet.starts_with(HEADING) {
+        if told.is_none() {
             return Err(Refusal { number: 2, line: 1 });
         }
         let mut joined = JoinedSites::new();
-        let mut position = HEADING.len();
+        let mut position = self.edition.second_line();
         let mut line = 1;
         while position < self.sheet.len() {
             line += 1;
@@ -139,7 +143,7 @@ impl<'sheet> Network<'sheet> {
         is_marked: bool,
     ) -> Result<usize, Fault> {
         let (name, next) = read_name(self.sheet, start + 2, b'\n')?;
-        if self.site_count == SITES {
+        if self.site_count == self.edition.sites {
             return Err(TOO_MANY_SITES);
         }
         let Found::Empty(slot) = table.find(&self.names, name, Error::SitesByBytes) else {
@@ -152,7 +156,7 @@ impl<'sheet> Network<'sheet> {
         };
         self.is_marked[self.site_count] = is_marked;
         self.has_marks |= is_marked;
-        table.put(slot, self.site_count as u8);
+        table.put(slot, self.site_count as Site);
         self.site_count += 1;
         Ok(next)
     }
@@ -193,9 +197,9 @@ impl<'sheet> Network<'sheet> {
             sites: [first, second],
             capacity,
             start: start as u16,
-            length: length as u32,
+            length: length as u16,
         };
-        let number = self.link_count as u8;
+        let number = self.link_count as Site;
         self.link_count += 1;
         self.fold(first, second, number);
         self.fold(second, first, number);
@@ -203,7 +207,7 @@ impl<'sheet> Network<'sheet> {
     }
 
     #[inline]
-    fn fold(&mut self, site: u8, neighbour: u8, link: u8) {
+    fn fold(&mut self, site: Site, neighbour: Site, link: Site) {
         let fold = &mut self.folds[usize::from(site)];
         fold.degree += 1;
         fold.neighbours ^= neighbour;
@@ -221,13 +225,13 @@ impl<'sheet> Network<'sheet> {
 
     /// The name of one site as its own line spells it.
     #[inline]
-    pub fn name(&self, site: u8) -> Name {
+    pub fn name(&self, site: Site) -> Name {
         self.names[usize::from(site)]
     }
 
     /// The site of a name in either case; but by bytes if the error that does so is planted.
     #[inline]
-    pub fn site(&self, table: &NameTable, name: Name, by_bytes: Error) -> Option<u8> {
+    pub fn site(&self, table: &NameTable, name: Name, by_bytes: Error) -> Option<Site> {
         match table.find(&self.names, name, by_bytes) {
             Found::Site(site) => Some(site),
             Found::Empty(_) => None,
@@ -241,7 +245,7 @@ impl<'sheet> Network<'sheet> {
 
     /// The capacity of one link.
     #[inline]
-    pub fn capacity(&self, link: u8) -> u32 {
+    pub fn capacity(&self, link: Site) -> u32 {
         self.links[usize::from(link)].capacity
     }
 
@@ -249,7 +253,7 @@ impl<'sheet> Network<'sheet> {
     /// it has no reserve and spells both names as the sites' own lines do.
     #[inline]
     pub fn line(&self, link: &Link) -> Option<&'sheet [u8]> {
-        let line = &self.sheet[usize::from(link.start)..][..link.length as usize];
+        let line = &self.sheet[usize::from(link.start)..][..usize::from(link.length)];
         (!line.is_empty()).then_some(line)
     }
 
@@ -263,7 +267,7 @@ impl<'sheet> Network<'sheet> {
     }
 
     /// The links at each site, folded together.
-    pub fn folds(&self) -> &[Fold; SITES] {
+    pub fn folds(&self) -> &[Fold; PLACES] {
         &self.folds
     }
 
@@ -273,7 +277,7 @@ impl<'sheet> Network<'sheet> {
     }
 
     /// Whether each site is an end: has just one link, or is marked.
-    pub fn ends(&self) -> [bool; SITES] {
+    pub fn ends(&self) -> [bool; PLACES] {
         let mut is_end = self.folds.map(|fold| fold.degree == 1);
         if self.has_marks {
             for (is_end, is_marked) in is_end.iter_mut().zip(self.is_marked) {
@@ -285,7 +289,7 @@ impl<'sheet> Network<'sheet> {
 
     /// Whether the line of a site marks it, for errors that can be planted.
     #[cold]
-    pub fn is_marked(&self, site: u8) -> bool {
+    pub fn is_marked(&self, site: Site) -> bool {
         self.is_marked[usize::from(site)]
     }
 }
@@ -408,18 +412,18 @@ fn read_long_number(sheet: &[u8], position: usize) -> Result<(u32, u8, usize), F
 
 /// Which sites are joined by links, as a forest with halved paths.
 struct JoinedSites {
-    towards: [u8; SITES],
+    towards: [Site; PLACES],
 }
 
 impl JoinedSites {
     fn new() -> Self {
         JoinedSites {
-            towards: std::array::from_fn(|site| site as u8),
+            towards: std::array::from_fn(|site| site as Site),
         }
     }
 
     #[inline]
-    fn representative(&mut self, mut site: u8) -> u8 {
+    fn representative(&mut self, mut site: Site) -> Site {
         loop {
             let next = self.towards[usize::from(site)];
             if next == site {
@@ -433,7 +437,7 @@ impl JoinedSites {
 
     /// Joins two sites; false if they were joined already.
     #[inline]
-    fn join(&mut self, first: u8, second: u8) -> bool {
+    fn join(&mut self, first: Site, second: Site) -> bool {
         let first = self.representative(first);
         let second = self.representative(second);
         self.towards[usize::from(first)] = second;

@@ -1,12 +1,12 @@
 //! End sets and odd pieces of a largest plan in whole circuits: they show that none is larger.
 
-use crate::SITES;
 use crate::cuts::TerminalCuts;
 use crate::forest::Forest;
 use crate::network::Network;
 use crate::planted::{Error, planted};
 use crate::tree::RootedTree;
 use crate::trim::Balanced;
+use crate::{PLACES, Site};
 
 /// Works out the set of each end, as source document 004 does in its lemma 13.
 ///
@@ -19,15 +19,11 @@ pub fn end_sets(
     forest: &Forest,
     loads: &Balanced,
 ) -> TerminalCuts {
-    let mut owner = [None; SITES];
-    for end in tree.terminals() {
-        owner[usize::from(end)] = Some(end);
-    }
     let spare = |site| {
         let child = tree.child([site, forest.parent(site)]);
         forest.capacity(site) - loads.capacity(child)
     };
-    let spread_down = |owner: &mut [Option<u8>; SITES]| {
+    let spread_down = |owner: &mut [Option<Site>; PLACES]| {
         let least = if planted(Error::SpareOfOne) { 1 } else { 2 };
         for site in forest.roots_first() {
             if owner[usize::from(site)].is_none() && spare(site) >= least {
@@ -35,15 +31,19 @@ pub fn end_sets(
             }
         }
     };
-    spread_down(&mut owner);
-    for site in forest.roots_first().rev() {
-        let parent = usize::from(forest.parent(site));
-        if owner[parent].is_none() && spare(site) > 0 {
-            owner[parent] = owner[usize::from(site)];
+    TerminalCuts::of_owners(network, |owner| {
+        for end in tree.terminals() {
+            owner[usize::from(end)] = Some(end);
         }
-    }
-    spread_down(&mut owner);
-    TerminalCuts::of_owners(network, &owner)
+        spread_down(owner);
+        for site in forest.roots_first().rev() {
+            let parent = usize::from(forest.parent(site));
+            if owner[parent].is_none() && spare(site) > 0 {
+                owner[parent] = owner[usize::from(site)];
+            }
+        }
+        spread_down(owner);
+    })
 }
 
 /// Counts the odd pieces: the largest groups of sites in no set, connected over links of a
@@ -66,14 +66,14 @@ pub fn odd_pieces(
 /// The same with the capacities of a tree.
 #[inline(always)]
 fn counted(network: &Network, tree: &RootedTree, cuts: &TerminalCuts, loads: &Balanced) -> u32 {
-    let mut is_odd = [false; SITES];
+    let mut is_odd = [false; PLACES];
     for &child in tree.leaves_first() {
         for site in [child, tree.parent(child)] {
             is_odd[usize::from(site)] ^= tree.capacity(child) & 1 == 1;
         }
     }
     if planted(Error::OddByLoads) {
-        is_odd = std::array::from_fn(|site| loads.sum(site as u8) & 1 == 1);
+        is_odd = std::array::from_fn(|site| loads.sum(site as Site) & 1 == 1);
     }
     let connects = |site| tree.capacity(site) > 0 || planted(Error::JoinedOverZero);
     let mut count = 0;
@@ -92,12 +92,12 @@ fn counted(network: &Network, tree: &RootedTree, cuts: &TerminalCuts, loads: &Ba
 }
 
 /// Whether a site has a link of capacity 0, and by all others an owned site.
-fn is_cut_off(network: &Network, cuts: &TerminalCuts, site: u8) -> bool {
+fn is_cut_off(network: &Network, cuts: &TerminalCuts, site: Site) -> bool {
     let mut has_zero = false;
     for link in network.links() {
         if link.sites.contains(&site) {
             has_zero |= link.capacity == 0;
-            let is_owned = |&other: &u8| other == site || cuts.owner(other).is_some();
+            let is_owned = |&other: &Site| other == site || cuts.owner(other).is_some();
             if link.capacity > 0 && !link.sites.iter().all(is_owned) {
                 return false;
             }

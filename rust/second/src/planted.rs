@@ -1,6 +1,6 @@
 //! Errors planted on purpose.
 //!
-//! With the feature `planted` one of sixty-nine errors can be switched on, to show that the comparison
+//! With the feature `planted` one of eighty errors can be switched on, to show that the comparison
 //! of the planners finds it. Without the feature none of this reaches the compiled planner.
 
 /// An error that can be planted, numbered from 1.
@@ -144,10 +144,32 @@ pub enum Error {
     MarkedTaken = 68,
     /// A pair of the log may have another end on its path.
     AcrossAccepted = 69,
+    /// Sheets of either edition have the limits of edition 2.
+    SecondForAll = 70,
+    /// Sheets of either edition have the limits of edition 1.
+    FirstForAll = 71,
+    /// The bytes of every sheet are measured by edition 2, whatever its line 1 is.
+    LargerBytes = 72,
+    /// The bytes of every sheet are measured by edition 1.
+    FirstBytes = 73,
+    /// A sheet whose line 1 is no heading is measured by edition 2.
+    UnheadedBySecond = 74,
+    /// A 257th site of a sheet of edition 1 is accepted.
+    SiteMoreInFirst = 75,
+    /// A 385th site of a sheet of edition 2 is accepted.
+    SiteMoreInSecond = 76,
+    /// A sheet headed `network`, tab, `3` is read as one of edition 2.
+    ThirdRead = 77,
+    /// The heading of edition 2 is not known.
+    SecondUnknown = 78,
+    /// Pairs are put in order by the low eight bits of the numbers of their sites.
+    OrderedByByte = 79,
+    /// Open pairs are told apart by the low eight bits of the numbers of their sites.
+    PairsByByte = 80,
 }
 
 /// All errors, in the order of their numbers.
-pub const ERRORS: [Error; 69] = [
+pub const ERRORS: [Error; 80] = [
     Error::RoundedHalf,
     Error::HighestRoot,
     Error::UpwardSets,
@@ -217,6 +239,17 @@ pub const ERRORS: [Error; 69] = [
     Error::LoadsThroughEnds,
     Error::MarkedTaken,
     Error::AcrossAccepted,
+    Error::SecondForAll,
+    Error::FirstForAll,
+    Error::LargerBytes,
+    Error::FirstBytes,
+    Error::UnheadedBySecond,
+    Error::SiteMoreInFirst,
+    Error::SiteMoreInSecond,
+    Error::ThirdRead,
+    Error::SecondUnknown,
+    Error::OrderedByByte,
+    Error::PairsByByte,
 ];
 
 #[cfg(feature = "planted")]

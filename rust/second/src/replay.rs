@@ -3,11 +3,12 @@
 //! Each line of the log asks to open an amount between two ends or to give one up, and gets one
 //! answer: 0, or the number of the first cause against it.
 
+use crate::edition::Edition;
 use crate::names::{NAME_BYTES, Name, NameTable};
 use crate::network::{Network, load, read_name, read_number};
 use crate::planted::{Error, planted};
 use crate::tree::RootedTree;
-use crate::{CAPACITY, Refusal, SITES};
+use crate::{CAPACITY, PLACES, Refusal, Site};
 
 /// The longest log that is replayed, in bytes.
 pub const LOG_BYTES: usize = 65_536;
@@ -59,7 +60,7 @@ const NO_PLACE: u8 = 16;
 pub fn replay(sheet: &[u8], log: &[u8], answers: &mut [u64]) -> Replayed {
     let mut network = Network::new(sheet);
     let mut table = NameTable::new();
-    if let Err(Refusal { number, line }) = network.read_with(&mut table) {
+    if let Err(Refusal { number, line }) = network.read_with(&mut table, &Edition::ALL) {
         let text = SHEET;
         return Replayed::Refused { text, number, line };
     }
@@ -106,7 +107,7 @@ fn refusal(log: &[u8], count: usize, places: usize, desk: &Desk) -> Option<Refus
 /// What a line without a fault asks.
 struct Request {
     opens: bool,
-    sites: [u8; 2],
+    sites: [Site; 2],
     halves: u32,
 }
 
@@ -118,15 +119,15 @@ struct Desk<'network> {
     network: &'network Network<'network>,
     table: &'network NameTable,
     /// The new number of each site, and whether it is an end.
-    number: [u8; SITES],
-    is_end: [bool; SITES],
-    parent: [u8; SITES],
+    number: [Site; PLACES],
+    is_end: [bool; PLACES],
+    parent: [Site; PLACES],
     /// The part of the link between each site and its parent, told by its highest site below the end that
     /// starts it, or by the root if no end does.
-    part: [u8; SITES],
+    part: [Site; PLACES],
     /// The most each link may carry, and what it does carry, in halves.
-    most: [u32; SITES],
-    load: [u32; SITES],
+    most: [u32; PLACES],
+    load: [u32; PLACES],
     pairs: OpenPairs,
 }
 
@@ -136,24 +137,24 @@ impl<'network> Desk<'network> {
         let mut desk = Desk {
             network,
             table,
-            number: [0; SITES],
-            is_end: [false; SITES],
-            parent: [0; SITES],
-            part: [0; SITES],
-            most: [0; SITES],
-            load: [0; SITES],
+            number: [0; PLACES],
+            is_end: [false; PLACES],
+            parent: [0; PLACES],
+            part: [0; PLACES],
+            most: [0; PLACES],
+            load: [0; PLACES],
             pairs: OpenPairs::new(),
         };
         let halves = 2 - u32::from(planted(Error::AgainstCapacity));
         desk.is_end[usize::from(tree.root())] = tree.is_terminal(tree.root());
         for (above, &site) in tree.leaves_first().iter().rev().enumerate() {
             let number = above + 1;
-            desk.number[usize::from(site)] = number as u8;
+            desk.number[usize::from(site)] = number as Site;
             desk.is_end[usize::from(site)] = tree.is_terminal(site);
             let parent = desk.number[usize::from(tree.parent(site))];
             desk.parent[number] = parent;
             desk.part[number] = if tree.is_terminal(tree.parent(site)) {
-                number as u8
+                number as Site
             } else {
                 desk.part[usize::from(parent)]
             };
@@ -221,7 +222,7 @@ impl<'network> Desk<'network> {
 
     /// The two different ends that are named, by their new numbers, if they are free to be joined.
     #[inline]
-    fn two_ends(&self, names: [Name; 2]) -> Option<[u8; 2]> {
+    fn two_ends(&self, names: [Name; 2]) -> Option<[Site; 2]> {
         let first = self.end(names[0])?;
         let second = self.end(names[1])?;
         (first != second && self.is_free([first, second])).then_some([first, second])
@@ -230,7 +231,7 @@ impl<'network> Desk<'network> {
     /// Whether two different ends have no other end on their path: they are both below the end that
     /// starts a part, or one of them is that end.
     #[inline]
-    fn is_free(&self, ends: [u8; 2]) -> bool {
+    fn is_free(&self, ends: [Site; 2]) -> bool {
         let [first, second] = ends.map(|end| self.part[usize::from(end)]);
         let starts = |end, part| self.parent[usize::from(part)] == end;
         first == second
@@ -240,7 +241,7 @@ impl<'network> Desk<'network> {
     }
 
     #[inline]
-    fn end(&self, name: Name) -> Option<u8> {
+    fn end(&self, name: Name) -> Option<Site> {
         let site = self.network.site(self.table, name, Error::LogByBytes)?;
         let is_end = self.is_end[usize::from(site)] || planted(Error::JointsAccepted);
         is_end.then_some(self.number[usize::from(site)])
@@ -361,7 +362,7 @@ fn is_name(field: &[u8]) -> bool {
 /// Goes along the path between two sites, up from both to where they meet, as long as `see` says so of
 /// each link.
 #[inline(always)]
-fn climb(parent: &[u8; SITES], sites: [u8; 2], mut see: impl FnMut(usize) -> bool) {
+fn climb(parent: &[Site; PLACES], sites: [Site; 2], mut see: impl FnMut(usize) -> bool) {
     let [mut one, mut other] = sites;
     // The one with the higher number lies neither above the other nor where they meet.
     while one != other {
@@ -382,24 +383,28 @@ const SLOTS: usize = 1 << SLOT_BITS;
 /// What each open pair has open: an open-addressed table, never more than about half full.
 struct OpenPairs {
     /// The pair of each slot, or 0 for an empty one.
-    key: [u16; SLOTS],
+    key: [u32; SLOTS],
     halves: [u32; SLOTS],
     count: usize,
 }
 
 /// The key of two different sites, in either order. It is not 0.
 #[inline]
-fn key([one, other]: [u8; 2]) -> u16 {
-    if planted(Error::OrderedPairs) {
-        return u16::from_be_bytes([one, other]);
+fn key([mut one, mut other]: [Site; 2]) -> u32 {
+    let key = |high: Site, low: Site| u32::from(high) << Site::BITS | u32::from(low);
+    if planted(Error::PairsByByte) {
+        (one, other) = (one % 256, other % 256);
     }
-    u16::from_be_bytes([one.max(other), one.min(other)])
+    if planted(Error::OrderedPairs) {
+        return key(one, other);
+    }
+    key(one.max(other), one.min(other))
 }
 
 /// Where the search for a key starts.
 #[inline]
-fn home(key: u16) -> usize {
-    (u32::from(key).wrapping_mul(0x9e37_79b1) >> (32 - SLOT_BITS)) as usize
+fn home(key: u32) -> usize {
+    (key.wrapping_mul(0x9e37_79b1) >> (32 - SLOT_BITS)) as usize
 }
 
 impl OpenPairs {
@@ -413,7 +418,7 @@ impl OpenPairs {
 
     /// The slot of a pair, or the empty one where it would be put. There nothing is open.
     #[inline]
-    fn find(&self, sites: [u8; 2]) -> usize {
+    fn find(&self, sites: [Site; 2]) -> usize {
         let key = key(sites);
         let mut slot = home(key);
         while self.key[slot] != key && self.key[slot] != 0 {
@@ -429,7 +434,7 @@ impl OpenPairs {
 
     /// Opens so much between two sites, whose search ended at the slot.
     #[inline]
-    fn open(&mut self, slot: usize, sites: [u8; 2], halves: u32) {
+    fn open(&mut self, slot: usize, sites: [Site; 2], halves: u32) {
         self.count += usize::from(!self.is_open(slot));
         self.key[slot] = key(sites);
         self.halves[slot] += halves;
@@ -472,12 +477,12 @@ mod tests {
     use super::*;
     use std::collections::HashMap;
 
-    /// All pairs of 40 sites, opened and given up in a scrambled order, against a map of the
+    /// All pairs of 40 sites far apart, opened and given up in a scrambled order, against a map of the
     /// standard library.
     #[test]
     fn open_pairs_are_kept() {
         let mut pairs = OpenPairs::new();
-        let mut due: HashMap<[u8; 2], u32> = HashMap::new();
+        let mut due: HashMap<[Site; 2], u32> = HashMap::new();
         let mut state = 1_u64;
         let mut draw = |limit: u64| {
             state = state
@@ -486,7 +491,7 @@ mod tests {
             ((state >> 33) % limit) as u32
         };
         for _ in 0..200_000 {
-            let sites = [draw(40) as u8, draw(40) as u8];
+            let sites = [0; 2].map(|_| 9 * draw(40) as Site);
             let ascending = [sites[0].min(sites[1]), sites[0].max(sites[1])];
             let slot = pairs.find(sites);
             let open = due.get(&ascending).copied().unwrap_or(0);

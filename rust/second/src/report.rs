@@ -7,7 +7,7 @@ use crate::pairs::Pairs;
 use crate::planted::{Error, planted};
 use crate::tree::RootedTree;
 use crate::trim::Balanced;
-use crate::{CAPACITY, SITES};
+use crate::{CAPACITY, SITES, Site};
 
 /// No report is longer: the heading and the odd pieces, then for each site and link lines with
 /// names of 12 bytes and numbers of 7 digits at most, but for a set size of 9.
@@ -52,10 +52,10 @@ pub fn write(network: &Network, tree: &RootedTree, shown: &Shown) -> Vec<u8> {
         text.push(b'\n');
     }
     for (site, &name) in network.names().iter().enumerate() {
-        let is_marked = planted(Error::MarkPrinted) && network.is_marked(site as u8);
+        let is_marked = planted(Error::MarkPrinted) && network.is_marked(site as Site);
         text.extend_from_slice(if is_marked { b"T\t" } else { b"N\t" });
         push_name(&mut text, name);
-        match cuts.owner(site as u8) {
+        match cuts.owner(site as Site) {
             Some(owner) => {
                 text.push(b'\t');
                 push_name(&mut text, network.name(owner));
@@ -65,7 +65,7 @@ pub fn write(network: &Network, tree: &RootedTree, shown: &Shown) -> Vec<u8> {
         }
     }
     for (site, &name) in network.names().iter().enumerate() {
-        let site = site as u8;
+        let site = site as Site;
         let is_left_out = planted(Error::MarkedWithoutSet) && tree.is_inner_terminal(site);
         if tree.is_terminal(site) && !is_left_out {
             text.extend_from_slice(b"X\t");
@@ -105,7 +105,7 @@ fn push_link(text: &mut Vec<u8>, network: &Network, link: &Link) {
 /// Writes the lines of the pairs.
 pub fn push_pairs(text: &mut Vec<u8>, network: &Network, pairs: &Pairs) {
     for pair in pairs.as_slice() {
-        let [first, second] = pair.sites();
+        let [first, second] = pair.sites;
         text.extend_from_slice(b"P\t");
         push_name(text, network.name(first));
         text.push(b'\t');

@@ -1,9 +1,9 @@
 //! The tree, rooted.
 
-use crate::SITES;
 use crate::neighbours::Neighbours;
 use crate::network::Network;
 use crate::planted::{Error, planted};
+use crate::{PLACES, Site};
 
 /// The tree rooted at the joint of lowest number, or at the first site if all sites are ends; or one of
 /// its parts.
@@ -12,18 +12,18 @@ use crate::planted::{Error, planted};
 /// the place of that site.
 #[derive(Clone)]
 pub struct RootedTree {
-    root: u8,
+    root: Site,
     site_count: usize,
     /// Every site but the root, each before its parent.
-    leaves_first: [u8; SITES],
-    parent: [u8; SITES],
-    degree: [u8; SITES],
-    is_end: [bool; SITES],
+    leaves_first: [Site; PLACES],
+    parent: [Site; PLACES],
+    degree: [Site; PLACES],
+    is_end: [bool; PLACES],
     /// Whether there is a joint, and no end with more than one link.
     is_one_part: bool,
-    capacity: [u32; SITES],
-    first_child: [u8; SITES],
-    next_sibling: [u8; SITES],
+    capacity: [u32; PLACES],
+    first_child: [Site; PLACES],
+    next_sibling: [Site; PLACES],
 }
 
 impl RootedTree {
@@ -43,18 +43,18 @@ impl RootedTree {
         let mut tree = RootedTree {
             root,
             site_count,
-            leaves_first: [0; SITES],
-            parent: [root; SITES],
+            leaves_first: [0; PLACES],
+            parent: [root; PLACES],
             degree: folds.map(|fold| fold.degree),
             is_end,
             is_one_part: !is_end[usize::from(root)] && !has_inner_end,
-            capacity: [0; SITES],
-            first_child: [0; SITES],
-            next_sibling: [0; SITES],
+            capacity: [0; PLACES],
+            first_child: [0; PLACES],
+            next_sibling: [0; PLACES],
         };
         let mut taken = 0;
         for first in 0..site_count {
-            let mut site = first as u8;
+            let mut site = first as Site;
             while folds[usize::from(site)].degree == 1 && site != root {
                 let fold = std::mem::take(&mut folds[usize::from(site)]);
                 tree.leaves_first[taken] = site;
@@ -78,35 +78,35 @@ impl RootedTree {
         for site in (0..self.site_count).rev() {
             if site != usize::from(self.root) {
                 let first = &mut self.first_child[usize::from(self.parent[site])];
-                self.next_sibling[site] = std::mem::replace(first, site as u8);
+                self.next_sibling[site] = std::mem::replace(first, site as Site);
             }
         }
     }
 
-    pub fn root(&self) -> u8 {
+    pub fn root(&self) -> Site {
         self.root
     }
 
     /// The ends, in the order of their lines.
-    pub fn terminals(&self) -> impl Iterator<Item = u8> {
-        let sites = (0..self.site_count).map(|site| site as u8);
+    pub fn terminals(&self) -> impl Iterator<Item = Site> {
+        let sites = (0..self.site_count).map(|site| site as Site);
         sites.filter(|&site| self.is_terminal(site))
     }
 
     /// Every site but the root, each before its parent.
-    pub fn leaves_first(&self) -> &[u8] {
+    pub fn leaves_first(&self) -> &[Site] {
         &self.leaves_first[..self.site_count - 1]
     }
 
     /// The parent of a site; the root's is the root.
     #[inline]
-    pub fn parent(&self, site: u8) -> u8 {
+    pub fn parent(&self, site: Site) -> Site {
         self.parent[usize::from(site)]
     }
 
     /// Of the two sites of a link the one that is the child.
     #[inline]
-    pub fn child(&self, [first, second]: [u8; 2]) -> u8 {
+    pub fn child(&self, [first, second]: [Site; 2]) -> Site {
         if self.parent(first) == second {
             first
         } else {
@@ -116,26 +116,26 @@ impl RootedTree {
 
     /// The capacity of the link from a site to its parent; the root's is 0.
     #[inline]
-    pub fn capacity(&self, site: u8) -> u32 {
+    pub fn capacity(&self, site: Site) -> u32 {
         self.capacity[usize::from(site)]
     }
 
     /// Whether a site is an end.
     #[inline]
-    pub fn is_terminal(&self, site: u8) -> bool {
+    pub fn is_terminal(&self, site: Site) -> bool {
         self.is_end[usize::from(site)]
     }
 
     /// Whether a site is an end with more than one link, at which the tree falls apart.
     #[inline]
-    pub fn is_inner_terminal(&self, site: u8) -> bool {
+    pub fn is_inner_terminal(&self, site: Site) -> bool {
         self.is_terminal(site) && self.degree[usize::from(site)] > 1
     }
 
     /// The children of a site, of a part those of a joint, in ascending order.
     #[inline]
-    pub fn children(&self, site: u8) -> impl Iterator<Item = u8> {
-        let count = self.degree[usize::from(site)] - u8::from(site != self.root);
+    pub fn children(&self, site: Site) -> impl Iterator<Item = Site> {
+        let count = self.degree[usize::from(site)] - Site::from(site != self.root);
         let mut child = self.first_child[usize::from(site)];
         (0..count).map(move |_| {
             let this = child;
@@ -178,9 +178,9 @@ impl RootedTree {
 
     /// The site that is looked at for a root after so many others: in ascending order.
     #[inline]
-    fn next_root(&self, number: usize) -> u8 {
+    fn next_root(&self, number: usize) -> Site {
         if planted(Error::PartFromHighest) {
-            return (self.site_count - 1 - number) as u8;
+            return (self.site_count - 1 - number) as Site;
         }
         if planted(Error::OneRoot) {
             let mut roots_first = self.leaves_first().iter().rev();
@@ -189,11 +189,11 @@ impl RootedTree {
                 .and_then(|before| roots_first.nth(before).copied())
                 .unwrap_or(self.root);
         }
-        number as u8
+        number as Site
     }
 
     /// Makes this the part around a joint, rooted there.
-    fn grow(&mut self, root: u8, neighbours: &Neighbours) {
+    fn grow(&mut self, root: Site, neighbours: &Neighbours) {
         self.root = root;
         self.site_count = 1;
         self.parent[usize::from(root)] = root;
@@ -245,12 +245,12 @@ impl RootedTree {
 }
 
 /// The joint of lowest number, or the first site if there is no joint.
-fn root(is_end: &[bool], at_highest: bool) -> u8 {
+fn root(is_end: &[bool], at_highest: bool) -> Site {
     let is_joint = |is_end: &bool| !is_end;
     let joint = if at_highest {
         is_end.iter().rposition(is_joint)
     } else {
         is_end.iter().position(is_joint)
     };
-    joint.unwrap_or(0) as u8
+    joint.unwrap_or(0) as Site
 }

@@ -1,21 +1,21 @@
 //! Trimmed sizes: the greatest capacities, link by link, that leave no joint with a heavy link.
 
-use crate::SITES;
 use crate::planted::{Error, planted};
 use crate::tree::RootedTree;
+use crate::{PLACES, Site};
 
 /// Balanced capacities: no link is heavy at a joint.
 pub struct Balanced {
     /// The capacity of the link from each site to its parent; 0 at the root.
-    capacity: [u32; SITES],
+    capacity: [u32; PLACES],
     /// The sum of the capacities at each site.
-    sum: [u32; SITES],
+    sum: [u32; PLACES],
 }
 
 impl Balanced {
     /// Balanced capacities of the links from each site to its parent.
-    pub fn new(tree: &RootedTree, capacity: &[u32; SITES]) -> Self {
-        let mut sum = [0; SITES];
+    pub fn new(tree: &RootedTree, capacity: &[u32; PLACES]) -> Self {
+        let mut sum = [0; PLACES];
         for &site in tree.leaves_first() {
             sum[usize::from(site)] += capacity[usize::from(site)];
             sum[usize::from(tree.parent(site))] += capacity[usize::from(site)];
@@ -27,12 +27,12 @@ impl Balanced {
     }
 
     #[inline]
-    pub fn capacity(&self, site: u8) -> u32 {
+    pub fn capacity(&self, site: Site) -> u32 {
         self.capacity[usize::from(site)]
     }
 
     #[inline]
-    pub fn sum(&self, site: u8) -> u32 {
+    pub fn sum(&self, site: Site) -> u32 {
         self.sum[usize::from(site)]
     }
 }
@@ -44,8 +44,8 @@ impl Balanced {
 /// second pass leaves every link to a parent as light as the first made it, and at most one child
 /// link of a joint is heavy.
 pub fn balance(tree: &RootedTree) -> Balanced {
-    let mut capacity = [0; SITES];
-    let mut sum = [0; SITES];
+    let mut capacity = [0; PLACES];
+    let mut sum = [0; PLACES];
     for &site in tree.leaves_first() {
         let given = tree.capacity(site);
         let trimmed = if is_cut_at(tree, site) {
@@ -72,7 +72,7 @@ pub fn balance(tree: &RootedTree) -> Balanced {
 
 /// Whether heavy links are cut at a site: it is a joint.
 #[inline]
-fn is_cut_at(tree: &RootedTree, site: u8) -> bool {
+fn is_cut_at(tree: &RootedTree, site: Site) -> bool {
     if planted(Error::MarkedTrimmed) && tree.is_inner_terminal(site) {
         return true;
     }

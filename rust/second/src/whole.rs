@@ -4,7 +4,7 @@
 //! joint of many links stands for joints of three with links between them that hold any load.
 //! There is no link of capacity 0 in a forest, as that algorithm asks.
 
-use crate::SITES;
+use crate::PLACES;
 use crate::forest::Forest;
 use crate::planted::{Error, planted};
 use crate::tree::RootedTree;
@@ -38,8 +38,8 @@ pub fn loads(tree: &RootedTree, forest: &Forest) -> Balanced {
     }
     let (most, below) = spans(tree, forest);
     // By site in the forest, and by child in the tree.
-    let mut load = [0; SITES];
-    let mut by_child = [0; SITES];
+    let mut load = [0; PLACES];
+    let mut by_child = [0; PLACES];
     for site in forest.roots_first() {
         let parent = forest.parent(site);
         let own_most = most[usize::from(site)];
@@ -62,9 +62,9 @@ pub fn loads(tree: &RootedTree, forest: &Forest) -> Balanced {
 /// The most that each link can carry up without loss below it, and what comes up to each site.
 ///
 /// A link without loss carries its least, its most, or a number of the same parity between them.
-fn spans(tree: &RootedTree, forest: &Forest) -> ([u32; SITES], [Below; SITES]) {
-    let mut most = [0; SITES];
-    let mut below = [Below::default(); SITES];
+fn spans(tree: &RootedTree, forest: &Forest) -> ([u32; PLACES], [Below; PLACES]) {
+    let mut most = [0; PLACES];
+    let mut below = [Below::default(); PLACES];
     for site in forest.roots_first().rev() {
         let capacity = forest.capacity(site);
         let from_below = below[usize::from(site)];

@@ -1,11 +1,12 @@
-//! Every error planted in the reading or the spelling of names, in reserves, or in marks gives another
-//! answer than that written out by hand on one of the sheets to try.
+//! Every error planted in the reading or the spelling of names, in reserves, in marks, or in editions gives
+//! another answer than that written out by hand on one of the sheets to try.
 
 #![cfg(feature = "planted")]
 
 use second::planted::{ERRORS, Error, plant};
 use second::{Outcome, REPORT_BYTES, SITES, order, plan, whole};
-use sheets::tried::{ACCEPTED, refused};
+use sheets::Edition;
+use sheets::tried::{ACCEPTED, largest_sums, largest_sums_printed, refused};
 use sheets::whole::TRIED;
 
 type Planner = fn(&[u8], &mut [u8]) -> Outcome;
@@ -32,15 +33,22 @@ fn all_as_written() -> bool {
             order(&tried.sheet(), &mut list) == Outcome::Report { length }
                 && list[..length] == *tried.order
         })
+        && Edition::ALL.into_iter().all(|edition| {
+            let [start, _, end] = largest_sums_printed(edition);
+            report(plan, &largest_sums(edition)).is_ok_and(|report| {
+                report.starts_with(&[b"plan", start].concat()) && report.ends_with(end)
+            })
+        })
 }
 
 #[test]
-fn errors_of_names_reserves_and_marks_are_errors() {
+fn errors_of_names_reserves_marks_and_editions_are_errors() {
     assert!(all_as_written());
     let number = |error: Error| error as usize;
     let of_names_and_reserves = number(Error::TypedNames)..number(Error::FirstLinkOnly);
     let of_marks = number(Error::MarkedTrimmed)..number(Error::AcrossAccepted);
-    for number in of_names_and_reserves.chain(of_marks) {
+    let of_editions = number(Error::SecondForAll)..number(Error::PairsByByte);
+    for number in of_names_and_reserves.chain(of_marks).chain(of_editions) {
         let error = ERRORS[number - 1];
         plant(error);
         assert!(!all_as_written(), "{error:?}");

@@ -48,7 +48,8 @@ fn errors_of_logs_are_errors() {
         .collect();
     assert!(cases.iter().all(|(case, due)| is_right(case, due)));
     let of_logs = &ERRORS[Error::FirstLinkOnly as usize - 1..Error::UnendedLeftOut as usize];
-    for &error in of_logs.iter().chain([&Error::AcrossAccepted]) {
+    let of_later_cards = [Error::AcrossAccepted, Error::PairsByByte];
+    for &error in of_logs.iter().chain(&of_later_cards) {
         plant(error);
         let found = cases.iter().position(|(case, due)| !is_right(case, due));
         assert!(found.is_some(), "{error:?}");

@@ -2,9 +2,9 @@
 
 use second::{Outcome, REPORT_BYTES, SITES, order, order_lines, pair_lines, plan, whole};
 use sheets::cases::{self, Due};
-use sheets::tried::{ACCEPTED, LARGEST_SUMS, largest_sums, refused, star};
+use sheets::tried::{ACCEPTED, largest_sums, largest_sums_printed, refused, star};
 use sheets::whole::TRIED;
-use sheets::{Layout, Network, Random, marks, reserve};
+use sheets::{Edition, Layout, Network, Random, marks, reserve};
 
 type Planner = fn(&[u8], &mut [u8]) -> Outcome;
 
@@ -167,23 +167,27 @@ fn lines_of_an_order() {
 
 #[test]
 fn most_sites() {
-    // Sizes 2 to 256: no link is larger than all others together, so nothing is trimmed.
-    let total: u32 = (2..=256).sum();
-    let heading = format!("plan\t{total}\t");
-    assert!(report(plan, &star(256)).starts_with(heading.as_bytes()));
-    // The sizes sum to an odd number: one half cannot be used by whole circuits.
-    let heading = format!("whole\t{}\t", total - 1);
-    assert!(report(whole, &star(256)).starts_with(heading.as_bytes()));
+    for edition in Edition::ALL {
+        // Sizes from 2 up: no link is larger than all others together, so nothing is trimmed.
+        let total: usize = (2..=edition.sites()).sum();
+        let heading = format!("plan\t{total}\t");
+        assert!(report(plan, &star(edition)).starts_with(heading.as_bytes()));
+        // The sizes sum to an odd number: one half cannot be used by whole circuits.
+        let heading = format!("whole\t{}\t", total - 1);
+        assert!(report(whole, &star(edition)).starts_with(heading.as_bytes()));
+    }
 }
 
 #[test]
 fn largest_numbers() {
-    let [start, set, end] = LARGEST_SUMS;
-    let halves = report(plan, &largest_sums());
-    assert!(halves.starts_with(start) && halves.ends_with(end));
-    assert!(halves.windows(set.len()).any(|part| part == set));
-    let circuits = report(whole, &largest_sums());
-    assert!(circuits.starts_with(b"whole\t510000000\t255\n") && circuits.ends_with(end));
+    for edition in Edition::ALL {
+        let [start, set, end] = largest_sums_printed(edition);
+        for (planner, word) in [(plan as Planner, &b"plan"[..]), (whole, b"whole")] {
+            let report = report(planner, &largest_sums(edition));
+            assert!(report.starts_with(&[word, start].concat()) && report.ends_with(end));
+            assert!(report.windows(set.len()).any(|part| part == set));
+        }
+    }
 }
 
 #[test]
@@ -208,21 +212,29 @@ fn is_due(sheet: &[u8], due: &Due) -> Result<(), String> {
     Ok(())
 }
 
+/// The same under the headings of both editions.
+fn is_due_of_both(sheet: &[u8], due: &Due) -> Result<(), String> {
+    for edition in Edition::ALL {
+        is_due(&edition.head(sheet).expect("it has a heading"), due)?;
+    }
+    Ok(())
+}
+
 #[test]
 fn every_small_sheet_in_either_case() {
-    let count = cases::every_sheet(is_due);
+    let count = cases::every_sheet(is_due_of_both);
     assert_eq!(count, Ok(8_usize.pow(4) + 12_usize.pow(4) + 37 * 81));
 }
 
 #[test]
 fn every_small_sheet_with_reserves() {
-    let count = reserve::every_sheet(is_due);
+    let count = reserve::every_sheet(is_due_of_both);
     assert_eq!(count, Ok(24 * 25 * 25 * 2 + 24 * 24 * 3));
 }
 
 #[test]
 fn every_small_sheet_with_marks() {
-    let count = marks::every_sheet(is_due);
+    let count = marks::every_sheet(is_due_of_both);
     assert_eq!(count, Ok(2 * 14 * 22 * 6));
 }
 

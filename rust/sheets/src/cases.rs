@@ -2,7 +2,7 @@
 //! of the card.
 
 use crate::tried::tabbed;
-use crate::{HEADING, Random};
+use crate::{Edition, Random};
 
 /// One of the spellings of a name, in which each letter is small or capital.
 pub fn in_either_case(name: &[u8], random: &mut Random) -> Vec<u8> {
@@ -108,7 +108,7 @@ fn sheet(sites: [&str; 2], link: [&str; 2]) -> Vec<u8> {
     let [first, second] = sites;
     let [from, to] = link;
     let lines = format!("\nN {first}\nN {second}\nL {from} {to} 1\n");
-    [HEADING, &tabbed(&lines)].concat()
+    [Edition::One.heading(), &tabbed(&lines)].concat()
 }
 
 /// What is due of it. Two names are the same if they agree when a-z is read as A-Z.

@@ -4,6 +4,8 @@
 #![forbid(unsafe_code)]
 
 pub mod cases;
+mod edition;
+pub mod headings;
 pub mod ledger;
 pub mod logs;
 pub mod marks;
@@ -15,17 +17,14 @@ mod tree;
 pub mod tried;
 pub mod whole;
 
+pub use edition::Edition;
 pub use random::Random;
 pub use tree::{
     Layout, Names, Network, SHAPES, SIZES, Shape, Sizes, Spelling, join_lines, prufer_links,
     some_reserve,
 };
 
-/// The largest sheet that is read, in bytes.
-pub const SHEET_BYTES: usize = 16_384;
-/// The most sites a sheet may have.
-pub const SITES: usize = 256;
+/// The most sites a sheet may have: one of edition 2.
+pub const SITES: usize = Edition::Two.sites();
 /// The largest size of a link, and the largest reserve, in circuits.
 pub const SIZE: u32 = 1_000_000;
-/// The first line of every sheet.
-pub const HEADING: &[u8] = b"network\t1";

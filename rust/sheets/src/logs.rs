@@ -5,7 +5,9 @@
 
 use crate::cases::in_either_case;
 use crate::ledger::{AMOUNT, LOG_BYTES, LOG_LINES, Ledger, OPEN_PAIRS, lines};
-use crate::{Layout, Names, Network, Random, SHAPES, SIZES, Shape, Sizes, Spelling};
+use crate::{
+    Edition, Layout, Names, Network, Random, SHAPES, SITES, SIZES, Shape, Sizes, Spelling,
+};
 use std::rc::Rc;
 
 /// A sheet that is accepted, the tree it tells, and a log.
@@ -19,19 +21,23 @@ pub struct Case {
     pub log: Vec<u8>,
 }
 
-/// The case with an index among those of a seed, and what else is to be drawn for it.
+/// The case with an index among those of a seed, and what else is to be drawn for it. A quarter of the
+/// sheets at least are of edition 2.
 #[must_use]
 pub fn case(seed: u64, index: u64) -> (Case, Random) {
     let start = Random::new(seed).bits() ^ index.wrapping_mul(0x9e6c_63d0_876a_3f6b);
     let mut random = Random::new(start);
     let random = &mut random;
-    let case = match random.below(256) {
+    let mut case = match random.below(256) {
         0 => full_log(random),
         1..=3 => near_the_limits(random),
         4..=23 => crowd(random),
         24..=63 => lines_of_pieces(random),
         _ => traffic(random),
     };
+    if random.once_in(4) {
+        case.head(Edition::Two);
+    }
     (case, random.clone())
 }
 
@@ -43,6 +49,12 @@ impl Case {
             sheet,
             log,
         }
+    }
+
+    /// Puts the heading of an edition above the sheet.
+    fn head(&mut self, edition: Edition) {
+        self.network.edition = edition;
+        self.sheet = edition.head(&self.sheet).expect("it has a heading");
     }
 }
 
@@ -342,7 +354,7 @@ fn parts(network: &Network, ledger: &Ledger) -> Vec<Rc<[usize]>> {
 
 /// A tree of any shape, often a small one.
 fn tree(random: &mut Random) -> Network {
-    let most = *random.pick(&[2, 4, 7, 7, 7, 7, 10, 10, 16, 16, 24, 48, 96, 256]);
+    let most = *random.pick(&[2, 4, 7, 7, 7, 7, 10, 10, 16, 16, 24, 48, 96, 256, SITES]);
     Network::any(most, random)
 }
 
@@ -404,10 +416,10 @@ fn lines_of_pieces(random: &mut Random) -> Case {
 fn crowd(random: &mut Random) -> Case {
     let shape = *random.pick(&[Shape::Star, Shape::Star, Shape::Broom, Shape::Attached]);
     let ends = random.between(33, 70);
-    let sites = if shape == Shape::Star {
-        ends + 1
-    } else {
-        2 * ends + 8
+    let sites = match shape {
+        _ if random.once_in(8) => random.between(SITES - 40, SITES),
+        Shape::Star => ends + 1,
+        _ => 2 * ends + 8,
     };
     let sizes = *random.pick(&[Sizes::Alike, Sizes::Wide, Sizes::Large]);
     let names = *random.pick(&[Names::Counted, Names::Any]);
@@ -428,8 +440,9 @@ fn crowd(random: &mut Random) -> Case {
     }
     let mut writer = Writer::new(&network, random);
     let mut pairs = all_pairs(&writer.ends);
-    pairs.retain(|&pair| writer.ledger.is_free(pair) || writer.random.once_in(16));
     writer.random.shuffle(&mut pairs);
+    pairs.truncate(4 * OPEN_PAIRS);
+    pairs.retain(|&pair| writer.ledger.is_free(pair) || writer.random.once_in(16));
     let most = OPEN_PAIRS - *writer.random.pick(&[0, 0, 0, 1, 2]);
     let mut next = 0;
     while next < pairs.len() && writer.ledger.open_pairs().len() < most {
@@ -531,7 +544,7 @@ pub fn crowded_log(shape: Shape, sites: usize, count: usize, random: &mut Random
 fn full_log(random: &mut Random) -> Case {
     let shape = *random.pick(&SHAPES);
     let sizes = *random.pick(&SIZES);
-    let sites = random.between(2, 256);
+    let sites = random.between(2, SITES);
     let mut case = log_of(shape, sites, sizes, LOG_LINES, random);
     match random.below(5) {
         0 => case.log.push(b'\n'),
@@ -644,9 +657,10 @@ fn every_log<Failure>(
 }
 
 /// Two ends alone; stars; and paths of links of several sizes; and with marked sites inside a path and a
-/// star, named with a `*` behind.
+/// star, named with a `*` behind. Those with an odd number of sites are of edition 2.
 fn small_trees() -> Vec<Network> {
     let tree = |names: &[&str], links: &[([usize; 2], u32)]| Network {
+        edition: Edition::ALL[names.len() % 2],
         names: names
             .iter()
             .map(|name| name.trim_end_matches('*').as_bytes().to_vec())

@@ -1,8 +1,9 @@
 //! Random trees, and their sheets.
 
 use crate::cases::in_either_case;
-use crate::{HEADING, Random, SIZE};
+use crate::{Edition, Random, SIZE};
 use std::collections::HashSet;
+use std::ops::RangeInclusive;
 
 /// The shape of a tree.
 #[derive(Clone, Copy, Debug, PartialEq, Eq)]
@@ -268,6 +269,8 @@ impl Layout {
 /// A tree with names, marks, sizes and reserves.
 #[derive(Clone, Debug)]
 pub struct Network {
+    /// The edition of its sheets.
+    pub edition: Edition,
     /// The names of the sites, in the order of their lines.
     pub names: Vec<Vec<u8>>,
     /// Whether the line of each site marks it.
@@ -284,7 +287,7 @@ pub struct Network {
 
 impl Network {
     /// A random tree of the given kind with `count` sites, its sites and links in random order, without
-    /// marks and reserves.
+    /// marks and reserves; of edition 2 if it has too many sites for edition 1.
     pub fn random(
         shape: Shape,
         count: usize,
@@ -305,6 +308,7 @@ impl Network {
             .collect();
         random.shuffle(&mut links);
         Network {
+            edition: Edition::with_sites(count),
             names: names.list(count, random),
             marks: vec![false; count],
             sizes: links.iter().map(|_| sizes.draw(random)).collect(),
@@ -317,10 +321,15 @@ impl Network {
     /// A random tree of any kind with at most `most` sites; every second one spells all names in
     /// either case, every second one has reserves, and every second one has marks.
     pub fn any(most: usize, random: &mut Random) -> Self {
+        Self::any_of(2..=most, random)
+    }
+
+    /// The same with a number of sites out of a range.
+    pub fn any_of(counts: RangeInclusive<usize>, random: &mut Random) -> Self {
         let shape = *random.pick(&SHAPES);
         let sizes = *random.pick(&SIZES);
         let names = Names::any(random);
-        let count = random.between(2, most);
+        let count = random.between(*counts.start(), *counts.end());
         let mut network = Self::random(shape, count, sizes, names, random);
         if random.once_in(2) {
             network.spelling = Spelling::EitherCase;
@@ -366,7 +375,7 @@ impl Network {
     }
 
     /// Gives some links a reserve: out of their sizes, or on top of them.
-    fn hold_back(&mut self, random: &mut Random) {
+    pub fn hold_back(&mut self, random: &mut Random) {
         let times = *random.pick(&[1, 2, 2, 5]);
         let on_top = random.once_in(2);
         for (size, reserve) in self.sizes.iter_mut().zip(&mut self.reserves) {
@@ -431,7 +440,7 @@ impl Network {
             };
             after[site].push(link);
         }
-        let mut lines = vec![HEADING.to_vec()];
+        let mut lines = vec![self.edition.heading().to_vec()];
         for (site, links) in after.iter().enumerate() {
             lines.push(self.site_line(site));
             lines.extend(links.iter().map(|&link| self.link_line(link, random)));

@@ -2,7 +2,7 @@
 //!
 //! Texts are written here with a space where a tab stands in them, and `~` where a space does.
 
-use crate::{SHEET_BYTES, SITES};
+use crate::Edition;
 
 /// An accepted sheet and its report.
 pub struct Accepted {
@@ -43,7 +43,7 @@ pub(crate) fn tabbed(text: &str) -> Vec<u8> {
 }
 
 /// The accepted sheets.
-pub const ACCEPTED: [Accepted; 39] = [
+pub const ACCEPTED: [Accepted; 41] = [
     Accepted {
         title: "star 1, 1, 1",
         sheet: "network 1\nN hub\nN a\nN b\nN c\nL hub a 1\nL hub b 1\nL hub c 1\n",
@@ -799,88 +799,148 @@ P N T 2
 P T L 4
 ",
     },
+    Accepted {
+        title: "star 5, 1, 1 of edition 2",
+        sheet: "network 2\nN hub\nN a\nN b\nN c\nL hub a 5\nL hub b 1\nL hub c 1\n",
+        report: "\
+plan 4 2
+L hub a 5 2
+L hub b 1 1
+L hub c 1 1
+N hub a
+N a a
+N b b
+N c c
+X a 2 2
+X b 1 1
+X c 1 1
+P a b 2
+P a c 2
+",
+    },
+    Accepted {
+        title: "a marked site in many spellings, a link with a reserve, of edition 2",
+        sheet: "network 2\nT Hill\nN mill\nN Dell\nL HILL mill 4 1\nL hill DELL 2\n",
+        report: "\
+plan 10 2
+L Hill mill 3 3
+L Hill Dell 2 2
+N Hill Hill
+N mill mill
+N Dell Dell
+X Hill 5 1
+X mill 3 1
+X Dell 2 1
+P Hill mill 6
+P Hill Dell 4
+",
+    },
 ];
 
-/// A sheet of `sites` sites `s1`, `s2` and so on, each but the first linked to the first.
+/// A sheet of an edition with all sites that it may have, `s1`, `s2` and so on, each but the first linked to
+/// the first.
 #[must_use]
-pub fn star(sites: usize) -> Vec<u8> {
-    let heading = "network 1\n".to_string();
+pub fn star(edition: Edition) -> Vec<u8> {
+    let sites = edition.sites();
     let site_lines = (1..=sites).map(|site| format!("N s{site}\n"));
     let link_lines = (2..=sites).map(|site| format!("L s1 s{site} {site}\n"));
-    let lines = std::iter::once(heading).chain(site_lines).chain(link_lines);
-    tabbed(&lines.collect::<String>())
+    let lines: String = site_lines.chain(link_lines).collect();
+    [edition.heading(), b"\n", &tabbed(&lines)].concat()
 }
 
-/// A sheet with the largest sums that there are: 256 sites, the first of them marked and linked to all others
-/// by links of size 1,000,000.
+/// A sheet with the largest sums of an edition: all sites that it may have, the first of them marked and linked
+/// to all others by links of size 1,000,000.
 #[must_use]
-pub fn largest_sums() -> Vec<u8> {
-    let sites = (2..=SITES).map(|site| format!("N s{site}\nL s1 s{site} 1000000\n"));
-    tabbed(&format!("network 1\nT s1\n{}", sites.collect::<String>()))
+pub fn largest_sums(edition: Edition) -> Vec<u8> {
+    let sites = (2..=edition.sites()).map(|site| format!("N s{site}\nL s1 s{site} 1000000\n"));
+    let lines = format!("\nT s1\n{}", sites.collect::<String>());
+    [edition.heading(), &tabbed(&lines)].concat()
 }
 
-/// The start of its report, the line of its marked site's set, and the end of the report.
-pub const LARGEST_SUMS: [&[u8]; 3] = [
-    b"plan\t510000000\t255\nL\ts1\ts2\t1000000\t1000000\n",
-    b"\nX\ts1\t255000000\t1\n",
-    b"\nP\ts1\ts256\t2000000\n",
-];
+/// What its report has behind its heading's word: the start, the line of its marked site's set, and the end.
+#[must_use]
+pub const fn largest_sums_printed(edition: Edition) -> [&'static [u8]; 3] {
+    match edition {
+        Edition::One => [
+            b"\t510000000\t255\nL\ts1\ts2\t1000000\t1000000\n",
+            b"\nX\ts1\t255000000\t1\n",
+            b"\nP\ts1\ts256\t2000000\n",
+        ],
+        Edition::Two => [
+            b"\t766000000\t383\nL\ts1\ts2\t1000000\t1000000\n",
+            b"\nX\ts1\t383000000\t1\n",
+            b"\nP\ts1\ts384\t2000000\n",
+        ],
+    }
+}
 
-/// Lines behind a sheet of 256 sites. Title, line and number.
+/// Lines behind a sheet with all sites that its edition may have. Title, line and number.
 const LAST_SITES: &[(&str, &str, u8)] = &[
-    ("a 257th site", "N new\n", 4),
-    ("a 257th site with a name already given", "N s1\n", 4),
+    ("a site too many", "N new\n", 4),
+    ("a site too many with a name already given", "N s1\n", 4),
     (
-        "a 257th site with a name already given in the other case",
+        "a site too many with a name already given in the other case",
         "N S1\n",
         4,
     ),
-    ("a 257th site with a bad name", "N a-b\n", 11),
+    ("a site too many with a bad name", "N a-b\n", 11),
     (
-        "a 257th site with a third field and a bad name",
+        "a site too many with a third field and a bad name",
         "N a-b c\n",
         10,
     ),
-    ("a 257th site, marked", "T new\n", 4),
+    ("a site too many, marked", "T new\n", 4),
     (
-        "a 257th site, marked, with a name already given in the other case",
+        "a site too many, marked, with a name already given in the other case",
         "T S1\n",
         4,
     ),
-    ("a 257th site, marked, with a bad name", "T a-b\n", 11),
-    ("a 257th site without byte 10", "N new", 2),
+    ("a site too many, marked, with a bad name", "T a-b\n", 11),
+    ("a site too many without byte 10", "N new", 2),
+];
+
+/// Empty lines behind a first line. Title, first line, length of the sheet, number and line.
+const LENGTHS: &[(&str, &str, usize, u8, u32)] = &[
+    ("16,384 bytes", "", 16_384, 2, 1),
+    ("16,385 bytes", "", 16_385, 1, 0),
+    ("16,384 bytes of edition 1", "network 1", 16_384, 2, 2),
+    ("16,385 bytes of edition 1", "network 1", 16_385, 1, 0),
+    ("16,385 bytes of edition 2", "network 2", 16_385, 2, 2),
+    ("24,576 bytes of edition 2", "network 2", 24_576, 2, 2),
+    ("24,577 bytes of edition 2", "network 2", 24_577, 1, 0),
+    ("24,576 bytes of edition 1", "network 1", 24_576, 1, 0),
+    ("16,384 bytes of an edition 3", "network 3", 16_384, 2, 1),
+    ("16,385 bytes of an edition 3", "network 3", 16_385, 1, 0),
 ];
 
 /// The refused sheets: those of the scope document, and the finer points of its table.
 #[must_use]
 pub fn refused() -> Vec<Refused> {
-    let mut list = vec![
-        Refused {
-            title: "no byte",
-            sheet: Vec::new(),
-            number: 1,
-            line: 0,
-        },
-        Refused {
-            title: "16,385 bytes",
-            sheet: vec![b'\n'; SHEET_BYTES + 1],
-            number: 1,
-            line: 0,
-        },
-        Refused {
-            title: "16,384 bytes",
-            sheet: vec![b'\n'; SHEET_BYTES],
-            number: 2,
-            line: 1,
-        },
-    ];
-    list.extend(LAST_SITES.iter().map(|&(title, line, number)| Refused {
-        title,
-        sheet: [star(SITES), tabbed(line)].concat(),
-        number,
-        line: 513,
-    }));
-    let lists = [REFUSED, FORMS, CASES, RESERVES, MARKS];
+    let mut list = vec![Refused {
+        title: "no byte",
+        sheet: Vec::new(),
+        number: 1,
+        line: 0,
+    }];
+    for &(title, first_line, length, number, line) in LENGTHS {
+        let mut sheet = tabbed(first_line);
+        sheet.resize(length, b'\n');
+        list.push(Refused {
+            title,
+            sheet,
+            number,
+            line,
+        });
+    }
+    for edition in Edition::ALL {
+        list.extend(LAST_SITES.iter().map(|&(title, line, number)| Refused {
+            title,
+            sheet: [star(edition), tabbed(line)].concat(),
+            number,
+            line: 2 * edition.sites() as u32 + 1,
+        }));
+    }
+    let lists = [REFUSED, FORMS, CASES, RESERVES, MARKS, EDITIONS];
     for &(title, sheet, number, line) in lists.into_iter().flatten() {
         list.push(Refused {
             title,
@@ -941,7 +1001,7 @@ const REFUSED: &[(&str, &str, u8, u32)] = &[
     ("heading without byte 10", "network 1", 2, 1),
     ("heading with an empty third field", "network 1 \n", 2, 1),
     ("heading with a third field", "network 1 1\n", 2, 1),
-    ("another edition", "network 2\n", 2, 1),
+    ("another edition", "network 3\n", 2, 1),
     ("edition with a leading zero", "network 01\n", 2, 1),
     ("edition 10", "network 10\n", 2, 1),
     ("heading in capitals", "NETWORK 1\n", 2, 1),
@@ -1483,7 +1543,7 @@ const FORMS: &[(&str, &str, u8, u32)] = &[
         12,
         4,
     ),
-    ("heading decides", "network 2\nN\nN a-b\n", 2, 1),
+    ("heading decides", "network 3\nN\nN a-b\n", 2, 1),
 ];
 
 /// Names in either case: refusals 5, 6 and 7 read a-z as A-Z. Title, sheet, number and line.
@@ -2206,5 +2266,90 @@ const MARKS: &[(&str, &str, u8, u32)] = &[
         "network 1\nT a\nT a\nT a-b\n",
         5,
         3,
+    ),
+];
+
+/// Sheets of edition 2, and with first lines that look much like its heading. Title, sheet, number and line.
+const EDITIONS: &[(&str, &str, u8, u32)] = &[
+    ("heading of edition 2 alone", "network 2\n", 8, 0),
+    ("heading of edition 2 without byte 10", "network 2", 2, 1),
+    (
+        "heading of edition 2 with an empty third field",
+        "network 2 \nN a\nN b\nL a b 1\n",
+        2,
+        1,
+    ),
+    (
+        "heading of edition 2 with a third field",
+        "network 2 1\nN a\nN b\nL a b 1\n",
+        2,
+        1,
+    ),
+    (
+        "heading of edition 2 in capitals",
+        "Network 2\nN a\nN b\nL a b 1\n",
+        2,
+        1,
+    ),
+    (
+        "edition 2 with a leading zero",
+        "network 02\nN a\nN b\nL a b 1\n",
+        2,
+        1,
+    ),
+    ("edition 22", "network 22\nN a\nN b\nL a b 1\n", 2, 1),
+    ("edition 3", "network 3\nN a\nN b\nL a b 1\n", 2, 1),
+    ("edition 0", "network 0\nN a\nN b\nL a b 1\n", 2, 1),
+    (
+        "second heading, of edition 2",
+        "network 1\nnetwork 2\nN a\nN b\nL a b 1\n",
+        2,
+        2,
+    ),
+    (
+        "second heading, of edition 1, in edition 2",
+        "network 2\nnetwork 1\nN a\nN b\nL a b 1\n",
+        2,
+        2,
+    ),
+    (
+        "heading of edition 2 at the end",
+        "network 2\nN a\nN b\nL a b 1\nnetwork 2\n",
+        2,
+        5,
+    ),
+    ("edition 2, one site", "network 2\nN a\n", 8, 0),
+    ("edition 2, letter alone", "network 2\nN\nN a-b\n", 10, 2),
+    ("edition 2, bad name", "network 2\nT a-b\nN\n", 11, 2),
+    (
+        "edition 2, size 07",
+        "network 2\nN a\nN b\nL a b 07\n",
+        12,
+        4,
+    ),
+    (
+        "edition 2, size 1,000,001",
+        "network 2\nN a\nN b\nL a b 1000001\n",
+        3,
+        4,
+    ),
+    (
+        "edition 2, reserve above the size",
+        "network 2\nN a\nN b\nL a b 1 2\n",
+        13,
+        4,
+    ),
+    (
+        "edition 2, name given twice in either case",
+        "network 2\nN a\nT A\n",
+        5,
+        3,
+    ),
+    ("edition 2, unknown name", "network 2\nN a\nL a b 1\n", 6, 3),
+    (
+        "edition 2, link given twice",
+        "network 2\nN a\nN b\nL a b 1\nL b a 1\n",
+        7,
+        5,
     ),
 ];

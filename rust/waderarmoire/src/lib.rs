@@ -81,6 +81,16 @@
 //! # Ok::<(), waderarmoire::ReplayRefusal>(())
 //! ```
 //!
+//! The heading of a sheet tells its edition, and that its limits: under `network`, tab, `1` it may have 256
+//! sites and 16,384 bytes, under `network`, tab, `2` 384 sites and 24,576 bytes. Nothing else differs:
+//!
+//! ```
+//! let sheet = b"network\t2\nN\ta\nN\tb\nL\ta\tb\t4\n";
+//! let mut buffer = [0; waderarmoire::REPORT_BYTES];
+//! assert!(waderarmoire::plan(sheet, &mut buffer)?.starts_with(b"plan\t8\t1\n"));
+//! # Ok::<(), waderarmoire::Refusal>(())
+//! ```
+//!
 //! A sheet with a fault is refused with the number of its cause and its line, and says in the
 //! words of the program what is wrong:
 //!
@@ -98,10 +108,9 @@
 //! owes nothing more; what the library below asks, pointers that are not null and areas that do not
 //! overlap, slices have.
 //!
-//! A plan or an order needs at most 116 KiB of stack, whatever the shape of the tree: nothing
-//! recurses (measured, with what a new thread itself needs). A thread of [`STACK_BYTES`] has enough
-//! for every sheet, and for a replay, which is tried with that much alone; threads of the standard
-//! library have 2 MiB unless they are made with less.
+//! A plan, an order or a replay needs less than 192 KiB of stack, whatever the shape of the tree: nothing
+//! recurses. A thread of [`STACK_BYTES`] has enough for every sheet and log, which is tried on the largest
+//! trees; threads of the standard library have 2 MiB unless they are made with less.
 //!
 //! # Building
 //!
@@ -116,17 +125,18 @@ pub use replay::{LOG_BYTES, LOG_LINES, ReplayRefusal, replay};
 use std::error::Error;
 use std::fmt;
 
-/// The largest sheet that is read, in bytes.
-pub const SHEET_BYTES: usize = 16_384;
+/// The largest sheet that is read, in bytes: one of edition 2. Of edition 1 it has 16,384.
+pub const SHEET_BYTES: usize = 24_576;
 
 /// A report buffer of this length is enough for every accepted sheet.
 pub const REPORT_BYTES: usize = 65_536;
 
-/// A list of this length is enough for the order of every accepted sheet.
-pub const SITES: usize = 256;
+/// A list of this length is enough for the order of every accepted sheet: one of edition 2 has so many
+/// sites at most. Of edition 1 it has 256.
+pub const SITES: usize = 384;
 
 /// A thread with a stack of this many bytes can plan every sheet.
-pub const STACK_BYTES: usize = 131_072;
+pub const STACK_BYTES: usize = 196_608;
 
 /// A function of the library: the sheet and what is lent for the answer, each with its length.
 type Function<Place> = unsafe extern "C" fn(*const u8, usize, *mut Place, usize) -> u64;
@@ -159,10 +169,10 @@ unsafe extern "C" {
 pub struct Refusal {
     /// The number of the cause:
     ///
-    /// 1. no bytes, or more than 16,384
+    /// 1. no bytes, or more than 16,384 (edition 2: 24,576)
     /// 2. wrong heading, letter or line ending
     /// 3. size or reserve above 1,000,000
-    /// 4. more sites than 256
+    /// 4. more sites than 256 (edition 2: 384)
     /// 5. name already given to a site
     /// 6. link to a name not given on a line above
     /// 7. link whose sites are already joined by links above, or are one site
@@ -173,7 +183,8 @@ pub struct Refusal {
     /// 12. a number is not written in decimal without a leading zero
     /// 13. reserve above the size
     ///
-    /// Names are read in either case for 5, 6 and 7. The lowest line with a fault decides; within a
+    /// A sheet whose line 1 is no heading is measured by edition 1. Names are read in either case for 5, 6 and
+    /// 7. The lowest line with a fault decides; within a
     /// line the order is 2, 10, 11, 12, then 4, 5 for a site and 3, 13, 6, 7 for a link.
     pub number: u8,
     /// The line at fault, counted from 1, or 0 when no line is.
@@ -185,10 +196,10 @@ impl Refusal {
     #[must_use]
     pub fn cause(&self) -> &'static str {
         match self.number {
-            1 => "no bytes, or more than 16,384",
+            1 => "no bytes, or more than 16,384 (edition 2: 24,576)",
             2 => "wrong heading, letter or line ending",
             3 => "size or reserve above 1,000,000",
-            4 => "more sites than 256",
+            4 => "more sites than 256 (edition 2: 384)",
             5 => "name already given to a site",
             6 => "link to a name not given on a line above",
             7 => "link whose sites are already joined by links above, or are one site",

@@ -1,7 +1,8 @@
 //! The proved library on the sheets to try of the scope document and the cards, against answers
 //! written out by hand.
 
-use sheets::tried::{ACCEPTED, LARGEST_SUMS, largest_sums, refused};
+use sheets::Edition;
+use sheets::tried::{ACCEPTED, largest_sums, largest_sums_printed, refused, star};
 use sheets::whole::TRIED;
 use waderarmoire::{REPORT_BYTES, Refusal, SITES, order, plan, whole};
 
@@ -26,10 +27,25 @@ fn reports() {
 
 #[test]
 fn largest_numbers() {
-    let report = report(plan, &largest_sums());
-    let [start, set, end] = LARGEST_SUMS;
-    assert!(report.starts_with(start) && report.ends_with(end));
-    assert!(report.windows(set.len()).any(|part| part == set));
+    for edition in Edition::ALL {
+        let report = report(plan, &largest_sums(edition));
+        let [start, set, end] = largest_sums_printed(edition);
+        assert!(report.starts_with(&[b"plan", start].concat()) && report.ends_with(end));
+        assert!(report.windows(set.len()).any(|part| part == set));
+    }
+}
+
+#[test]
+fn most_sites() {
+    for edition in Edition::ALL {
+        // Sizes from 2 up: no link is larger than all others together, so nothing is trimmed.
+        let total: usize = (2..=edition.sites()).sum();
+        let heading = format!("plan\t{total}\t");
+        assert!(report(plan, &star(edition)).starts_with(heading.as_bytes()));
+        let mut list = [0; SITES];
+        let sites = order(&star(edition), &mut list).expect("a tree").len();
+        assert_eq!(sites, edition.sites());
+    }
 }
 
 #[test]

@@ -1,6 +1,6 @@
 //! The proved library in threads: with little stack, and many at once.
 
-use sheets::{Layout, Names, Network, Random, SHAPES, SITES, SIZE, Shape, Spelling};
+use sheets::{Edition, Layout, Names, Network, Random, SHAPES, SITES, SIZE, Shape, Spelling};
 use std::env;
 use std::thread::{self, Builder};
 use waderarmoire::{REPORT_BYTES, STACK_BYTES, order, plan, whole};
@@ -19,6 +19,7 @@ fn sheet(shape: Shape, count: usize, seed: u64, turned: bool) -> Vec<u8> {
     let sizes: Vec<u32> = (1..count).map(size).collect();
     let reserve = |(link, size): (usize, &u32)| (link % 2 == 1).then_some(size / 3);
     let network = Network {
+        edition: Edition::with_sites(count),
         names: Names::Counted.list(count, &mut random),
         marks: (0..count).map(|site| turned && site % 3 == 1).collect(),
         links,

@@ -1,8 +1,9 @@
 //! The words of the refusals are those of the proved program: its table of causes is read from
-//! the definitions of the crate `report_words`.
+//! the definitions of the crate `report_words`. The limits in it stand there by name; they are those of the
+//! editions.
 
-use sheets::{SITES, SIZE};
-use waderarmoire::{Refusal, SHEET_BYTES};
+use sheets::{Edition, SIZE};
+use waderarmoire::Refusal;
 
 const TABLE: &str = include_str!("../../../crates/report_words/specs/Words.antt");
 
@@ -14,7 +15,13 @@ fn grouped(number: usize) -> String {
     }
 }
 
-/// What the table has for a number: a text, and a limit behind some.
+/// A limit of edition 1, and that of edition 2.
+fn of_both(limit: fn(Edition) -> usize) -> String {
+    let [first, second] = Edition::ALL.map(|edition| grouped(limit(edition)));
+    format!("{first} (edition 2: {second})")
+}
+
+/// What the table has for a number: a text, and limits behind some.
 fn told(number: u8) -> String {
     let start = format!("pick n {number} (bytes \"");
     let (_, rest) = TABLE
@@ -22,13 +29,13 @@ fn told(number: u8) -> String {
         .expect("the number is in the table");
     let (line, _) = rest.split_once('\n').expect("the table has lines");
     let (text, behind) = line.split_once('"').expect("the text ends");
-    let limit = match behind.trim_start_matches(" ++ ").trim_end_matches(')') {
-        "grouped BYTES" => grouped(SHEET_BYTES),
-        "grouped SIZE" => grouped(SIZE as usize),
-        "grouped SITES" => grouped(SITES),
-        _ => String::new(),
+    let limits = match number {
+        _ if !behind.starts_with(" ++ ") => String::new(),
+        1 => of_both(Edition::bytes),
+        4 => of_both(Edition::sites),
+        _ => grouped(SIZE as usize),
     };
-    text.to_string() + &limit
+    text.to_string() + &limits
 }
 
 #[test]
