@@ -11,9 +11,9 @@
  * or list of its own. It reads the sheet and writes the buffer or list within their lengths and
  * touches no other memory of the caller's. Every call ends, whatever the sheet holds.
  *
- * A plan, an order or a replay needs less than 192 KiB of stack, whatever the shape of the tree:
- * nothing recurses. A thread of WADERARMOIRE_STACK_BYTES has enough for every sheet and log, which
- * is tried on the largest trees.
+ * A plan or an order needs at most 176 KiB of stack, whatever the shape of the tree, and a replay at
+ * most 128 KiB: nothing recurses (measured on the largest trees, with what a new thread itself
+ * needs). A thread of WADERARMOIRE_STACK_BYTES has enough for every sheet and log.
  *
  * The heading of a sheet tells its edition, and that its limits: under "network", tab, "1" it may
  * have 256 sites and 16,384 bytes, under "network", tab, "2" 384 sites and 24,576 bytes.

@@ -278,11 +278,10 @@ impl<'sheet> Network<'sheet> {
 
     /// Whether each site is an end: has just one link, or is marked.
     pub fn ends(&self) -> [bool; PLACES] {
-        let mut is_end = self.folds.map(|fold| fold.degree == 1);
-        if self.has_marks {
-            for (is_end, is_marked) in is_end.iter_mut().zip(self.is_marked) {
-                *is_end |= is_marked;
-            }
+        let mut is_end = [false; PLACES];
+        let sites = self.folds[..self.site_count].iter().zip(&self.is_marked);
+        for (is_end, (fold, &is_marked)) in is_end.iter_mut().zip(sites) {
+            *is_end = fold.degree == 1 || is_marked;
         }
         is_end
     }

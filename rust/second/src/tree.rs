@@ -45,13 +45,16 @@ impl RootedTree {
             site_count,
             leaves_first: [0; PLACES],
             parent: [root; PLACES],
-            degree: folds.map(|fold| fold.degree),
+            degree: [0; PLACES],
             is_end,
             is_one_part: !is_end[usize::from(root)] && !has_inner_end,
             capacity: [0; PLACES],
             first_child: [0; PLACES],
             next_sibling: [0; PLACES],
         };
+        for (degree, fold) in tree.degree.iter_mut().zip(&folds[..site_count]) {
+            *degree = fold.degree;
+        }
         let mut taken = 0;
         for first in 0..site_count {
             let mut site = first as Site;

@@ -108,9 +108,9 @@
 //! owes nothing more; what the library below asks, pointers that are not null and areas that do not
 //! overlap, slices have.
 //!
-//! A plan, an order or a replay needs less than 192 KiB of stack, whatever the shape of the tree: nothing
-//! recurses. A thread of [`STACK_BYTES`] has enough for every sheet and log, which is tried on the largest
-//! trees; threads of the standard library have 2 MiB unless they are made with less.
+//! A plan or an order needs at most 176 KiB of stack, whatever the shape of the tree, and a replay at most
+//! 128 KiB: nothing recurses (measured on the largest trees, with what a new thread itself needs). A
+//! thread of [`STACK_BYTES`] has enough for every sheet and log.
 //!
 //! # Building
 //!

@@ -5,6 +5,7 @@ use sheets::ledger::{due, is_too_long};
 use sheets::logs::{case, long_log};
 use sheets::tried::refused;
 use sheets::{Random, SHAPES, SITES};
+use std::env;
 use std::thread::Builder;
 use waderarmoire::{LOG_LINES, ReplayRefusal, STACK_BYTES, replay};
 
@@ -70,14 +71,17 @@ fn random_logs() {
     }
 }
 
-/// The longest logs over the largest trees of every shape, in threads with little stack.
+/// The longest logs over the largest trees of every shape, in threads with little stack. The variable
+/// `STACK` sets another number of bytes: the least with which this test passes is what a replay needs.
 #[test]
 fn little_stack() {
+    let given = env::var("STACK").map(|text| text.parse().expect("a number of bytes"));
+    let stack = given.unwrap_or(STACK_BYTES);
     for shape in SHAPES {
         let case = long_log(shape, SITES, &mut Random::new(1));
         let due = due(&case.network, &case.log);
         let thread = Builder::new()
-            .stack_size(STACK_BYTES)
+            .stack_size(stack)
             .spawn(move || replayed(&case.sheet, &case.log, LOG_LINES));
         assert_eq!(thread.unwrap().join().unwrap(), Ok(due));
     }
