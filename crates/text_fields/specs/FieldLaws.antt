@@ -1,10 +1,10 @@
--- Laws of fields, by induction over the bytes: strings are the same just if they are equal; the bytes of a string are tested one by one;
+-- Laws of fields, by induction over the bytes: strings are the same just if they are equal; the elements of a list are tested one by one;
 -- and the fields of a line are the bytes up to its first tab and the fields of what follows.
-use mathlib.Core.Bool.{Bool, true, false, cond, _&&_, _||_, and-true, and-eq-true-iff}
+use mathlib.Core.Bool.{Bool, true, false, cond, _&&_, _||_, and-true, and-eq-true-iff, true≢false}
 use mathlib.Core.List.{List, [], _∷_}
 use mathlib.Core.Logic.{_⊎_, inl, inr, ⊎-elim, _≢_}
 use mathlib.Core.Path.{_≡_, refl, ap, _∙_}
-use Prim.Native.Nat.{ℕ, suc, _+_, _≤_, _<_}
+use Prim.Native.Nat.{ℕ, zero, suc, _+_, _≤_, _<_}
 use native.Mathlib.Numerals.{add-one}
 use native.Mathlib.Omega.{arith}
 use lib.Dec.{eqb, leb, ltb, eqb·suc-suc}
@@ -63,6 +63,26 @@ same-one (x ∷ y ∷ a) b e = absurd (omega arith)
 pub all-step : (p : ℕ → Bool) (a : List ℕ) (i : ℕ) → i < length a → all p (drop i a) ≡ (p (getD a i 0) && all p (drop (i + 1) a))
 unfolding all
 all-step p a i h = rw (drop-cons a i 0 h, add-one)
+
+-- where every element passes, each one does
+pub each-passes : {A : Type 0} (p : A → Bool) (l : List A) (d : A) → all p l ≡ true → (k : ℕ) → k < length l → p (getD l k d) ≡ true
+unfolding all
+each-passes p [] d e k h = absurd (omega arith)
+each-passes p (x ∷ l) d e zero h = both (p x) (all p l) e .0
+each-passes p (x ∷ l) d e (suc k) h = each-passes p l d (both (p x) (all p l) e .1) k (omega arith)
+
+-- and where not, some one fails
+abbrev pub SomeFails : {A : Type 0} → (A → Bool) → List A → A → Type 0
+SomeFails p l d = (k : ℕ) × (k < length l) × (p (getD l k d) ≡ false)
+
+pub some-one-fails : {A : Type 0} (p : A → Bool) (l : List A) (d : A) → all p l ≡ false → SomeFails p l d
+unfolding all
+some-one-fails p [] d e = absurd (true≢false e)
+some-one-fails p (x ∷ l) d e = by (p x) refl (some-one-fails p l d) e
+  where
+    by : (t : Bool) → p x ≡ t → (all p l ≡ false → SomeFails p l d) → (t && all p l) ≡ false → SomeFails p (x ∷ l) d
+    by true a later b = let h = later b in (suc (h .0), omega arith, h .2)
+    by false a later b = (0, omega arith, a)
 
 -- ---- names and numbers
 

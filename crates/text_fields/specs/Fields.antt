@@ -1,5 +1,6 @@
 -- The fields of a line, and which of them are names and numbers.
--- Document 01, "The network sheet", and 02, Card 4 (names in either case). Bytes are numbers: 9 tab, 48 .. 57 digits, 65 .. 90 A-Z, 97 .. 122 a-z.
+-- Document 01, "The network sheet", and 02, Card 4 (names in either case), Card 9 (bare numbers). Bytes are numbers: 9 tab, 48 .. 57 digits, 65 .. 90 A-Z,
+-- 97 .. 122 a-z.
 use mathlib.Core.Bool.{Bool, true, false, cond, _&&_, _||_}
 use mathlib.Core.List.{List, [], _∷_, map}
 use mathlib.Core.Path.{_≡_}
@@ -66,14 +67,18 @@ unfoldable pub fieldLength : List ℕ → ℕ
 fieldLength [] = 0
 fieldLength (b ∷ bs) = cond (eqb b 9) 0 (suc (fieldLength bs))
 
--- every byte of a string passes a test
-unfoldable pub all : (ℕ → Bool) → List ℕ → Bool
+-- every element of a list passes a test
+unfoldable pub all : {A : Type 0} → (A → Bool) → List A → Bool
 all p [] = true
-all p (b ∷ bs) = p b && all p bs
+all p (x ∷ xs) = p x && all p xs
 
 -- 0-9
 abbrev pub isDigit : ℕ → Bool
 isDigit b = leb 48 b && leb b 57
+
+-- digits alone: as a name, a bare number (02, Card 9)
+abbrev pub digitsAlone : List ℕ → Bool
+digitsAlone f = all isDigit f
 
 -- A-Z, a-z, 0-9
 abbrev pub isLetterOrDigit : ℕ → Bool

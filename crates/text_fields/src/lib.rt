@@ -5,7 +5,8 @@ ghost use mathlib.Core.Bool.{_&&_};
 ghost use Prim.Native.Nat.{_+_, _≤_, _<_};
 ghost use lib.Dec.{leb};
 ghost use lib.ListN.{length};
-ghost use Rattle.text_fields.specs.Fields.{same, capital, sameName, caseless, word, lastWord, all, isDigit, isLetterOrDigit, isName, isNumber};
+ghost use Rattle.text_fields.specs.Fields.{same, capital, sameName, caseless, word, lastWord};
+ghost use Rattle.text_fields.specs.Fields.{all, isDigit, digitsAlone, isLetterOrDigit, isName, isNumber};
 ghost use Rattle.text_fields.specs.Words.{HalfWord, SameWord};
 
 // A byte as a wider number.
@@ -186,9 +187,9 @@ fn letters_or_digits(s: &[u8]) -> bool
     good
 }
 
-// Whether every byte of a string is one of 0-9.
-fn digits(s: &[u8]) -> bool
-    ensures { λ r. ⌜ r ≡ all isDigit (now (s .entry)) ⌝ }
+// Whether a string is of digits alone (document 02, Card 9).
+pub fn digits_alone(s: &[u8]) -> bool
+    ensures { λ r. ⌜ r ≡ digitsAlone (now (s .entry)) ⌝ }
 {
     let mut i = 0;
     while i < s.len() {
@@ -220,7 +221,7 @@ pub fn is_number(field: &[u8]) -> bool
     if field.len() == 0 {
         return false;
     }
-    if !digits(field) {
+    if !digits_alone(field) {
         return false;
     }
     if field.len() == 1 {

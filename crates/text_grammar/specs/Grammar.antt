@@ -1,18 +1,20 @@
 -- The grammar of a line: its fields as places, and the first rule of a form that they break.
--- Document 01, "The network sheet": a letter, then names, then numbers. Cards add forms, and numbers for the faults.
-use mathlib.Core.Bool.{Bool, true, false, cond, _&&_}
+-- Document 01, "The network sheet": a letter, then names, then numbers. Cards add forms, and numbers for the faults (02, Card 9: no bare numbers as names).
+use mathlib.Core.Bool.{Bool, true, false, cond, not, _&&_}
 use mathlib.Core.List.{List, [], _∷_}
 use mathlib.Core.Logic.{_⊎_}
 use mathlib.Core.Path.{_≡_}
-use Prim.Native.Nat.{ℕ, zero, suc, _+_, _≤_, _<_}
+use Prim.Native.Nat.{ℕ, _+_, _≤_, _<_}
 use lib.Dec.{leb}
-use lib.ListN.{length, drop, replicate}
-use lib.Seq.{sets}
-use Rattle.text_fields.specs.Fields.{same, fields, field, isName, isNumber, value}
+use lib.ListN.{length, replicate}
+use lib.Seq.{sets, slice}
+use Rattle.text_fields.specs.Fields.{same, fields, field, all, digitsAlone, isName, isNumber, value}
 use Rattle.text_grammar.specs.declared.Fields.{Fields}
 use Rattle.text_grammar.specs.declared.Form.{Form}
 use Rattle.text_grammar.specs.declared.Check.{Check}
-use Rattle.text_grammar.specs.declared.Check.the-variants.{Formed, Letter, Count, Name, Number}
+use Rattle.text_grammar.specs.declared.Check.the-variants.{Formed, Letter, Count, Name, Digits, Number}
+use Rattle.text_grammar.specs.declared.Rule.{Rule}
+use Rattle.text_grammar.specs.declared.Rule.the-variants as rule
 use Rattle.text_grammar.specs.declared.Size.{Size}
 use Rattle.text_grammar.specs.declared.Size.the-variants.{Within, Above}
 
@@ -38,30 +40,40 @@ pub record Fits (form : Form) : Type 0 where
   pub least : 1 + form .names + form .least ≤ FIELDS
   pub most : 1 + form .names + form .most ≤ FIELDS
 
--- a name where it has to be one, or else a number
-abbrev pub rightField : Bool → List ℕ → Bool
-rightField name f = cond name (isName f) (isNumber f)
+-- not of digits alone
+abbrev pub isLettered : List ℕ → Bool
+isLettered f = not (digitsAlone f)
 
--- the fields after the letter: n names, then numbers
+-- what a field that keeps a rule is
+abbrev pub keeps : Rule → List ℕ → Bool
+keeps rule.Name = isName
+keeps rule.Lettered = isLettered
+keeps rule.Number = isNumber
+
+-- the fields after the letter: fields 1 to n are names; none of them is of digits alone; the others are numbers
 unfoldable pub checkedFields : ℕ → List (List ℕ) → Check
-checkedFields n [] = Formed
-checkedFields (suc n) (f ∷ fs) = cond (isName f) (checkedFields n fs) Name
-checkedFields zero (f ∷ fs) = cond (isNumber f) (checkedFields zero fs) Number
+checkedFields n fs =
+    cond (all isName (slice 1 (1 + n) fs))
+    (cond (all isLettered (slice 1 (1 + n) fs))
+    (cond (all isNumber (slice (1 + n) (length fs) fs)) Formed Number) Digits) Name
 
--- the first rule that fields break: the first is the letter alone; there are neither too few nor too many; names are names; numbers are numbers
+-- the first rule that fields break: the first is the letter alone; there are neither too few nor too many; names are names; none of them is of digits alone;
+-- numbers are numbers
 unfoldable pub checked : Form → List (List ℕ) → Check
 checked form fs =
     cond (same (field fs 0) (form .letter ∷ []))
     (cond (leb (1 + form .names + form .least) (length fs) && leb (length fs) (1 + form .names + form .most))
-    (checkedFields (form .names) (drop 1 fs))
+    (checkedFields (form .names) fs)
     Count) Letter
 
--- the number of the fault (Card 1: 2 no known letter, 10 wrong number of fields, 11 bad name, 12 badly written number), and 0 for a line that is formed
+-- the number of the fault (Card 1: 2 no known letter, 10 wrong number of fields, 11 bad name, 12 badly written number; Card 9: 17 name of digits only), and 0
+-- for a line that is formed
 unfoldable pub faultOf : Check → ℕ
 faultOf Formed = 0
 faultOf Letter = 2
 faultOf Count = 10
 faultOf Name = 11
+faultOf Digits = 17
 faultOf Number = 12
 
 -- ---- the rules of a form, in their order: what holds of fields that break one of them
@@ -85,10 +97,20 @@ pub record BadName (form : Form) (fs : List (List ℕ)) : Type 0 where
   pub among-the-names : at ≤ form .names
   pub bad : isName (field fs at) ≡ false
 
--- the letter, the number of fields and the names are right, and some number is no number
+-- the letter and the number of fields are right, names are names, and some one of them is of digits alone (02, Card 9)
+pub record BareName (form : Form) (fs : List (List ℕ)) : Type 0 where
+  pub counted : RightCount form fs
+  pub names-are-names : (k : ℕ) → 1 ≤ k → k ≤ form .names → isName (field fs k) ≡ true
+  pub at : ℕ
+  pub after-the-letter : 1 ≤ at
+  pub among-the-names : at ≤ form .names
+  pub bare : digitsAlone (field fs at) ≡ true
+
+-- the letter, the number of fields and the names are right, no name is of digits alone, and some number is no number
 pub record BadNumber (form : Form) (fs : List (List ℕ)) : Type 0 where
   pub counted : RightCount form fs
   pub names-are-names : (k : ℕ) → 1 ≤ k → k ≤ form .names → isName (field fs k) ≡ true
+  pub none-is-bare : (k : ℕ) → 1 ≤ k → k ≤ form .names → digitsAlone (field fs k) ≡ false
   pub at : ℕ
   pub after-the-names : form .names < at
   pub within : at < length fs

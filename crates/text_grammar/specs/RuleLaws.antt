@@ -1,79 +1,40 @@
--- The finding of a line held against a form tells which rule is broken, and a broken rule its finding: by what is found of the fields one by one.
+-- The finding of a line held against a form tells which rule is broken, and a broken rule its finding: rule by rule, in their order.
 use mathlib.Core.Bool.{Bool, true, false, cond, _&&_, false≢true}
 use mathlib.Core.List.{List, [], _∷_}
 use mathlib.Core.Logic.{_⊎_, inl, inr, ⊎-elim, _≢_}
 use mathlib.Core.Path.{_≡_, refl, sym, _∙_}
-use Prim.Native.Nat.{ℕ, zero, suc, _+_, _≤_, _<_}
+use Prim.Native.Nat.{ℕ, _+_, _-_, _≤_, _<_}
 use native.Mathlib.Omega.{arith}
 use lib.Dec.{leb}
-use lib.ListN.{length, drop}
-use borrow.Author.Tests.{leb-true, leb-false}
-use Rattle.text_fields.specs.Fields.{same, field, isName, isNumber}
-use Rattle.text_fields.specs.FieldLaws.{same-are-equal, equal-are-same}
-use Rattle.text_grammar.specs.Grammar.{checkedFields, checked, WrongCount, RightCount, BadName, BadNumber}
+use lib.ListN.{length, take}
+use lib.Seq.{slice, length-slice, getD-take, getD-drop}
+use borrow.Author.Tests.{leb-true, leb-false, not-true, not-false}
+use Rattle.text_fields.specs.Fields.{same, field, all, digitsAlone, isName, isNumber}
+use Rattle.text_fields.specs.FieldLaws.{same-are-equal, equal-are-same, each-passes, some-one-fails}
+use Rattle.text_grammar.specs.Grammar.{isLettered, checkedFields, checked, WrongCount, RightCount, BadName, BareName, BadNumber}
 use Rattle.text_grammar.specs.declared.Form.{Form}
 use Rattle.text_grammar.specs.declared.Check.{Check}
-use Rattle.text_grammar.specs.declared.Check.the-variants.{Formed, Letter, Count, Name, Number}
+use Rattle.text_grammar.specs.declared.Check.the-variants.{Formed, Letter, Count, Name, Digits, Number}
 
--- ---- the fields after the letter
+-- ---- the fields from one number on, before another
 
--- the first n of the fields are names, and the others are numbers
-abbrev Names : ℕ → List (List ℕ) → Type 0
-Names n fs = (k : ℕ) → k < n → k < length fs → isName (field fs k) ≡ true
+module _ (p : List ℕ → Bool) (from to : ℕ) (fs : List (List ℕ)) (within : to ≤ length fs) where
+  field-of-part : (i : ℕ) → i < to - from → field (slice from to fs) i ≡ field fs (from + i)
+  field-of-part i l = getD-drop from (take to fs) i [] ∙ getD-take to fs (from + i) [] (omega arith)
 
-abbrev Numbers : ℕ → List (List ℕ) → Type 0
-Numbers n fs = (k : ℕ) → n ≤ k → k < length fs → isNumber (field fs k) ≡ true
+  -- all pass, and so does each
+  each : all p (slice from to fs) ≡ true → (k : ℕ) → from ≤ k → k < to → p (field fs k) ≡ true
+  each e k l m =
+      let place : from + (k - from) ≡ k = omega arith in
+      let h = each-passes p (slice from to fs) [] e (k - from) (omega (arith, length-slice from to fs within)) in
+      rw (field-of-part (k - from) (omega arith), place) at h
 
--- what a finding tells of them
-abbrev Found : ℕ → List (List ℕ) → Check → Type 0
-Found n fs Formed = Names n fs × Numbers n fs
-Found n fs Letter = ⊥
-Found n fs Count = ⊥
-Found n fs Name = (k : ℕ) × (k < n) × (isName (field fs k) ≡ false)
-Found n fs Number = Names n fs × ((k : ℕ) × (n ≤ k) × (k < length fs) × (isNumber (field fs k) ≡ false))
-
--- one more name, or one more number, in front
-module _ (f : List ℕ) (fs : List (List ℕ)) where
-  name-before : (n : ℕ) → isName f ≡ true → Names n fs → Names (suc n) (f ∷ fs)
-  name-before n e h zero l m = e
-  name-before n e h (suc k) l m = h k (omega arith) (omega arith)
-
-  numbers-after : (n : ℕ) → Numbers n fs → Numbers (suc n) (f ∷ fs)
-  numbers-after n h zero l m = absurd (omega arith)
-  numbers-after n h (suc k) l m = h k (omega arith) (omega arith)
-
-  number-before : isNumber f ≡ true → Numbers 0 fs → Numbers 0 (f ∷ fs)
-  number-before e h zero l m = e
-  number-before e h (suc k) l m = h k (omega arith) (omega arith)
-
-  after-a-name : (n : ℕ) → isName f ≡ true → (c : Check) → Found n fs c → Found (suc n) (f ∷ fs) c
-  after-a-name n e Formed h = (name-before n e (h .0), numbers-after n (h .1))
-  after-a-name n e Letter h = h
-  after-a-name n e Count h = h
-  after-a-name n e Name h = (suc (h .0), omega arith, h .2)
-  after-a-name n e Number h = (name-before n e (h .0), (suc (h .1 .0), omega arith, omega arith, h .1 .3))
-
-  after-a-number : isNumber f ≡ true → (c : Check) → Found 0 fs c → Found 0 (f ∷ fs) c
-  after-a-number e Formed h = (λ k l m. absurd (omega arith), number-before e (h .1))
-  after-a-number e Letter h = h
-  after-a-number e Count h = h
-  after-a-number e Name h = absurd (omega arith)
-  after-a-number e Number h = (λ k l m. absurd (omega arith), (suc (h .1 .0), omega arith, omega arith, h .1 .3))
-
-found : (n : ℕ) (fs : List (List ℕ)) → n ≤ length fs → Found n fs (checkedFields n fs)
-unfolding checkedFields
-found zero [] l = (λ k a b. absurd (omega arith), λ k a b. absurd (omega arith))
-found (suc n) [] l = absurd (omega arith)
-found (suc n) (f ∷ fs) l = by (isName f) refl (checkedFields n fs) (found n fs (omega arith))
-  where
-    by : (t : Bool) → isName f ≡ t → (c : Check) → Found n fs c → Found (suc n) (f ∷ fs) (cond t c Name)
-    by true e c h = after-a-name f fs n e c h
-    by false e c h = (0, omega arith, e)
-found zero (f ∷ fs) l = by (isNumber f) refl (checkedFields 0 fs) (found 0 fs (omega arith))
-  where
-    by : (t : Bool) → isNumber f ≡ t → (c : Check) → Found 0 fs c → Found 0 (f ∷ fs) (cond t c Number)
-    by true e c h = after-a-number f fs e c h
-    by false e c h = (λ k a b. absurd (omega arith), (0, omega arith, omega arith, e))
+  -- or some one fails
+  some : all p (slice from to fs) ≡ false → (k : ℕ) × (from ≤ k) × (k < to) × (p (field fs k) ≡ false)
+  some e =
+      let h = some-one-fails p (slice from to fs) [] e in
+      let l : h .0 < to - from = omega (arith, h .1, length-slice from to fs within) in
+      (from + h .0, omega arith, omega arith, rw (field-of-part (h .0) l) at (h .2))
 
 -- ---- the line
 
@@ -81,6 +42,7 @@ found zero (f ∷ fs) l = by (isNumber f) refl (checkedFields 0 fs) (found 0 fs 
 pub record Kept (form : Form) (fs : List (List ℕ)) : Type 0 where
   pub counted : RightCount form fs
   pub names-are-names : (k : ℕ) → 1 ≤ k → k ≤ form .names → isName (field fs k) ≡ true
+  pub none-is-bare : (k : ℕ) → 1 ≤ k → k ≤ form .names → digitsAlone (field fs k) ≡ false
   pub numbers-are-numbers : (k : ℕ) → form .names < k → k < length fs → isNumber (field fs k) ≡ true
 
 module _ (form : Form) where
@@ -90,34 +52,52 @@ module _ (form : Form) where
   Tells fs Letter = field fs 0 ≢ form .letter ∷ []
   Tells fs Count = WrongCount form fs
   Tells fs Name = BadName form fs
+  Tells fs Digits = BareName form fs
   Tells fs Number = BadNumber form fs
 
-  module _ (f : List ℕ) (fs : List (List ℕ)) (r : RightCount form (f ∷ fs)) where
-    names : Names (form .names) fs → (k : ℕ) → 1 ≤ k → k ≤ form .names → isName (field (f ∷ fs) k) ≡ true
-    names h zero l m = absurd (omega arith)
-    names h (suc k) l m = h k (omega arith) (omega (arith, r .enough))
+  -- the fields after the letter
+  module _ (fs : List (List ℕ)) (r : RightCount form fs) where
+    abbrev end : ℕ
+    end = 1 + form .names
 
-    numbers : Numbers (form .names) fs → (k : ℕ) → form .names < k → k < length (f ∷ fs) → isNumber (field (f ∷ fs) k) ≡ true
-    numbers h zero l m = absurd (omega arith)
-    numbers h (suc k) l m = h k (omega arith) (omega arith)
+    within : end ≤ length fs
+    within = omega (arith, r .enough)
 
-    fields-tell : (c : Check) → Found (form .names) fs c → Tells (f ∷ fs) c
-    fields-tell Formed h = record { counted = r; names-are-names = names (h .0); numbers-are-numbers = numbers (h .1) }
-    fields-tell Letter h = absurd h
-    fields-tell Count h = absurd h
-    fields-tell Name h = record { counted = r; at = suc (h .0); after-the-letter = omega arith; among-the-names = omega arith; bad = h .2 }
-    fields-tell Number h = record {
-      counted = r;
-      names-are-names = names (h .0);
-      at = suc (h .1 .0);
-      after-the-names = omega arith;
-      within = omega arith;
-      bad = h .1 .3;
-    }
+    names : all isName (slice 1 end fs) ≡ true → (k : ℕ) → 1 ≤ k → k ≤ form .names → isName (field fs k) ≡ true
+    names e k l m = each isName 1 end fs within e k l (omega arith)
 
-  counted-tells : (fs : List (List ℕ)) → RightCount form fs → Tells fs (checkedFields (form .names) (drop 1 fs))
-  counted-tells [] r = absurd (omega (arith, r .enough))
-  counted-tells (f ∷ fs) r = fields-tell f fs r (checkedFields (form .names) fs) (found (form .names) fs (omega (arith, r .enough)))
+    lettered : all isLettered (slice 1 end fs) ≡ true → (k : ℕ) → 1 ≤ k → k ≤ form .names → digitsAlone (field fs k) ≡ false
+    lettered e k l m = not-true _ (each isLettered 1 end fs within e k l (omega arith))
+
+    fields-tell : Tells fs (checkedFields (form .names) fs)
+    unfolding checkedFields
+    fields-tell = by (all isName (slice 1 end fs)) refl (all isLettered (slice 1 end fs)) refl (all isNumber (slice end (length fs) fs)) refl
+      where
+        by : (t : Bool) → all isName (slice 1 end fs) ≡ t → (u : Bool) → all isLettered (slice 1 end fs) ≡ u
+            → (v : Bool) → all isNumber (slice end (length fs) fs) ≡ v → Tells fs (cond t (cond u (cond v Formed Number) Digits) Name)
+        by false a u b v c =
+            let h = some isName 1 end fs within a in
+            record { counted = r; at = h .0; after-the-letter = h .1; among-the-names = omega arith; bad = h .3 }
+        by true a false b v c =
+            let h = some isLettered 1 end fs within b in
+            record { counted = r; names-are-names = names a; at = h .0; after-the-letter = h .1; among-the-names = omega arith; bare = not-false _ (h .3) }
+        by true a true b false c =
+            let h = some isNumber end (length fs) fs (omega arith) c in
+            record {
+              counted = r;
+              names-are-names = names a;
+              none-is-bare = lettered b;
+              at = h .0;
+              after-the-names = omega arith;
+              within = h .2;
+              bad = h .3;
+            }
+        by true a true b true c = record {
+          counted = r;
+          names-are-names = names a;
+          none-is-bare = lettered b;
+          numbers-are-numbers = λ k l m. each isNumber end (length fs) fs (omega arith) c k (omega arith) m;
+        }
 
   -- what a line is found to be tells the rule that it breaks
   pub a-finding-tells-its-rule : (fs : List (List ℕ)) → Tells fs (checked form fs)
@@ -128,9 +108,9 @@ module _ (form : Form) where
     where
       by : (t : Bool) → same (field fs 0) (form .letter ∷ []) ≡ t → (u : Bool) → leb (1 + form .names + form .least) (length fs) ≡ u
           → (v : Bool) → leb (length fs) (1 + form .names + form .most) ≡ v
-          → Tells fs (cond t (cond (u && v) (checkedFields (form .names) (drop 1 fs)) Count) Letter)
+          → Tells fs (cond t (cond (u && v) (checkedFields (form .names) fs) Count) Letter)
       by true a true b true c =
-          counted-tells fs (record { letter = same-are-equal _ _ a; enough = leb-true _ _ b; no-more = leb-true _ _ c })
+          fields-tell fs (record { letter = same-are-equal _ _ a; enough = leb-true _ _ b; no-more = leb-true _ _ c })
       by true a true b false c = record { letter = same-are-equal _ _ a; count = inr (leb-false _ _ c) }
       by true a false b v c = record { letter = same-are-equal _ _ a; count = inl (leb-false _ _ b) }
       by false a u b v c = λ e. false≢true (sym a ∙ rw e (equal-are-same (form .letter ∷ [])))
@@ -149,17 +129,36 @@ module _ (form : Form) (fs : List (List ℕ)) where
       by Letter h = absurd (h (w .letter))
       by Count h = refl
       by Name h = absurd (apart w (h .counted))
+      by Digits h = absurd (apart w (h .counted))
       by Number h = absurd (apart w (h .counted))
 
   pub a-bad-name-is-found : BadName form fs → checked form fs ≡ Name
   a-bad-name-is-found w = by (checked form fs) (a-finding-tells-its-rule form fs)
     where
+      no-name : ((k : ℕ) → 1 ≤ k → k ≤ form .names → isName (field fs k) ≡ true) → ⊥
+      no-name names = false≢true (sym (w .bad) ∙ names (w .at) (w .after-the-letter) (w .among-the-names))
+
       by : (c : Check) → Tells form fs c → c ≡ Name
-      by Formed h = absurd (false≢true (sym (w .bad) ∙ h .names-are-names (w .at) (w .after-the-letter) (w .among-the-names)))
+      by Formed h = absurd (no-name (h .names-are-names))
       by Letter h = absurd (h (w .counted .letter))
       by Count h = absurd (apart h (w .counted))
       by Name h = refl
-      by Number h = absurd (false≢true (sym (w .bad) ∙ h .names-are-names (w .at) (w .after-the-letter) (w .among-the-names)))
+      by Digits h = absurd (no-name (h .names-are-names))
+      by Number h = absurd (no-name (h .names-are-names))
+
+  pub a-bare-name-is-found : BareName form fs → checked form fs ≡ Digits
+  a-bare-name-is-found w = by (checked form fs) (a-finding-tells-its-rule form fs)
+    where
+      some-bare : ((k : ℕ) → 1 ≤ k → k ≤ form .names → digitsAlone (field fs k) ≡ false) → ⊥
+      some-bare none = false≢true (sym (none (w .at) (w .after-the-letter) (w .among-the-names)) ∙ w .bare)
+
+      by : (c : Check) → Tells form fs c → c ≡ Digits
+      by Formed h = absurd (some-bare (h .none-is-bare))
+      by Letter h = absurd (h (w .counted .letter))
+      by Count h = absurd (apart h (w .counted))
+      by Name h = absurd (false≢true (sym (h .bad) ∙ w .names-are-names (h .at) (h .after-the-letter) (h .among-the-names)))
+      by Digits h = refl
+      by Number h = absurd (some-bare (h .none-is-bare))
 
   pub a-bad-number-is-found : BadNumber form fs → checked form fs ≡ Number
   a-bad-number-is-found w = by (checked form fs) (a-finding-tells-its-rule form fs)
@@ -169,4 +168,9 @@ module _ (form : Form) (fs : List (List ℕ)) where
       by Letter h = absurd (h (w .counted .letter))
       by Count h = absurd (apart h (w .counted))
       by Name h = absurd (false≢true (sym (h .bad) ∙ w .names-are-names (h .at) (h .after-the-letter) (h .among-the-names)))
+      by Digits h = absurd (false≢true (sym (w .none-is-bare (h .at) (h .after-the-letter) (h .among-the-names)) ∙ h .bare))
       by Number h = refl
+
+  -- a line that is formed keeps every rule
+  pub a-formed-line-keeps-the-rules : checked form fs ≡ Formed → Kept form fs
+  a-formed-line-keeps-the-rules e = rw e at (a-finding-tells-its-rule form fs)

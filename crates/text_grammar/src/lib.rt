@@ -3,9 +3,10 @@
 ghost use mathlib.Core.Path.{_≡_};
 ghost use Prim.Native.Nat.{_+_, _-_, _*_, _≤_, _<_};
 ghost use lib.Dec.{leb};
-ghost use lib.ListN.{length, set, drop};
-ghost use Rattle.text_fields.specs.Fields.{fields, field};
-ghost use Rattle.text_grammar.specs.Grammar.{FIELDS, split, rightField, checkedFields, Fits, checked, faultOf, sizeOf};
+ghost use lib.ListN.{length, set};
+ghost use lib.Seq.{slice};
+ghost use Rattle.text_fields.specs.Fields.{fields, field, all};
+ghost use Rattle.text_grammar.specs.Grammar.{FIELDS, split, keeps, checkedFields, Fits, checked, faultOf, sizeOf};
 
 // The most fields that a form has. specs/Grammar.antt has it by the same name.
 pub const FIELDS: usize = 5;
@@ -31,6 +32,14 @@ pub enum Check {
     Letter,
     Count,
     Name,
+    Digits,
+    Number,
+}
+
+// What some fields of a line have to be: names, not of digits alone, or numbers.
+enum Rule {
+    Name,
+    Lettered,
     Number,
 }
 
@@ -85,30 +94,46 @@ pub fn field(line: &[u8], found: Fields, k: usize) -> &[u8]
     &line[start..end]
 }
 
-// Whether a field is a name, where it has to be one, or else a number.
-fn is_right(field: &[u8], name: bool) -> bool
-    ensures { λ r. ⌜ r ≡ rightField name (now (field .entry)) ⌝ }
+// Whether a field keeps a rule.
+fn keeps(field: &[u8], rule: Rule) -> bool
+    ensures { λ r. ⌜ r ≡ keeps rule (now (field .entry)) ⌝ }
 {
-    if name {
-        return text_fields::is_name(field);
+    match rule {
+        Rule::Name => text_fields::is_name(field),
+        Rule::Lettered => !text_fields::digits_alone(field),
+        Rule::Number => text_fields::is_number(field),
     }
-    text_fields::is_number(field)
 }
 
-// What the fields after the first are found to be: as many names as given, then numbers.
-fn check_fields(line: &[u8], found: Fields, names: usize) -> Check
-    requires { ⌜ (found ≡ split (now line)) × (found .count ≤ FIELDS) × (names ≤ FIELDS) ⌝ }
-    ensures { λ r. ⌜ r ≡ checkedFields names (drop 1 (fields (now (line .entry)))) ⌝ }
+// Whether each field from one number on, before another, keeps a rule.
+fn all_keep(line: &[u8], found: Fields, from: usize, to: usize, rule: Rule) -> bool
+    requires { ⌜ (found ≡ split (now line)) × (to ≤ found .count) × (to ≤ FIELDS) ⌝ }
+    ensures { λ r. ⌜ r ≡ all (keeps rule) (slice from to (fields (now (line .entry)))) ⌝ }
 {
-    let mut k = 1;
-    while k < found.count {
-        if !is_right(field(line, found, k), k <= names) {
-            if k <= names {
-                return Check::Name;
-            }
-            return Check::Number;
+    let mut k = from;
+    while k < to {
+        if !keeps(field(line, found, k), rule) {
+            return false;
         }
         k += 1;
+    }
+    true
+}
+
+// What the fields after the first are found to be: as many names as given, none of digits alone, then numbers.
+fn check_fields(line: &[u8], found: Fields, names: usize) -> Check
+    requires { ⌜ (found ≡ split (now line)) × (found .count ≤ FIELDS) × (names < found .count) ⌝ }
+    ensures { λ r. ⌜ r ≡ checkedFields names (fields (now (line .entry))) ⌝ }
+{
+    let end = 1 + names;
+    if !all_keep(line, found, 1, end, Rule::Name) {
+        return Check::Name;
+    }
+    if !all_keep(line, found, 1, end, Rule::Lettered) {
+        return Check::Digits;
+    }
+    if !all_keep(line, found, end, found.count, Rule::Number) {
+        return Check::Number;
     }
     Check::Formed
 }
@@ -139,6 +164,7 @@ pub fn fault(check: Check) -> u64
         Check::Letter => 2,
         Check::Count => 10,
         Check::Name => 11,
+        Check::Digits => 17,
         Check::Number => 12,
     }
 }

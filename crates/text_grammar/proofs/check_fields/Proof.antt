@@ -1,96 +1,62 @@
--- `check_fields` meets its contract. The invariant: the fields from field k on decide, the names still due being counted down.
-use mathlib.Core.Bool.{cond}
-use mathlib.Core.Path.{_≡_, _∙_}
-use Prim.Native.Nat.{_≤_, _+_, _-_}
-use native.Mathlib.Omega.{arith}
+-- `check_fields` meets its contract: rule by rule.
+use mathlib.Core.Bool.{true}
+use mathlib.Core.Path.{_≡_, sym, _∙_}
+use Prim.Native.Nat.{_+_}
 use borrow.Author.Needs.{needs}
-use borrow.Author.Tests.{not-true, not-false, le-leb, lt-leb}
-use lib.Dec.{leb}
-use lib.ListN.{drop, drop-of-length-le}
-use Rattle.text_fields.specs.Fields.{fields, field}
-use Rattle.text_grammar.specs.Grammar.{rightField, checkedFields}
+use borrow.Author.Tests.{not-true, not-false}
+use lib.ListN.{length}
+use lib.Seq.{slice}
+use Rattle.text_fields.specs.Fields.{fields, all, isName, isNumber}
+use Rattle.text_grammar.specs.Grammar.{isLettered, checkedFields}
 use Rattle.text_grammar.specs.SplitLaws.{count-of-split}
-use Rattle.text_grammar.specs.FormLaws.{fields-step}
-use Rattle.text_grammar.specs.declared.Check.the-variants.{Name, Number}
 use Rattle.text_grammar.proofs.check_fields.Statement.{statement}
 use Rattle.text_grammar.proofs.check_fields.Tie as tie
 
-abbrev Inv-loop : tie.InvT-loop
-Inv-loop line found names k₀ k = (1 ≤ k) × (k ≤ found .count)
-    × (checkedFields names (drop 1 (fields line)) ≡ checkedFields (names + 1 - k) (drop k (fields line)))
+returns : tie.Need-returns
+unfolding checkedFields
+returns c = rw (sym (c .before .all-keep .ensures) ∙ not-true _ (c .if1 .taken))
 
-abbrev μ-loop : tie.MeasureT-loop
-μ-loop line found names k₀ k = found .count - k
+-- names are names
+named : (c : tie.Else1) → let a = c .before .before .before .args in all isName (slice 1 (1 + a .names) (fields (a .line .now))) ≡ true
+named c = sym (c .before .all-keep .ensures) ∙ not-false _ (c .if1 .left)
 
--- what the test says of field k, and that there is one
-tested : (c : tie.After-is-right Inv-loop μ-loop) → let a = c .before .before .before .before .before .before .args in
-    let k = c .before .before .before .before .loop .k in
-    c .is-right .result ≡ rightField (leb k (a .names)) (field (fields (a .line .now)) k)
-tested c = rw (c .before .field .ensures) at (c .is-right .ensures)
+returns-2 : tie.Need-returns-2
+unfolding checkedFields
+returns-2 c = rw (named (c .before .before), sym (c .before .all-keep2 .ensures) ∙ not-true _ (c .if2 .taken))
 
-turn : (c : tie.After-is-right Inv-loop μ-loop) → let a = c .before .before .before .before .before .before .args in
-    let k = c .before .before .before .before .loop .k in
-    checkedFields (a .names) (drop 1 (fields (a .line .now)))
-    ≡ cond (c .is-right .result) (checkedFields (a .names + 1 - (k + 1)) (drop (k + 1) (fields (a .line .now)))) (cond (leb k (a .names)) Name Number)
-turn c =
+-- none of them is of digits alone
+lettered : (c : tie.Else2) → let a = c .before .before .before .before .before .args in
+    all isLettered (slice 1 (1 + a .names) (fields (a .line .now))) ≡ true
+lettered c = sym (c .before .all-keep2 .ensures) ∙ not-false _ (c .if2 .left)
+
+-- what the last test says: the numbers are the fields to the last
+numbers : (c : tie.After-all-keep3) → let a = c .before .before .before .before .before .before .args in let fs = fields (a .line .now) in
+    c .all-keep3 .result ≡ all isNumber (slice (1 + a .names) (length fs) fs)
+numbers c =
     let s = c .before .before .before .before .before .before in
-    let l = c .before .before .before .before .loop in
-    l .inv .2 ∙ fields-step (s .args .names) (l .k) (fields (s .args .line .now))
-    (omega (arith, count-of-split (s .args .line .now) (s .args .found) (s .pre .0))) ∙ rw (tested c)
+    rw (count-of-split (s .args .line .now) (s .args .found) (s .pre .0) .0) at (c .all-keep3 .ensures)
 
-loop-holds : tie.Need-loop-holds Inv-loop μ-loop
-loop-holds c =
-    let n = c .before .args .names in
-    let all : n + 1 - 1 ≡ n = omega arith in
-    (omega arith, count-of-split (c .before .args .line .now) (c .before .args .found) (c .before .pre .0) .1, rw all)
-
-field-requires : tie.Need-field-requires Inv-loop μ-loop
-field-requires c κs = (c .before .before .before .before .pre .0, omega arith, omega arith)
-
-is-right-requires : tie.Need-is-right-requires Inv-loop μ-loop
-is-right-requires c κs = search needs
-
-returns : tie.Need-returns Inv-loop μ-loop
-returns c =
-    let k = c .before .before .before .before .before .before .loop .k in
-    let n = c .before .before .before .before .before .before .before .before .args .names in
-    rw (turn (c .before .before), not-true (c .before .before .is-right .result) (c .before .if2 .taken), le-leb k n (c .if3 .taken))
-
-returns-2 : tie.Need-returns-2 Inv-loop μ-loop
-returns-2 c =
-    let k = c .before .before .before .before .before .before .loop .k in
-    let n = c .before .before .before .before .before .before .before .before .args .names in
-    rw (turn (c .before .before), not-true (c .before .before .is-right .result) (c .before .if2 .taken), lt-leb k n (c .if3 .left))
-
-add-k : tie.Need-add-k Inv-loop μ-loop
-add-k c = omega arith
-
-loop-less : tie.Need-loop-less Inv-loop μ-loop
-loop-less c = omega arith
-
-loop-again : tie.Need-loop-again Inv-loop μ-loop
-loop-again c = (omega arith, omega arith, turn (c .before) ∙ rw (not-false (c .before .is-right .result) (c .if2 .left)))
-
-returns-3 : tie.Need-returns-3 Inv-loop μ-loop
+returns-3 : tie.Need-returns-3
 unfolding checkedFields
 returns-3 c =
-    let s = c .before .before .before .before in
-    let l = c .before .before .loop in
-    let n = count-of-split (s .args .line .now) (s .args .found) (s .pre .0) in
-    rw (l .inv .2, drop-of-length-le (fields (s .args .line .now)) {i = l .k} (omega arith))
+    let names = c .before .before in
+    rw (named (names .before .before), lettered names, sym (numbers (c .before)) ∙ not-true _ (c .if3 .taken))
+
+returns-4 : tie.Need-returns-4
+unfolding checkedFields
+returns-4 c =
+    let names = c .before .before in
+    rw (named (names .before .before), lettered names, sym (numbers (c .before)) ∙ not-false _ (c .if3 .left))
 
 pub check-fields-spec : {M : Type 1} → statement M
 check-fields-spec =
     tie.close
     (tie.spec
-    Inv-loop
-    μ-loop
-    loop-holds
-    field-requires
-    is-right-requires
+    (λ c. search needs)
+    (λ c κs. search needs)
     returns
+    (λ c κs. search needs)
     returns-2
-    add-k
-    loop-less
-    loop-again
-    returns-3)
+    (λ c κs. search needs)
+    returns-3
+    returns-4)

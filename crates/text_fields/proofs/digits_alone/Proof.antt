@@ -1,4 +1,4 @@
--- `digits` meets its contract. The invariant: all bytes pass just if those from place i on do.
+-- `digits_alone` meets its contract. The invariant: all bytes pass just if those from place i on do.
 use mathlib.Core.Path.{_≡_, refl, sym, _∙_}
 use Prim.Native.Nat.{_≤_, _-_}
 use lib.ListN.{length, drop, drop-of-length-le}
@@ -7,8 +7,8 @@ use Rattle.text_fields.specs.Fields.{all, isDigit}
 use Rattle.text_fields.specs.FieldLaws.{all-step}
 use native.Mathlib.Omega.{arith}
 use borrow.Author.Needs.{needs}
-use Rattle.text_fields.proofs.digits.Statement.{statement}
-use Rattle.text_fields.proofs.digits.Tie as tie
+use Rattle.text_fields.proofs.digits_alone.Statement.{statement}
+use Rattle.text_fields.proofs.digits_alone.Tie as tie
 
 abbrev Inv-loop : tie.InvT-loop
 Inv-loop s i₀ i = (i ≤ length s) × (all isDigit s ≡ all isDigit (drop i s))
@@ -48,8 +48,8 @@ unfolding all
 returns-2 c =
     rw (c .before .loop .inv .1, drop-of-length-le (c .before .before .before .args .s .now) {i = c .before .loop .i} (omega arith))
 
-pub digits-spec : {M : Type 1} → statement M
-digits-spec =
+pub digits-alone-spec : {M : Type 1} → statement M
+digits-alone-spec =
     tie.close
     (tie.spec
     Inv-loop
