@@ -1,5 +1,6 @@
--- When a line is a fault, each number just for its cause: 2 no known letter, 10 wrong number of fields, 11 bad name, 12 badly written number, in this order;
--- then 3, a link whose size or reserve is above the limit; then 13, a link whose reserve is above its size. Document 02, Cards 1, 5 and 7.
+-- When a line is a fault, each number just for its cause: 2 no known letter, 10 wrong number of fields, 11 bad name, 17 name of digits alone, 12 badly
+-- written number, in this order; then 3, a link whose size or reserve is above the limit; then 13, a link whose reserve is above its size. Document 02,
+-- Cards 1, 5, 7 and 9.
 -- By the first field: the letter chooses the form. A heading below line 1 has no known letter.
 use mathlib.Core.Bool.{Bool, true, false, cond, false≢true}
 use mathlib.Core.List.{List, [], _∷_}
@@ -12,7 +13,7 @@ use Rattle.text_fields.specs.FieldLaws.{not-same}
 use Rattle.text_grammar.specs.declared.Form.{Form}
 use Rattle.text_grammar.specs.declared.Check.{Check}
 use Rattle.text_grammar.specs.declared.Check.the-variants as check
-pub use Rattle.text_grammar.specs.Grammar.{WrongCount, BadName, BadNumber}
+pub use Rattle.text_grammar.specs.Grammar.{WrongCount, BadName, BareName, BadNumber}
 use Rattle.text_grammar.specs.FormLaws.{another-letter}
 use Rattle.text_grammar.specs.RuleLaws as rule
 use Rattle.sheet_kinds.specs.LineKinds.{same, fields, field, checked, faultOf, siteForm, plainForm, markedForm, linkForm, IsLink, judged}
@@ -50,6 +51,7 @@ pub data LineFault (most : ℕ) (l : List ℕ) : ℕ → Type 0 where
   no-letter : NoLetter l → LineFault most l 2
   wrong-count : Broken WrongCount l → LineFault most l 10
   bad-name : Broken BadName l → LineFault most l 11
+  bare-name : Broken BareName l → LineFault most l 17
   bad-number : Broken BadNumber l → LineFault most l 12
   too-large : TooLarge most l → LineFault most l 3
   too-much-held : TooMuchHeld most l → LineFault most l 13
@@ -91,6 +93,7 @@ module _ (most : ℕ) (l : List ℕ) where
   link-right e check.Letter h d = absurd (h (same-are-equal _ _ e))
   link-right e check.Count h d = wrong-count (inr h)
   link-right e check.Name h d = bad-name (inr h)
+  link-right e check.Digits h d = bare-name (inr h)
   link-right e check.Number h d = bad-number (inr h)
 
   -- a field that is found to be no letter is not that letter
@@ -108,6 +111,7 @@ module _ (most : ℕ) (l : List ℕ) where
       by check.Letter h d = no-letter (none h)
       by check.Count h d = wrong-count (broken WrongCount h)
       by check.Name h d = bad-name (broken BadName h)
+      by check.Digits h d = bare-name (broken BareName h)
       by check.Number h d = bad-number (broken BadNumber h)
 
   right : Right (kind most l)
@@ -165,6 +169,9 @@ module _ (most : ℕ) (l : List ℕ) where
   fault-of n (bad-name (inl (inl h))) = site-fault check.Name 11 (h .counted .letter) (rule.a-bad-name-is-found plainForm (fields l) h) (λ w. refl)
   fault-of n (bad-name (inl (inr h))) = marked-fault check.Name 11 (h .counted .letter) (rule.a-bad-name-is-found markedForm (fields l) h) (λ w. refl)
   fault-of n (bad-name (inr h)) = link-fault check.Name 11 (h .counted .letter) (rule.a-bad-name-is-found linkForm (fields l) h) (λ w. refl)
+  fault-of n (bare-name (inl (inl h))) = site-fault check.Digits 17 (h .counted .letter) (rule.a-bare-name-is-found plainForm (fields l) h) (λ w. refl)
+  fault-of n (bare-name (inl (inr h))) = marked-fault check.Digits 17 (h .counted .letter) (rule.a-bare-name-is-found markedForm (fields l) h) (λ w. refl)
+  fault-of n (bare-name (inr h)) = link-fault check.Digits 17 (h .counted .letter) (rule.a-bare-name-is-found linkForm (fields l) h) (λ w. refl)
   fault-of n (bad-number (inl (inl h))) = site-fault check.Number 12 (h .counted .letter) (rule.a-bad-number-is-found plainForm (fields l) h) (λ w. refl)
   fault-of n (bad-number (inl (inr h))) = marked-fault check.Number 12 (h .counted .letter) (rule.a-bad-number-is-found markedForm (fields l) h) (λ w. refl)
   fault-of n (bad-number (inr h)) = link-fault check.Number 12 (h .counted .letter) (rule.a-bad-number-is-found linkForm (fields l) h) (λ w. refl)

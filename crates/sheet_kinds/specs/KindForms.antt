@@ -8,7 +8,7 @@ use Prim.Native.Nat.{ℕ, _+_, _-_, _≤_}
 use native.Mathlib.Omega.{arith}
 use lib.ListN.{length, take, drop}
 use Rattle.model.specs.Text.{bytes}
-use Rattle.text_grammar.specs.FormLaws.{formed-parts}
+use Rattle.text_grammar.specs.RuleLaws as rule
 use Rattle.sheet_kinds.specs.LineKinds.{same, fields, field, checked, faultOf, plainForm, markedForm, linkForm, IsSite, IsLink, judged}
 use Rattle.sheet_kinds.specs.LineKinds.{siteLine, mark, size, reserve, usableSize, linkOf, sizedLink, linkLine, kindOf, kind}
 use Rattle.sheet_kinds.specs.LineKindLaws.{judged-cases, site-parts, one-letter, link-parts, capacity-cases, else-is-usable}
@@ -82,8 +82,8 @@ module _ (most : ℕ) (l : List ℕ) where
   -- and the form its kind
   pub a-site-by-its-form : IsSite (fields l) → kind most l ≡ Site 2 (2 + length (field (fields l) 1)) (mark (fields l))
   unfolding siteLine judged faultOf mark same
-  a-site-by-its-form (inl e) = let n = formed-parts plainForm (fields l) e .0 in kind-of-N most l n ∙ rw (e, n)
-  a-site-by-its-form (inr e) = let t = formed-parts markedForm (fields l) e .0 in kind-of-T most l t ∙ rw (e, t)
+  a-site-by-its-form (inl e) = let n = rule.a-formed-line-keeps-the-rules plainForm (fields l) e .counted .letter in kind-of-N most l n ∙ rw (e, n)
+  a-site-by-its-form (inr e) = let t = rule.a-formed-line-keeps-the-rules markedForm (fields l) e .counted .letter in kind-of-T most l t ∙ rw (e, t)
 
   pub a-link-by-its-form : LinkWithin most l → let a = length (field (fields l) 1) in let b = length (field (fields l) 2) in
       kind most l ≡ Link 2 (2 + a) (3 + a) (3 + a + b) (usableSize (fields l))

@@ -3,6 +3,7 @@ pub mod LineKindLaws
 pub mod FormedLines
 pub mod FaultyLines
 pub mod KindForms
+pub mod BareNames
 pub mod Numbering
 pub mod Unmarked
 pub mod Unreserved

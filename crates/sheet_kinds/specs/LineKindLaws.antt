@@ -12,10 +12,11 @@ use Rattle.model.specs.Text.{bytes}
 use Rattle.text_grammar.specs.declared.Check.{Check}
 use Rattle.text_grammar.specs.declared.Check.the-variants as check
 use Rattle.text_grammar.specs.declared.Size.the-variants.{Within, Above}
-use Rattle.text_grammar.specs.FormLaws.{formed-or-faulty, formed-parts, name-first, number-first}
+use Rattle.text_grammar.specs.FormLaws.{formed-or-faulty}
+use Rattle.text_grammar.specs.RuleLaws as rule
 pub use Rattle.text_fields.specs.FieldLaws.{both, same-are-equal, equal-are-same, name-length}
-use Rattle.sheet_kinds.specs.LineKinds.{same, field, isName, isNumber, value, checkedFields, checked, faultOf, siteForm, linkForm, IsSite, IsLink}
-use Rattle.sheet_kinds.specs.LineKinds.{judged, mark, reserve, valueFrom, sizeOf, capacityOf}
+use Rattle.sheet_kinds.specs.LineKinds.{same, field, all, digitsAlone, isName, isNumber, value, checkedFields, checked, faultOf, siteForm, linkForm}
+use Rattle.sheet_kinds.specs.LineKinds.{IsSite, IsLink, judged, mark, reserve, valueFrom, sizeOf, capacityOf}
 use Rattle.sheet_kinds.specs.declared.Line.{Line}
 use Rattle.sheet_kinds.specs.declared.Line.the-variants.{Fault}
 use Rattle.sheet_kinds.specs.declared.Capacity.{Capacity}
@@ -26,34 +27,36 @@ pub judged-cases : (P : Line → Type 0) (c : Check) (w : Line) → (c ≡ check
 unfolding judged faultOf
 judged-cases P c w f g = ⊎-elim (λ e. rw e (f e)) (λ h. rw (h .1) (g (h .0))) (formed-or-faulty c)
 
--- two fields, `N` or `T`, and a name
+-- two fields, `N` or `T`, and a name, not of digits alone
 pub record SiteParts (fs : List (List ℕ)) : Type 0 where
   pub count : length fs ≡ 2
   pub letter : (field fs 0 ≡ bytes "N") ⊎ (field fs 0 ≡ bytes "T")
   pub name : isName (field fs 1) ≡ true
+  pub lettered : digitsAlone (field fs 1) ≡ false
 
--- four or five fields, `L`, two names and a number, and a number where there is a fifth
+-- four or five fields, `L`, two names, neither of digits alone, and a number, and a number where there is a fifth
 pub record LinkParts (fs : List (List ℕ)) : Type 0 where
   pub enough : 4 ≤ length fs
   pub no-more : length fs ≤ 5
   pub letter : field fs 0 ≡ bytes "L"
   pub name : isName (field fs 1) ≡ true
+  pub lettered : digitsAlone (field fs 1) ≡ false
   pub name2 : isName (field fs 2) ≡ true
+  pub lettered2 : digitsAlone (field fs 2) ≡ false
   pub size : isNumber (field fs 3) ≡ true
   pub reserve : length fs ≡ 5 → isNumber (field fs 4) ≡ true
 
 -- by the letter
 pub parts-of-a-site : (letter : ℕ) (fs : List (List ℕ)) → checked (siteForm letter) fs ≡ check.Formed
-    → (length fs ≡ 2) × (field fs 0 ≡ letter ∷ []) × (isName (field fs 1) ≡ true)
-parts-of-a-site letter [] e = absurd (omega (arith, formed-parts (siteForm letter) [] e .1))
-parts-of-a-site letter (a ∷ []) e = absurd (omega (arith, formed-parts (siteForm letter) (a ∷ []) e .1))
-parts-of-a-site letter (a ∷ b ∷ fs) e =
-    let h = formed-parts (siteForm letter) (a ∷ b ∷ fs) e in
-    (omega (arith, h .1, h .2), h .0, name-first b fs 0 (h .3) .0)
+    → (length fs ≡ 2) × (field fs 0 ≡ letter ∷ []) × (isName (field fs 1) ≡ true) × (digitsAlone (field fs 1) ≡ false)
+parts-of-a-site letter fs e =
+    let k = rule.a-formed-line-keeps-the-rules (siteForm letter) fs e in
+    let c = k .counted in
+    (omega (arith, c .enough, c .no-more), c .letter, k .names-are-names 1 (omega arith) (omega arith), k .none-is-bare 1 (omega arith) (omega arith))
 
 pub site-parts : (fs : List (List ℕ)) → IsSite fs → SiteParts fs
-site-parts fs (inl e) = let h = parts-of-a-site 78 fs e in record { count = h .0; letter = inl (h .1); name = h .2 }
-site-parts fs (inr e) = let h = parts-of-a-site 84 fs e in record { count = h .0; letter = inr (h .1); name = h .2 }
+site-parts fs (inl e) = let h = parts-of-a-site 78 fs e in record { count = h .0; letter = inl (h .1); name = h .2; lettered = h .3 }
+site-parts fs (inr e) = let h = parts-of-a-site 84 fs e in record { count = h .0; letter = inr (h .1); name = h .2; lettered = h .3 }
 
 -- the letter is one byte
 pub one-letter : (fs : List (List ℕ)) → SiteParts fs → length (field fs 0) ≡ 1
@@ -76,45 +79,45 @@ no-mark-tells-its-letter fs is = (
 )
 
 pub link-parts : (fs : List (List ℕ)) → IsLink fs → LinkParts fs
-link-parts [] e = absurd (omega (arith, formed-parts linkForm [] e .1))
-link-parts (a ∷ []) e = absurd (omega (arith, formed-parts linkForm (a ∷ []) e .1))
-link-parts (a ∷ b ∷ []) e = absurd (omega (arith, formed-parts linkForm (a ∷ b ∷ []) e .1))
-link-parts (a ∷ b ∷ c ∷ []) e = absurd (omega (arith, formed-parts linkForm (a ∷ b ∷ c ∷ []) e .1))
-link-parts (a ∷ b ∷ c ∷ d ∷ fs) e =
-    let h = formed-parts linkForm (a ∷ b ∷ c ∷ d ∷ fs) e in
-    let one = name-first b (c ∷ d ∷ fs) 1 (h .3) in
-    let two = name-first c (d ∷ fs) 0 (one .1) in
-    let size = number-first d fs (two .1) in
-    record { enough = omega arith; no-more = omega (arith, h .2); letter = h .0; name = one .0; name2 = two .0; size = size .0; reserve = fifth fs (size .1) }
-  where
-    fifth : (gs : List (List ℕ)) → checkedFields 0 gs ≡ check.Formed → length (a ∷ b ∷ c ∷ d ∷ gs) ≡ 5 → isNumber (field (a ∷ b ∷ c ∷ d ∷ gs) 4) ≡ true
-    fifth [] h n = absurd (omega arith)
-    fifth (g ∷ gs) h n = number-first g gs h .0
+link-parts fs e =
+    let k = rule.a-formed-line-keeps-the-rules linkForm fs e in
+    let c = k .counted in
+    record {
+      enough = omega (arith, c .enough);
+      no-more = omega (arith, c .no-more);
+      letter = c .letter;
+      name = k .names-are-names 1 (omega arith) (omega arith);
+      lettered = k .none-is-bare 1 (omega arith) (omega arith);
+      name2 = k .names-are-names 2 (omega arith) (omega arith);
+      lettered2 = k .none-is-bare 2 (omega arith) (omega arith);
+      size = k .numbers-are-numbers 3 (omega arith) (omega (arith, c .enough));
+      reserve = λ n. k .numbers-are-numbers 4 (omega arith) (omega arith);
+    }
 
 -- and these parts make the form
-made-of : (letter : ℕ) (fs : List (List ℕ)) → length fs ≡ 2 → field fs 0 ≡ letter ∷ [] → isName (field fs 1) ≡ true
+made-of : (letter : ℕ) (fs : List (List ℕ)) → length fs ≡ 2 → field fs 0 ≡ letter ∷ [] → isName (field fs 1) ≡ true → digitsAlone (field fs 1) ≡ false
     → checked (siteForm letter) fs ≡ check.Formed
-unfolding checked checkedFields
-made-of letter [] n e h = absurd (omega arith)
-made-of letter (a ∷ []) n e h = absurd (omega arith)
-made-of letter (a ∷ b ∷ []) n e h = rw (e, equal-are-same (letter ∷ []), h)
-made-of letter (a ∷ b ∷ c ∷ fs) n e h = absurd (omega arith)
+unfolding checked checkedFields all
+made-of letter [] n e h l = absurd (omega arith)
+made-of letter (a ∷ []) n e h l = absurd (omega arith)
+made-of letter (a ∷ b ∷ []) n e h l = rw (e, equal-are-same (letter ∷ []), h, l)
+made-of letter (a ∷ b ∷ c ∷ fs) n e h l = absurd (omega arith)
 
 site-made : (fs : List (List ℕ)) → SiteParts fs → IsSite fs
 site-made fs k =
-    ⊎-elim (λ e. inl (made-of 78 fs (k .count) e (k .name))) (λ e. inr (made-of 84 fs (k .count) e (k .name))) (k .letter)
+    ⊎-elim (λ e. inl (made-of 78 fs (k .count) e (k .name) (k .lettered))) (λ e. inr (made-of 84 fs (k .count) e (k .name) (k .lettered))) (k .letter)
 
 pub site-is-its-parts : (fs : List (List ℕ)) → IsSite fs ↔ SiteParts fs
 site-is-its-parts fs = (site-parts fs, site-made fs)
 
 link-made : (fs : List (List ℕ)) → LinkParts fs → IsLink fs
-unfolding checked checkedFields same
+unfolding checked checkedFields all same
 link-made [] k = absurd (omega (arith, k .enough))
 link-made (a ∷ []) k = absurd (omega (arith, k .enough))
 link-made (a ∷ b ∷ []) k = absurd (omega (arith, k .enough))
 link-made (a ∷ b ∷ c ∷ []) k = absurd (omega (arith, k .enough))
-link-made (a ∷ b ∷ c ∷ d ∷ []) k = rw (k .letter, k .name, k .name2, k .size)
-link-made (a ∷ b ∷ c ∷ d ∷ e ∷ []) k = rw (k .letter, k .name, k .name2, k .size, k .reserve refl)
+link-made (a ∷ b ∷ c ∷ d ∷ []) k = rw (k .letter, k .name, k .lettered, k .name2, k .lettered2, k .size)
+link-made (a ∷ b ∷ c ∷ d ∷ e ∷ []) k = rw (k .letter, k .name, k .lettered, k .name2, k .lettered2, k .size, k .reserve refl)
 link-made (a ∷ b ∷ c ∷ d ∷ e ∷ f ∷ fs) k = absurd (omega (arith, k .no-more))
 
 pub link-is-its-parts : (fs : List (List ℕ)) → IsLink fs ↔ LinkParts fs

@@ -1,5 +1,5 @@
 -- What a line of a network sheet is: the heading of an edition, and below it a site, a link or a fault, by its fields held against the forms.
--- Document 01, "The network sheet"; 02, Card 5 (the reserve of a link), Card 7 (the mark of a site), Card 8 (editions).
+-- Document 01, "The network sheet"; 02, Card 5 (the reserve of a link), Card 7 (the mark of a site), Card 8 (editions), Card 9 (no bare numbers as names).
 use mathlib.Core.Bool.{Bool, cond, _&&_}
 use mathlib.Core.List.{List, [], _∷_}
 use mathlib.Core.Logic.{_⊎_}
@@ -18,7 +18,7 @@ use Rattle.text_grammar.specs.declared.Check.the-variants as check
 use Rattle.text_grammar.specs.declared.Size.{Size}
 use Rattle.text_grammar.specs.declared.Size.the-variants.{Within, Above}
 unfoldable pub use Rattle.text_fields.specs.Fields.{same, push, fields, all, isName, isNumber, valueFrom}
-pub use Rattle.text_fields.specs.Fields.{field, isDigit, isLetterOrDigit, value}
+pub use Rattle.text_fields.specs.Fields.{field, isDigit, digitsAlone, isLetterOrDigit, value}
 unfoldable pub use Rattle.text_grammar.specs.Grammar.{checkedFields, checked, faultOf, sizeOf}
 
 -- the heading of an edition: `network`, tab, the edition's digit

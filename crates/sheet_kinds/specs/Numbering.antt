@@ -1,5 +1,5 @@
--- Lines by another numbering of the form faults, all else being as today, and the numbering from before Card 1: 2 for each of them.
--- Document 02, Card 1 ("Refusal 2 covers too much"). What was 2 then is 2, 10, 11 or 12 now, and every other line is as it was: by the cases of a kind.
+-- Lines by another numbering of the form faults, all else being as before Card 9, and the numbering from before Card 1: 2 for each of them.
+-- Document 02, Card 1 ("Refusal 2 covers too much"). What was 2 then is 2, 10, 11 or 12 since, and every other line stayed as it was: by the cases of a kind.
 use mathlib.Core.Bool.{Bool, true, false, cond}
 use mathlib.Core.List.{List}
 use mathlib.Core.Path.{_≡_, refl}
@@ -8,10 +8,10 @@ use lib.Dec.{eqb}
 use lib.ListN.{length}
 use Rattle.model.specs.Text.{bytes}
 pub use Rattle.text_grammar.specs.declared.Check.{Check}
-use Rattle.text_grammar.specs.declared.Check.the-variants.{Formed, Letter, Count, Name, Number}
-use Rattle.sheet_kinds.specs.LineKinds.{same, fields, field, checked, faultOf, plainForm, markedForm, linkForm, judged, siteLine}
-use Rattle.sheet_kinds.specs.LineKinds.{linkOf, sizedLink, linkLine, kindOf, kind}
+use Rattle.text_grammar.specs.declared.Check.the-variants.{Formed, Letter, Count, Name, Digits, Number}
+use Rattle.sheet_kinds.specs.LineKinds.{same, fields, field, faultOf, plainForm, markedForm, linkForm, judged, linkOf, sizedLink}
 use Rattle.sheet_kinds.specs.LineKindLaws.{capacity-cases}
+use Rattle.sheet_kinds.specs.BareNames.{checkedBare, siteBare, linkBare, kindBare}
 use Rattle.sheet_kinds.specs.declared.Line.{Line}
 use Rattle.sheet_kinds.specs.declared.Line.the-variants.{Site, Link, Fault}
 
@@ -21,25 +21,21 @@ use Rattle.sheet_kinds.specs.declared.Line.the-variants.{Site, Link, Fau
 unfoldable pub judgedBy : (Check → ℕ) → Check → Line → Line
 judgedBy number c line = cond (eqb (number c) 0) line (Fault (number c))
 
--- what a line is, by a numbering: `kind` is that by `faultOf`
+-- what a line was, by a numbering: `kindBare` is that by `faultOf`
 unfoldable pub kindBy : (Check → ℕ) → ℕ → List ℕ → Line
 kindBy number most l =
     let fs = fields l in
-    cond (same (field fs 0) (bytes "L")) (judgedBy number (checked linkForm fs) (sizedLink most fs))
-    (cond (same (field fs 0) (bytes "T")) (judgedBy number (checked markedForm fs) (Site 2 (2 + length (field fs 1)) 1))
-    (judgedBy number (checked plainForm fs) (Site 2 (2 + length (field fs 1)) 0)))
+    cond (same (field fs 0) (bytes "L")) (judgedBy number (checkedBare linkForm fs) (sizedLink most fs))
+    (cond (same (field fs 0) (bytes "T")) (judgedBy number (checkedBare markedForm fs) (Site 2 (2 + length (field fs 1)) 1))
+    (judgedBy number (checkedBare plainForm fs) (Site 2 (2 + length (field fs 1)) 0)))
 
--- the numbering from before Card 1 (01: 2, line of the wrong form)
-unfoldable pub faultBefore : Check → ℕ
-faultBefore Formed = 0
-faultBefore Letter = 2
-faultBefore Count = 2
-faultBefore Name = 2
-faultBefore Number = 2
-
--- the number from before, by today's: 2 for 10, 11 and 12; every other stays
+-- the number from before Card 1, by today's: 2 for 10, 11 and 12; every other stays
 unfoldable pub numberBefore : ℕ → ℕ
 numberBefore n = cond (eqb n 10) 2 (cond (eqb n 11) 2 (cond (eqb n 12) 2 n))
+
+-- the numbering from before Card 1 (01: 2, line of the wrong form); that a name is of digits alone was not found then (`checkedBare`)
+unfoldable pub faultBefore : Check → ℕ
+faultBefore c = numberBefore (faultOf c)
 
 abbrev pub lineBefore : Line → Line
 lineBefore (Site a e m) = Site a e m
@@ -48,8 +44,8 @@ lineBefore (Fault n) = Fault (numberBefore n)
 
 -- ---- the laws
 
-pub kind-is-by-the-numbering : (most : ℕ) (l : List ℕ) → kindBy faultOf most l ≡ kind most l
-unfolding kindBy judgedBy kind kindOf linkLine siteLine judged
+pub kind-is-by-the-numbering : (most : ℕ) (l : List ℕ) → kindBy faultOf most l ≡ kindBare most l
+unfolding kindBy judgedBy kindBare siteBare linkBare judged
 kind-is-by-the-numbering most l = refl
 
 -- a line that is no fault of its form
@@ -59,6 +55,7 @@ judged-before Formed w e = rw e
 judged-before Letter w e = refl
 judged-before Count w e = refl
 judged-before Name w e = refl
+judged-before Digits w e = refl
 judged-before Number w e = refl
 
 sized-stays : (most : ℕ) (fs : List (List ℕ)) → lineBefore (sizedLink most fs) ≡ sizedLink most fs
@@ -72,14 +69,14 @@ sized-stays most fs = capacity-cases (λ c. lineBefore (linkOf one two c) ≡ li
     two : ℕ
     two = length (field fs 2)
 
-pub a-line-is-as-before : (most : ℕ) (l : List ℕ) → kindBy faultBefore most l ≡ lineBefore (kind most l)
-unfolding kindBy kind kindOf linkLine siteLine
+pub a-line-is-as-before : (most : ℕ) (l : List ℕ) → kindBy faultBefore most l ≡ lineBefore (kindBare most l)
+unfolding kindBy kindBare siteBare linkBare
 a-line-is-as-before most l =
     by (same (field (fields l) 0) (bytes "L")) _ _ _ _
-    (judged-before (checked linkForm (fields l)) (sizedLink most (fields l)) (sized-stays most (fields l)))
+    (judged-before (checkedBare linkForm (fields l)) (sizedLink most (fields l)) (sized-stays most (fields l)))
     (by (same (field (fields l) 0) (bytes "T")) _ _ _ _
-    (judged-before (checked markedForm (fields l)) (Site 2 (2 + length (field (fields l) 1)) 1) refl)
-    (judged-before (checked plainForm (fields l)) (Site 2 (2 + length (field (fields l) 1)) 0) refl))
+    (judged-before (checkedBare markedForm (fields l)) (Site 2 (2 + length (field (fields l) 1)) 1) refl)
+    (judged-before (checkedBare plainForm (fields l)) (Site 2 (2 + length (field (fields l) 1)) 0) refl))
   where
     by : (t : Bool) (v w x y : Line) → v ≡ lineBefore w → x ≡ lineBefore y → cond t v x ≡ lineBefore (cond t w y)
     by true v w x y e f = e

@@ -1,5 +1,5 @@
 -- Lines from before Card 7: a site line has the letter `N`, and `T` is no known letter. Document 02, Card 7 ("a site line with letter `T` in place of `N`").
--- A line that does not start with `T` is what it was, and one that does had no known letter: by the first field.
+-- A line that does not start with `T` was the same up to Card 9, and one that does had no known letter: by the first field.
 use mathlib.Core.Bool.{false, cond, and-false}
 use mathlib.Core.List.{List}
 use mathlib.Core.Logic.{_≢_}
@@ -7,7 +7,8 @@ use mathlib.Core.Path.{_≡_}
 use Prim.Native.Nat.{ℕ}
 use Rattle.model.specs.Text.{bytes}
 use Rattle.text_fields.specs.FieldLaws.{not-same}
-use Rattle.sheet_kinds.specs.LineKinds.{same, fields, field, isHeading, checked, faultOf, judged, siteLine, linkLine, kindOf, kind}
+use Rattle.sheet_kinds.specs.LineKinds.{same, fields, field, isHeading, faultOf, judged}
+use Rattle.sheet_kinds.specs.BareNames.{checkedBare, siteBare, linkBare, kindBare}
 use Rattle.sheet_kinds.specs.declared.Line.{Line}
 use Rattle.sheet_kinds.specs.declared.Line.the-variants.{Fault}
 
@@ -15,17 +16,17 @@ use Rattle.sheet_kinds.specs.declared.Line.the-variants.{Fault}
 unfoldable pub kindUnmarked : ℕ → List ℕ → Line
 kindUnmarked most l =
     let fs = fields l in
-    cond (same (field fs 0) (bytes "L")) (linkLine most fs) (siteLine 78 0 fs)
+    cond (same (field fs 0) (bytes "L")) (linkBare most fs) (siteBare 78 0 fs)
 
 module _ (most : ℕ) (l : List ℕ) where
-  -- a line that does not start with `T` is what it was
-  pub a-line-without-mark-is-as-before : field (fields l) 0 ≢ bytes "T" → kindUnmarked most l ≡ kind most l
-  unfolding kindUnmarked kind kindOf
+  -- a line that does not start with `T` was the same up to Card 9
+  pub a-line-without-mark-is-as-before : field (fields l) 0 ≢ bytes "T" → kindUnmarked most l ≡ kindBare most l
+  unfolding kindUnmarked kindBare
   a-line-without-mark-is-as-before d = rw (not-same (field (fields l) 0) (bytes "T") d)
 
   -- a line that starts with `T` had no known letter
   pub a-marked-line-had-no-known-letter : field (fields l) 0 ≡ bytes "T" → kindUnmarked most l ≡ Fault 2
-  unfolding kindUnmarked siteLine checked same judged faultOf
+  unfolding kindUnmarked siteBare checkedBare same judged faultOf
   a-marked-line-had-no-known-letter e = rw e
 
 -- and it was, and is, no heading

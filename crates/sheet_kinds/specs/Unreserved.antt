@@ -16,9 +16,9 @@ use Rattle.model.specs.Text.{bytes}
 use Rattle.text_grammar.specs.declared.Form.{Form}
 use Rattle.text_grammar.specs.declared.Check.{Check}
 use Rattle.text_grammar.specs.declared.Check.the-variants as check
-use Rattle.sheet_kinds.specs.LineKinds.{same, fields, field, checked, faultOf, linkForm, judged, siteLine}
-use Rattle.sheet_kinds.specs.LineKinds.{size, linkOf, sizedLink, linkLine}
-use Rattle.sheet_kinds.specs.LineKindLaws.{same-are-equal, link-parts, no-fifth, capacity-cases}
+use Rattle.sheet_kinds.specs.LineKinds.{same, fields, field, faultOf, linkForm, judged, size, linkOf, sizedLink}
+use Rattle.sheet_kinds.specs.LineKindLaws.{same-are-equal, no-fifth, capacity-cases}
+use Rattle.sheet_kinds.specs.BareNames.{checkedBare, siteBare, linkBare, formed-are-counted}
 use Rattle.sheet_kinds.specs.Unmarked.{kindUnmarked}
 use Rattle.sheet_kinds.specs.declared.Line.{Line}
 use Rattle.sheet_kinds.specs.declared.Line.the-variants.{Link, Fault}
@@ -40,7 +40,7 @@ sizedBefore most fs =
 unfoldable pub kindUnreserved : ℕ → List ℕ → Line
 kindUnreserved most l =
     let fs = fields l in
-    cond (same (field fs 0) (bytes "L")) (judged (checked linkFormBefore fs) (sizedBefore most fs)) (siteLine 78 0 fs)
+    cond (same (field fs 0) (bytes "L")) (judged (checkedBare linkFormBefore fs) (sizedBefore most fs)) (siteBare 78 0 fs)
 
 -- ---- the laws
 
@@ -51,6 +51,7 @@ judged-alike check.Formed v w h = h refl
 judged-alike check.Letter v w h = refl
 judged-alike check.Count v w h = refl
 judged-alike check.Name v w h = refl
+judged-alike check.Digits v w h = refl
 judged-alike check.Number v w h = refl
 
 module _ (most : ℕ) (fs : List (List ℕ)) where
@@ -65,18 +66,18 @@ module _ (most : ℕ) (fs : List (List ℕ)) where
       (λ p q. rw (le-leb (size fs) most p, none, sub-zero (size fs)))
 
   -- and it is held against its form as it was; more than five fields are too many for either form
-  checked-as-before : length fs ≢ 5 → checked linkForm fs ≡ checked linkFormBefore fs
-  unfolding checked
-  checked-as-before d = cases (decLe (length fs) 4)
+  counted-as-before : length fs ≢ 5 → checkedBare linkForm fs ≡ checkedBare linkFormBefore fs
+  unfolding checkedBare
+  counted-as-before d = cases (decLe (length fs) 4)
       (λ h. rw (le-leb (length fs) 5 (omega arith), le-leb (length fs) 4 h))
       (λ h. rw (lt-leb (length fs) 5 (omega (arith, d)), lt-leb (length fs) 4 (omega arith)))
 
-  link-as-before : length fs ≢ 5 → linkLine most fs ≡ judged (checked linkFormBefore fs) (sizedBefore most fs)
-  unfolding linkLine
+  link-as-before : length fs ≢ 5 → linkBare most fs ≡ judged (checkedBare linkFormBefore fs) (sizedBefore most fs)
+  unfolding linkBare
   link-as-before d =
-      judged-alike (checked linkForm fs) (sizedLink most fs) (sizedBefore most fs)
-      (λ e. let n = link-parts fs e .no-more in sized-as-before (omega (arith, d)))
-      ∙ rw (checked-as-before d)
+      judged-alike (checkedBare linkForm fs) (sizedLink most fs) (sizedBefore most fs)
+      (λ e. sized-as-before (omega (arith, d, formed-are-counted linkForm fs e .no-more)))
+      ∙ rw (counted-as-before d)
 
 -- a line that is no link line of five fields was the same up to Card 7
 pub a-line-without-reserve-is-as-before : (most : ℕ) (l : List ℕ) → (field (fields l) 0 ≡ bytes "L" → length (fields l) ≢ 5)
@@ -85,7 +86,7 @@ unfolding kindUnreserved kindUnmarked
 a-line-without-reserve-is-as-before most l none = by (same (field (fields l) 0) (bytes "L")) refl
   where
     by : (u : Bool) → same (field (fields l) 0) (bytes "L") ≡ u → let fs = fields l in
-        cond u (judged (checked linkFormBefore fs) (sizedBefore most fs)) (siteLine 78 0 fs)
-        ≡ cond u (linkLine most fs) (siteLine 78 0 fs)
+        cond u (judged (checkedBare linkFormBefore fs) (sizedBefore most fs)) (siteBare 78 0 fs)
+        ≡ cond u (linkBare most fs) (siteBare 78 0 fs)
     by true e = sym (link-as-before most (fields l) (none (same-are-equal _ _ e)))
     by false e = refl
