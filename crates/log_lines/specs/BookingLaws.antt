@@ -30,7 +30,7 @@ IsFormed opens fs = checked (logForm opens) fs ≡ check.Formed
 
 -- what the rules say of them
 pub formed-keeps : (opens : Bool) (fs : List (List ℕ)) → IsFormed opens fs → rule.Kept (logForm opens) fs
-formed-keeps opens fs e = rw e at (rule.a-finding-tells-its-rule (logForm opens) fs)
+formed-keeps opens fs e = rule.a-formed-line-keeps-the-rules (logForm opens) fs e
 
 -- the line asks for an amount within the limit
 pub record Asks (opens : Bool) (l : List ℕ) : Type 0 where

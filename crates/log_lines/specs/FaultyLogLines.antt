@@ -1,5 +1,6 @@
--- When a line of a log is a fault, each number just for its cause: 2 neither `+` nor `-`, 10 wrong number of fields, 11 bad name, 12 badly written number,
--- in this order; then 3, an amount of 0 or above the limit. Document 02, Card 6. By the first field: the sign chooses the form.
+-- When a line of a log is a fault, each number just for its cause: 2 neither `+` nor `-`, 10 wrong number of fields, 11 bad name, 17 name of digits alone,
+-- 12 badly written number, in this order; then 3, an amount of 0 or above the limit. Document 02, Cards 6 and 9. By the first field: the sign chooses the
+-- form.
 use mathlib.Core.Bool.{Bool, true, false, cond, _&&_, false≢true}
 use mathlib.Core.List.{List, [], _∷_}
 use mathlib.Core.Logic.{_⊎_, inl, inr, ⊎-elim, _↔_, _≢_}
@@ -15,7 +16,7 @@ use Rattle.text_fields.specs.FieldLaws.{same-are-equal, equal-are-same, not-sam
 use Rattle.text_grammar.specs.declared.Form.{Form}
 use Rattle.text_grammar.specs.declared.Check.{Check}
 use Rattle.text_grammar.specs.declared.Check.the-variants as check
-use Rattle.text_grammar.specs.Grammar.{checked, faultOf, WrongCount, BadName, BadNumber}
+use Rattle.text_grammar.specs.Grammar.{checked, faultOf, WrongCount, BadName, BareName, BadNumber}
 use Rattle.text_grammar.specs.FormLaws.{another-letter}
 use Rattle.text_grammar.specs.RuleLaws as rule
 use Rattle.log_lines.specs.LogLines.{logForm, judged, booking, lineAs, logLine}
@@ -46,6 +47,7 @@ pub data LineFault (l : List ℕ) : ℕ → Type 0 where
   no-sign : NoSign l → LineFault l 2
   wrong-count : Broken WrongCount l → LineFault l 10
   bad-name : Broken BadName l → LineFault l 11
+  bare-name : Broken BareName l → LineFault l 17
   bad-number : Broken BadNumber l → LineFault l 12
   wrong-amount : WrongAmount l → LineFault l 3
 
@@ -75,6 +77,7 @@ module _ (l : List ℕ) where
   fault-tells false e check.Letter h d = no-sign (record { no-opening = λ z. false≢true (sym e ∙ rw z (equal-are-same (bytes "+"))); no-giving-up = h })
   fault-tells opens e check.Count h d = wrong-count (record { opens = opens; rule = h })
   fault-tells opens e check.Name h d = bad-name (record { opens = opens; rule = h })
+  fault-tells opens e check.Digits h d = bare-name (record { opens = opens; rule = h })
   fault-tells opens e check.Number h d = bad-number (record { opens = opens; rule = h })
 
   pub a-line-tells : Tells (logLine l)
@@ -113,6 +116,8 @@ module _ (l : List ℕ) where
       broken (h .opens) check.Count 10 (h .rule .letter) (rule.a-wrong-count-is-found (logForm (h .opens)) (fields l) (h .rule)) (λ w. refl)
   fault-of n (bad-name h) =
       broken (h .opens) check.Name 11 (h .rule .counted .letter) (rule.a-bad-name-is-found (logForm (h .opens)) (fields l) (h .rule)) (λ w. refl)
+  fault-of n (bare-name h) =
+      broken (h .opens) check.Digits 17 (h .rule .counted .letter) (rule.a-bare-name-is-found (logForm (h .opens)) (fields l) (h .rule)) (λ w. refl)
   fault-of n (bad-number h) =
       broken (h .opens) check.Number 12 (h .rule .counted .letter) (rule.a-bad-number-is-found (logForm (h .opens)) (fields l) (h .rule)) (λ w. refl)
   fault-of n (wrong-amount h) = amount h

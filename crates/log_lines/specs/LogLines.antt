@@ -1,5 +1,5 @@
 -- What a line of a booking log is: an amount to open or to give up between two names, or a fault, by its fields held against the two forms.
--- Document 02, Card 6 ("A log line is `+` or `-`, two end names and an amount in halves from 1 to 2,000,000, tab-parted").
+-- Document 02, Card 6 ("A log line is `+` or `-`, two end names and an amount in halves from 1 to 2,000,000, tab-parted"); Card 9 (no bare numbers as names).
 use mathlib.Core.Bool.{Bool, cond, _&&_}
 use mathlib.Core.List.{List}
 use Prim.Native.Nat.{ℕ, _+_}
