@@ -1,10 +1,10 @@
--- What reading a sheet answers, in both directions: a number at a line just for its cause, 0 just without one. Numbers are 1 to 8 or 10 to 13, and a
--- line at fault is one of the sheet. Document 01, "The network sheet" (the table's columns "No." and "Returned"); 02, Cards 1 and 5. By the causes,
+-- What reading a sheet answers, in both directions: a number at a line just for its cause, 0 just without one. Numbers are 1 to 8, 10 to 13 or 17, and a
+-- line at fault is one of the sheet. Document 01, "The network sheet" (the table's columns "No." and "Returned"); 02, Cards 1, 5 and 9. By the causes,
 -- one by one.
 use mathlib.Core.List.{List}
 use mathlib.Core.Logic.{_↔_, _≢_}
 use mathlib.Core.Path.{_≡_, refl}
-use Prim.Native.Nat.{ℕ, suc, _≤_}
+use Prim.Native.Nat.{ℕ, suc, _≤_, _<_}
 use native.Mathlib.Omega.{arith}
 use lib.ListN.{length}
 use borrow.Author.Tests.{lt-ltb}
@@ -13,7 +13,7 @@ use Rattle.text_lines.specs.Lines.{hasLine}
 use Rattle.text_lines.specs.LineLaws.{after-line-is-later}
 use Rattle.sheet.specs.Sheet.{Network, empty, Read, refused, accepted, readAs}
 use Rattle.sheet.specs.Reading.{lists, reading}
-use Rattle.sheet.specs.Causes.{Cause, unended, no-heading, no-letter, wrong-count, bad-name, bad-number}
+use Rattle.sheet.specs.Causes.{Cause, unended, no-heading, no-letter, wrong-count, bad-name, bare-name, bad-number}
 use Rattle.sheet.specs.Causes.{too-large, too-much-held, too-many, given, not-given, already-joined}
 use Rattle.sheet.specs.Causes.{Reached, start, next, Refusal, by-length, by-line, by-whole}
 use Rattle.sheet.specs.SheetTheorem.{a-sheet-is-refused-for-its-cause}
@@ -35,13 +35,17 @@ line (Refused n k) = k
 abbrev pub Tells : Read → ℕ → ℕ → Type 0
 Tells r n k = (number (reading r .answer) ≡ n) × (line (reading r .answer) ≡ k)
 
--- a number with which a sheet is refused: 1 to 8, or 10 to 13; never 0, which is success, nor 9, which is the buffer's
+-- a number with which a sheet is refused: 1 to 8, 10 to 13, or 17; never 0, which is success, nor 9, which is the buffer's, nor 14 to 16, which are a log's
 pub record SheetNumber (n : ℕ) : Type 0 where
   pub some : 1 ≤ n
-  pub known : n ≤ 13
+  pub known : n ≤ 17
   pub not-nine : n ≢ 9
+  pub not-of-a-log : 13 < n → n ≡ 17
 
 -- ---- how large they are
+
+up-to-13 : {n : ℕ} → 1 ≤ n → n ≤ 13 → n ≢ 9 → SheetNumber n
+up-to-13 some few d = record { some = some; known = omega arith; not-nine = d; not-of-a-log = λ l. absurd (omega arith) }
 
 module _ (ed : Edition) (s : List ℕ) where
   -- each line above takes at least a byte
@@ -51,23 +55,24 @@ module _ (ed : Edition) (s : List ℕ) where
   lines-are-bytes (next {at = at} r h e) = omega (arith, lines-are-bytes r, after-line-is-later s at (lt-ltb at (length s) h))
 
   cause-has-a-sheet-number : {net : Network} {k at n : ℕ} → Cause ed s net k at n → SheetNumber n
-  cause-has-a-sheet-number (unended h) = record { some = omega arith; known = omega arith; not-nine = λ e. omega arith }
-  cause-has-a-sheet-number (no-heading h e d) = record { some = omega arith; known = omega arith; not-nine = λ e. omega arith }
-  cause-has-a-sheet-number (no-letter h d is) = record { some = omega arith; known = omega arith; not-nine = λ e. omega arith }
-  cause-has-a-sheet-number (wrong-count h d is) = record { some = omega arith; known = omega arith; not-nine = λ e. omega arith }
-  cause-has-a-sheet-number (bad-name h d is) = record { some = omega arith; known = omega arith; not-nine = λ e. omega arith }
-  cause-has-a-sheet-number (bad-number h d is) = record { some = omega arith; known = omega arith; not-nine = λ e. omega arith }
-  cause-has-a-sheet-number (too-large h d is) = record { some = omega arith; known = omega arith; not-nine = λ e. omega arith }
-  cause-has-a-sheet-number (too-much-held h d is) = record { some = omega arith; known = omega arith; not-nine = λ e. omega arith }
-  cause-has-a-sheet-number (too-many h d is l) = record { some = omega arith; known = omega arith; not-nine = λ e. omega arith }
-  cause-has-a-sheet-number (given h d is l v f) = record { some = omega arith; known = omega arith; not-nine = λ e. omega arith }
-  cause-has-a-sheet-number (not-given h d is o) = record { some = omega arith; known = omega arith; not-nine = λ e. omega arith }
-  cause-has-a-sheet-number (already-joined h d is v w p q j) = record { some = omega arith; known = omega arith; not-nine = λ e. omega arith }
+  cause-has-a-sheet-number (unended h) = up-to-13 (omega arith) (omega arith) (λ e. omega arith)
+  cause-has-a-sheet-number (no-heading h e d) = up-to-13 (omega arith) (omega arith) (λ e. omega arith)
+  cause-has-a-sheet-number (no-letter h d is) = up-to-13 (omega arith) (omega arith) (λ e. omega arith)
+  cause-has-a-sheet-number (wrong-count h d is) = up-to-13 (omega arith) (omega arith) (λ e. omega arith)
+  cause-has-a-sheet-number (bad-name h d is) = up-to-13 (omega arith) (omega arith) (λ e. omega arith)
+  cause-has-a-sheet-number (bare-name h d is) = record { some = omega arith; known = omega arith; not-nine = λ e. omega arith; not-of-a-log = λ l. refl }
+  cause-has-a-sheet-number (bad-number h d is) = up-to-13 (omega arith) (omega arith) (λ e. omega arith)
+  cause-has-a-sheet-number (too-large h d is) = up-to-13 (omega arith) (omega arith) (λ e. omega arith)
+  cause-has-a-sheet-number (too-much-held h d is) = up-to-13 (omega arith) (omega arith) (λ e. omega arith)
+  cause-has-a-sheet-number (too-many h d is l) = up-to-13 (omega arith) (omega arith) (λ e. omega arith)
+  cause-has-a-sheet-number (given h d is l v f) = up-to-13 (omega arith) (omega arith) (λ e. omega arith)
+  cause-has-a-sheet-number (not-given h d is o) = up-to-13 (omega arith) (omega arith) (λ e. omega arith)
+  cause-has-a-sheet-number (already-joined h d is v w p q j) = up-to-13 (omega arith) (omega arith) (λ e. omega arith)
 
   pub refusals-have-sheet-numbers : {n k : ℕ} → Refusal ed s n k → SheetNumber n
-  refusals-have-sheet-numbers (by-length o) = record { some = omega arith; known = omega arith; not-nine = λ e. omega arith }
+  refusals-have-sheet-numbers (by-length o) = up-to-13 (omega arith) (omega arith) (λ e. omega arith)
   refusals-have-sheet-numbers (by-line some few r h c) = cause-has-a-sheet-number c
-  refusals-have-sheet-numbers (by-whole some few r h o) = record { some = omega arith; known = omega arith; not-nine = λ e. omega arith }
+  refusals-have-sheet-numbers (by-whole some few r h o) = up-to-13 (omega arith) (omega arith) (λ e. omega arith)
 
   -- a line at fault is one of the sheet, which is within the limit; other refusals are at line 0
   pub a-line-at-fault-is-on-the-sheet : {n k : ℕ} → Refusal ed s n k → (k ≤ length s) × (k ≤ ed .bytes)

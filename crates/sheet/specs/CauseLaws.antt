@@ -28,7 +28,7 @@ use Rattle.sheet.specs.declared.stepping.Step.{Step}
 use Rattle.sheet.specs.declared.stepping.Step.the-variants.{Nothing, Site, Link, Refused}
 use Rattle.sheet_names.specs.LookupLaws.{Says, lookup-says}
 use Rattle.sheet.specs.Sound.{Sound, part-of-line}
-use Rattle.sheet.specs.Causes.{Named, NotGiven, Ended, Cause, unended, no-heading, no-letter, wrong-count, bad-name, bad-number}
+use Rattle.sheet.specs.Causes.{Named, NotGiven, Ended, Cause, unended, no-heading, no-letter, wrong-count, bad-name, bare-name, bad-number}
 use Rattle.sheet.specs.Causes.{too-large, too-much-held, too-many, given, not-given, already-joined, fieldsAt}
 use Rattle.sheet_names.specs.declared.Found.{Found}
 use Rattle.sheet_names.specs.declared.Found.the-variants.{At, Absent}
@@ -139,6 +139,7 @@ module _ (ed : Edition) (s : List ℕ) (net : Network) (k at : ℕ) where
     fault-right n (faulty.no-letter f) = no-letter h d f
     fault-right n (faulty.wrong-count f) = wrong-count h d f
     fault-right n (faulty.bad-name f) = bad-name h d f
+    fault-right n (faulty.bare-name f) = bare-name h d f
     fault-right n (faulty.bad-number f) = bad-number h d f
     fault-right n (faulty.too-large f) = too-large h d f
     fault-right n (faulty.too-much-held f) = too-much-held h d f
@@ -212,6 +213,7 @@ module _ (ed : Edition) (s : List ℕ) (net : Network) (k at : ℕ) where
   step-of-a-cause sound n (no-letter h d f) = at-fault h d 2 (faulty.no-letter f)
   step-of-a-cause sound n (wrong-count h d f) = at-fault h d 10 (faulty.wrong-count f)
   step-of-a-cause sound n (bad-name h d f) = at-fault h d 11 (faulty.bad-name f)
+  step-of-a-cause sound n (bare-name h d f) = at-fault h d 17 (faulty.bare-name f)
   step-of-a-cause sound n (bad-number h d f) = at-fault h d 12 (faulty.bad-number f)
   step-of-a-cause sound n (too-large h d f) = at-fault h d 3 (faulty.too-large f)
   step-of-a-cause sound n (too-much-held h d f) = at-fault h d 13 (faulty.too-much-held f)

@@ -1,6 +1,7 @@
 -- Why a sheet is refused: the causes of document 01's table, each with its number, in the order in which they decide.
--- Document 01, "The network sheet", and 02, Cards 1, 5 and 7 (the forms of lines: `isHeading`, `IsSite`, `IsLink` in LineKinds; broken rules of a form:
--- Grammar, FaultyLines): 1 comes first, then the lowest line with a fault, in a site line 2, 10, 11, 4, 5, in a link line 2, 10, 11, 12, 3, 13, 6, 7; then 8.
+-- Document 01, "The network sheet", and 02, Cards 1, 5, 7 and 9 (the forms of lines: `isHeading`, `IsSite`, `IsLink` in LineKinds; broken rules of a form:
+-- Grammar, FaultyLines): 1 comes first, then the lowest line with a fault, in a site line 2, 10, 11, 17, 4, 5, in a link line 2, 10, 11, 17, 12, 3, 13, 6, 7;
+-- then 8.
 use mathlib.Core.Bool.{false}
 use mathlib.Core.List.{List}
 use mathlib.Core.Logic.{_⊎_, _≢_}
@@ -12,7 +13,7 @@ use Rattle.model.specs.declared.Edition.{Edition}
 use Rattle.text_lines.specs.Lines.{lineAt, afterLine}
 use Rattle.text_fields.specs.Fields.{SameName}
 use Rattle.sheet_kinds.specs.LineKinds.{fields, field, isHeading, IsSite}
-use Rattle.sheet_kinds.specs.FaultyLines.{WrongCount, BadName, BadNumber, NoLetter, Broken, TooLarge, TooMuchHeld}
+use Rattle.sheet_kinds.specs.FaultyLines.{WrongCount, BadName, BareName, BadNumber, NoLetter, Broken, TooLarge, TooMuchHeld}
 use Rattle.sheet_kinds.specs.KindForms.{LinkWithin}
 use Rattle.sheet.specs.Sheet.{Network, empty, accepted, readLine}
 use Rattle.sheet_names.specs.Names.{nameAt}
@@ -34,7 +35,7 @@ Ended s at = at + length (lineAt s at) < length s
 abbrev pub fieldsAt : List ℕ → ℕ → List (List ℕ)
 fieldsAt s at = fields (lineAt s at)
 
--- why line k, at an offset, is refused, the lines above having given a network (01: the table, 2 to 7; Card 1: 10 to 12; Card 5: 13)
+-- why line k, at an offset, is refused, the lines above having given a network (01: the table, 2 to 7; Card 1: 10 to 12; Card 5: 13; Card 9: 17)
 pub data Cause (ed : Edition) (s : List ℕ) (net : Network) (k at : ℕ) : ℕ → Type 0 where
   -- 2: no byte 10 ends the line; line 1 is not the edition's heading; the first field of a later line is no known letter, as that of a second heading
   unended : ¬ (Ended s at) → Cause ed s net k at 2
@@ -44,7 +45,9 @@ pub data Cause (ed : Edition) (s : List ℕ) (net : Network) (k at : ℕ) : ℕ 
   wrong-count : Ended s at → k ≢ 1 → Broken WrongCount (lineAt s at) → Cause ed s net k at 10
   -- 11: the letter and the number of fields are right, and some name is no name
   bad-name : Ended s at → k ≢ 1 → Broken BadName (lineAt s at) → Cause ed s net k at 11
-  -- 12: the letter, the number of fields and the names are right, and some number is badly written
+  -- 17: the letter, the number of fields and the names are right, and some name is of digits alone
+  bare-name : Ended s at → k ≢ 1 → Broken BareName (lineAt s at) → Cause ed s net k at 17
+  -- 12: the letter, the number of fields and the names are right, no name is of digits alone, and some number is badly written
   bad-number : Ended s at → k ≢ 1 → Broken BadNumber (lineAt s at) → Cause ed s net k at 12
   -- 3: a size or a reserve above the limit
   too-large : Ended s at → k ≢ 1 → TooLarge (ed .size) (lineAt s at) → Cause ed s net k at 3
@@ -69,11 +72,11 @@ pub data Reached (ed : Edition) (s : List ℕ) : ℕ → ℕ → Network → Typ
   next : {k at : ℕ} {net after : Network} → Reached ed s k at net → at < length s → readLine ed s net k at ≡ accepted after
       → Reached ed s (suc k) (afterLine s at) after
 
--- why a sheet is refused with a number and a line (01: the table, 1 to 8; Card 1: 10 to 12; Card 5: 13)
+-- why a sheet is refused with a number and a line (01: the table, 1 to 8; Card 1: 10 to 12; Card 5: 13; Card 9: 17)
 pub data Refusal (ed : Edition) (s : List ℕ) : ℕ → ℕ → Type 0 where
   -- 1: no bytes, or more than the edition allows
   by-length : (length s ≡ 0) ⊎ (ed .bytes < length s) → Refusal ed s 1 0
-  -- 2 to 7, 10 to 13: the lines above are read without fault, and the line has a cause
+  -- 2 to 7, 10 to 13, 17: the lines above are read without fault, and the line has a cause
   by-line : {n k at : ℕ} {net : Network} → 1 ≤ length s → length s ≤ ed .bytes → Reached ed s k at net → at < length s → Cause ed s net k at n
       → Refusal ed s n k
   -- 8: all lines are read without fault, and there are under two sites, or one is not joined to site 1

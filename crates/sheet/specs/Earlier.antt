@@ -1,4 +1,5 @@
--- Reading by other kinds of lines and another look-up of names: what the sentences of document 02 about what was before are said with (Cards 1, 4, 5 and 7).
+-- Reading by other kinds of lines and another look-up of names: what the sentences of document 02 about what was before are said with (Cards 1, 4, 5, 7 and
+-- 9).
 -- Today's reading is the one by `kind` and `lookup`.
 use mathlib.Core.Bool.{cond, _&&_}
 use mathlib.Core.List.{List, [], _∷_}
@@ -10,6 +11,7 @@ use Rattle.model.specs.declared.Edition.{Edition}
 use Rattle.text_fields.specs.Fields.{same}
 use Rattle.text_lines.specs.Lines.{lineLength, lineAt, afterLine, hasLine}
 pub use Rattle.sheet_kinds.specs.LineKinds.{kind}
+pub use Rattle.sheet_kinds.specs.BareNames.{kindBare}
 unfoldable pub use Rattle.sheet_kinds.specs.Numbering.{kindBy, faultBefore}
 pub use Rattle.sheet_kinds.specs.Unmarked.{kindUnmarked}
 pub use Rattle.sheet_kinds.specs.Unreserved.{kindUnreserved}

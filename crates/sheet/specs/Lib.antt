@@ -15,6 +15,7 @@ pub mod Answers
 pub mod NameLaws
 pub mod Earlier
 pub mod Alike
+pub mod BareNames
 pub mod Renumbered
 pub mod Marks
 pub mod Reserves

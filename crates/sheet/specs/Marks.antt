@@ -1,5 +1,5 @@
--- What Card 7 changed in reading (document 02): a sheet without `T` lines is read as it was, and no site of it is marked; a `T` line had no known letter, so
--- a sheet was refused with 2 at the first of them, if for nothing above. Line by line.
+-- What Card 7 changed in reading (document 02): a sheet without `T` lines and bare numbers for names is read as it was, and no site of a sheet without `T`
+-- lines is marked; a `T` line had no known letter, so a sheet was refused with 2 at the first of them, if for nothing above. Line by line.
 use mathlib.Core.Bool.{Bool, true, false, cond}
 use mathlib.Core.List.{List}
 use mathlib.Core.Path.{_≡_, refl, sym, ap, _∙_}
@@ -15,11 +15,12 @@ use Rattle.model.specs.Text.{bytes}
 use Rattle.model.specs.declared.Edition.{Edition}
 use Rattle.text_lines.specs.Lines.{lineLength, lineAt, afterLine, hasLine}
 use Rattle.text_lines.specs.LineLaws.{after-line-is-later}
-use Rattle.sheet_kinds.specs.LineKinds.{field, kind}
+use Rattle.sheet_kinds.specs.LineKinds.{field}
 use Rattle.sheet_kinds.specs.Unmarked.{a-line-without-mark-is-as-before, a-marked-line-had-no-known-letter, a-marked-line-is-no-heading}
 use Rattle.sheet.specs.Sheet.{Network, empty, refused, accepted, headingStep, stepOf, added, readLine, andThen, finish, readAs, lookup}
-use Rattle.sheet.specs.Earlier.{kindUnmarked, recordBy, record-by-the-look-up, stepBy, readLinesBy, readAsBy}
+use Rattle.sheet.specs.Earlier.{kindBare, kindUnmarked, recordBy, stepBy, readLinesBy, readAsBy}
 use Rattle.sheet.specs.Alike.{offset, placed, a-sheet-is-read-alike}
+use Rattle.sheet.specs.BareNames.{WithoutBareNames, an-accepted-line-is-as-before, a-line-that-is-reached-is-as-before}
 use Rattle.sheet.specs.Causes.{fieldsAt, Reached, start, next}
 use Rattle.sheet.specs.SheetTheorem.{an-accepted-sheet-is-a-tree}
 use Rattle.sheet.specs.OwnLines.{a-name-stands-on-its-own-line, a-site-is-marked-just-by-its-letter}
@@ -36,10 +37,10 @@ WithoutMarks s = (above : ℕ) → ¬ (MarkedAt s (offset s above))
 -- ---- a line
 
 module _ (ed : Edition) (s : List ℕ) (net : Network) (k at : ℕ) where
-  step-alike : ¬ (MarkedAt s at) → stepBy kindUnmarked lookup ed s net k at ≡ stepOf ed s net k at
-  unfolding stepBy stepOf
-  step-alike d =
-      rw (a-line-without-mark-is-as-before (ed .size) (lineAt s at) d, record-by-the-look-up ed s net k at (kind (ed .size) (lineAt s at)))
+  -- a line with another letter was read alike up to Card 9
+  step-alike : ¬ (MarkedAt s at) → stepBy kindUnmarked lookup ed s net k at ≡ stepBy kindBare lookup ed s net k at
+  unfolding stepBy
+  step-alike d = rw (a-line-without-mark-is-as-before (ed .size) (lineAt s at) d)
 
   -- a line with the letter `T` was refused with 2, whatever the lines above had given
   pub a-marked-line-was-refused-with-2 : MarkedAt s at → stepBy kindUnmarked lookup ed s net k at ≡ Refused 2 k
@@ -60,12 +61,12 @@ module _ (ed : Edition) (s : List ℕ) (none : WithoutMarks s) where
   pub another-letter : {k at : ℕ} {net : Network} → Reached ed s k at net → ¬ (MarkedAt s at)
   another-letter r = let p = placed r in rw (p .2) (none (p .0))
 
-  -- a sheet without `T` lines is read as it was
-  pub a-sheet-without-marks-is-read-as-before : readAsBy kindUnmarked lookup ed s ≡ readAs ed s
-  a-sheet-without-marks-is-read-as-before =
-      a-sheet-is-read-alike kindUnmarked lookup ed s (λ k at net r. step-alike ed s net k at (another-letter r))
+  -- a sheet without `T` lines, and without bare numbers for names, is read as it was
+  pub a-sheet-without-marks-is-read-as-before : WithoutBareNames s → readAsBy kindUnmarked lookup ed s ≡ readAs ed s
+  a-sheet-without-marks-is-read-as-before lettered = a-sheet-is-read-alike kindUnmarked lookup ed s
+      (λ k at net r. step-alike ed s net k at (another-letter r) ∙ a-line-that-is-reached-is-as-before ed s lettered r)
 
-  -- and no site of it is marked
+  -- and no site of a sheet without `T` lines is marked
   pub no-site-is-marked : (net : Network) → readAs ed s ≡ accepted net → (i : ℕ) → look (net .marks) i ≡ 0
   no-site-is-marked net e i = cases (decLt i (length (net .names))) of-a-site
       (λ past. List·getD-eq-default (net .marks) 0 (omega (arith, past, an-accepted-sheet-is-a-tree ed s net e .marks)))
@@ -107,7 +108,9 @@ module _ (ed : Edition) (s : List ℕ) where
       later = after-line-is-later s at (lt-ltb at (length s) h)
 
       here : stepBy kindUnmarked lookup ed s net k at ≡ stepOf ed s net k at
-      here = let p = placed r in step-alike ed s net k at (rw (p .2) (none (p .0) (rw (← (p .2)) later)))
+      here =
+          let p = placed r in
+          step-alike ed s net k at (rw (p .2) (none (p .0) (rw (← (p .2)) later))) ∙ an-accepted-line-is-as-before ed s net k at after e
 
       by : (fuel : ℕ) × (length s ≤ at + fuel)
           × (readLinesBy kindUnmarked lookup ed s (length s) 1 0 empty ≡ readLinesBy kindUnmarked lookup ed s fuel k at net)

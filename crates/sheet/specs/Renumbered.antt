@@ -1,4 +1,4 @@
--- What Card 1 changed in reading: by the numbering from before, which gave 2 for each of them, every sheet is
+-- What Card 1 changed in reading: by the numbering from before, which gave 2 for each of them, every sheet without bare numbers for names is
 -- read as today, but that 2 stands for 10, 11 and 12; the line, and everything else, is as it was. Document 02, Card 1. By the cases of a step.
 use mathlib.Core.Bool.{Bool, true, false, cond, _&&_}
 use mathlib.Core.List.{List}
@@ -10,15 +10,17 @@ use Rattle.model.specs.Flows.{sites, joined}
 use Rattle.model.specs.declared.Edition.{Edition}
 use Rattle.text_lines.specs.Lines.{lineLength, lineAt, afterLine, hasLine}
 use Rattle.sheet_kinds.specs.LineKinds.{fields, isHeading, kind}
+use Rattle.sheet_kinds.specs.BareNames.{kindBare}
 unfoldable pub use Rattle.sheet_kinds.specs.Numbering.{numberBefore}
 use Rattle.sheet_kinds.specs.Numbering.{lineBefore, a-line-is-as-before}
 use Rattle.sheet_kinds.specs.declared.Line.{Line}
 use Rattle.sheet_kinds.specs.declared.Line.the-variants as line
 use Rattle.sheet_names.specs.declared.Found.{Found}
 use Rattle.sheet_names.specs.declared.Found.the-variants.{At, Absent}
-use Rattle.sheet.specs.Sheet.{Network, empty, Read, refused, accepted, siteStep, siteBy, linkStep, headingStep, recordStep, stepOf, added, readLine}
-use Rattle.sheet.specs.Sheet.{andThen, readLines, allJoined, finish, readAs, part, lookup}
+use Rattle.sheet.specs.Sheet.{Network, empty, Read, refused, accepted, siteStep, siteBy, linkStep, headingStep, stepOf, added, andThen}
+use Rattle.sheet.specs.Sheet.{allJoined, finish, readAs, part, lookup}
 use Rattle.sheet.specs.Alike.{a-sheet-is-read-alike}
+use Rattle.sheet.specs.BareNames.{WithoutBareNames, a-sheet-without-bare-names-is-read-as-before}
 use Rattle.sheet.specs.Earlier.{kindBefore, recordBy, record-by-the-look-up, stepBy, readLinesBy, readAsBy}
 use Rattle.sheet.specs.declared.stepping.Step.{Step}
 use Rattle.sheet.specs.declared.stepping.Step.the-variants.{Nothing, Site, Link, Refused}
@@ -66,23 +68,23 @@ heading-before ed l = by (isHeading (ed .digit) (fields l))
 
 module _ (ed : Edition) (s : List ℕ) where
   module _ (net : Network) (k at : ℕ) where
-    record-before : (w : Line) → recordStep ed s net k at (lineBefore w) ≡ stepBefore (recordStep ed s net k at w)
-    unfolding recordStep numberBefore
+    record-before : (w : Line) → recordBy lookup ed s net k at (lineBefore w) ≡ stepBefore (recordBy lookup ed s net k at w)
+    unfolding recordBy numberBefore
     record-before (line.Site a e m) = sym (site-stays ed k (length (net .names)) _ m (lookup s (net .names) (part s (at + a, at + e))))
     record-before (line.Link a e b f size) = sym (link-stays k net size _ _)
     record-before (line.Fault n) = refl
 
-    step-before : stepBy kindBefore lookup ed s net k at ≡ stepBefore (stepOf ed s net k at)
-    unfolding stepBy stepOf numberBefore
+    step-before : stepBy kindBefore lookup ed s net k at ≡ stepBefore (stepBy kindBare lookup ed s net k at)
+    unfolding stepBy numberBefore
     step-before =
         rw (a-line-is-as-before (ed .size) (lineAt s at))
-        (by (ltb (at + lineLength (drop at s)) (length s)) (eqb k 1) (kind (ed .size) (lineAt s at)))
+        (by (ltb (at + lineLength (drop at s)) (length s)) (eqb k 1) (kindBare (ed .size) (lineAt s at)))
       where
         by : (t u : Bool) (w : Line) → let first = headingStep ed (lineAt s at) in
             cond t (cond u first (recordBy lookup ed s net k at (lineBefore w))) (Refused 2 k)
-            ≡ stepBefore (cond t (cond u first (recordStep ed s net k at w)) (Refused 2 k))
+            ≡ stepBefore (cond t (cond u first (recordBy lookup ed s net k at w)) (Refused 2 k))
         by true true w = heading-before ed (lineAt s at)
-        by true false w = record-by-the-look-up ed s net k at (lineBefore w) ∙ record-before w
+        by true false w = record-before w
         by false u w = refl
 
   -- ---- the lines and the sheet
@@ -102,14 +104,17 @@ module _ (ed : Edition) (s : List ℕ) where
   either true q r x e f = e
   either false q r x e f = f
 
-  lines-before : (fuel k at : ℕ) (net : Network) → readLinesBy kindBefore lookup ed s fuel k at net ≡ readBefore (readLines ed s fuel k at net)
-  unfolding readLinesBy readLines readLine
+  lines-before : (fuel k at : ℕ) (net : Network)
+      → readLinesBy kindBefore lookup ed s fuel k at net ≡ readBefore (readLinesBy kindBare lookup ed s fuel k at net)
+  unfolding readLinesBy
   lines-before zero k at net = refl
   lines-before (suc fuel) k at net =
-      either (hasLine s at) _ (andThen (added net (stepOf ed s net k at)) (readLines ed s fuel (suc k) (afterLine s at))) (accepted net)
-      (rw (step-before net k at, added-before net (stepOf ed s net k at))
-      (then-before (added net (stepOf ed s net k at)) (readLinesBy kindBefore lookup ed s fuel (suc k) (afterLine s at))
-      (readLines ed s fuel (suc k) (afterLine s at)) (λ next. lines-before fuel (suc k) (afterLine s at) next)))
+      let step = stepBy kindBare lookup ed s net k at in
+      let rest = readLinesBy kindBare lookup ed s fuel (suc k) (afterLine s at) in
+      either (hasLine s at) _ (andThen (added net step) rest) (accepted net)
+      (rw (step-before net k at, added-before net step)
+      (then-before (added net step) (readLinesBy kindBefore lookup ed s fuel (suc k) (afterLine s at)) rest
+      (λ next. lines-before fuel (suc k) (afterLine s at) next)))
       refl
 
   finish-stays : (net : Network) → finish net ≡ readBefore (finish net)
@@ -126,10 +131,15 @@ module _ (ed : Edition) (s : List ℕ) where
   a-sheet-is-read-by-its-kinds =
       a-sheet-is-read-alike kind lookup ed s (λ k at net r. rw (record-by-the-look-up ed s net k at (kind (ed .size) (lineAt s at))))
 
-  -- what was 2 before is one of 2, 10, 11, 12 now, at the same line, and everything else is as it was
-  pub a-sheet-is-read-as-before : readAsBy kindBefore lookup ed s ≡ readBefore (readAs ed s)
-  unfolding readAsBy readAs numberBefore
-  a-sheet-is-read-as-before =
-      either (leb 1 (length s) && leb (length s) (ed .bytes)) _ (andThen (readLines ed s (length s) 1 0 empty) finish) (refused 1 0)
-      (rw (lines-before (length s) 1 0 empty) (then-before (readLines ed s (length s) 1 0 empty) finish finish finish-stays))
+  -- what was 2 before was one of 2, 10, 11, 12 up to Card 9, at the same line, and everything else stayed as it was
+  pub a-sheet-was-read-as-before : readAsBy kindBefore lookup ed s ≡ readBefore (readAsBy kindBare lookup ed s)
+  unfolding readAsBy numberBefore
+  a-sheet-was-read-as-before =
+      let lines = readLinesBy kindBare lookup ed s (length s) 1 0 empty in
+      either (leb 1 (length s) && leb (length s) (ed .bytes)) _ (andThen lines finish) (refused 1 0)
+      (rw (lines-before (length s) 1 0 empty) (then-before lines finish finish finish-stays))
       refl
+
+  -- and so it is now, where no name is a bare number
+  pub a-sheet-is-read-as-before : WithoutBareNames s → readAsBy kindBefore lookup ed s ≡ readBefore (readAs ed s)
+  a-sheet-is-read-as-before none = a-sheet-was-read-as-before ∙ rw (a-sheet-without-bare-names-is-read-as-before ed s none)
