@@ -49,7 +49,8 @@ cause n =
     (pick n 11 (bytes "a name is not 1 to 12 letters or digits")
     (pick n 12 (bytes "a number is not written in decimal without a leading zero")
     (pick n 13 (bytes "reserve above the size")
-    (bytes "a cause without words")))))))))))))
+    (pick n 17 (bytes "name of digits only")
+    (bytes "a cause without words"))))))))))))))
 
 -- the whole line
 unfoldable pub words : ℕ → ℕ → List ℕ

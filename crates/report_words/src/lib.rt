@@ -103,6 +103,7 @@ fn put_cause(buf: &mut [u8], at: usize, number: u64) -> usize
             b'\n',
         ),
         13 => put_bytes(buf, at, b"reserve above the size", b'\n'),
+        17 => put_bytes(buf, at, b"name of digits only", b'\n'),
         _ => put_bytes(buf, at, b"a cause without words", b'\n'),
     }
 }

@@ -103,12 +103,20 @@ slice-aggregate-put-bytes-13 : tie.Need-slice-aggregate-put-bytes-13
 slice-aggregate-put-bytes-13 c = search needs
 
 put-bytes-requires-13 : tie.Need-put-bytes-requires-13
-put-bytes-requires-13 c κs =
+unfolding cause pick ℕ-discrete
+put-bytes-requires-13 c κs = rw (c .before .before .match .keys14) at (c .before .before .before .before .pre)
+
+slice-aggregate-put-bytes-14 : tie.Need-slice-aggregate-put-bytes-14
+slice-aggregate-put-bytes-14 c = search needs
+
+put-bytes-requires-14 : tie.Need-put-bytes-requires-14
+put-bytes-requires-14 c κs =
     let s = c .before .before .before .before in
-    let late = c .before .before .match .rest in
+    let rest = c .before .before .match .rest in
+    let late = rest .0 in
     let early = late .0 .0 .0 .0 .0 .0 .0 in
     let none = no-cause (s .args .number) (early .0 .0 .0 .0 .0 .1) (early .0 .0 .0 .0 .1) (early .0 .0 .0 .1) (early .0 .0 .1) (early .0 .1) (early .1)
-    (late .0 .0 .0 .0 .0 .0 .1) (late .0 .0 .0 .0 .0 .1) (late .0 .0 .0 .0 .1) (late .0 .0 .0 .1) (late .0 .0 .1) (late .0 .1) (late .1) in
+    (late .0 .0 .0 .0 .0 .0 .1) (late .0 .0 .0 .0 .0 .1) (late .0 .0 .0 .0 .1) (late .0 .0 .0 .1) (late .0 .0 .1) (late .0 .1) (late .1) (rest .1) in
     rw none at (s .pre)
 
 same-length : tie.Need-same-length
@@ -206,14 +214,22 @@ same-length-14 : tie.Need-same-length-14
 same-length-14 c = search needs
 
 returns-14 : tie.Need-returns-14
-returns-14 c =
+unfolding cause pick ℕ-discrete
+returns-14 c = rw (c .before .before .before .before .before .match .keys14) (c .before .before .put-bytes13 .ensures)
+
+same-length-15 : tie.Need-same-length-15
+same-length-15 c = search needs
+
+returns-15 : tie.Need-returns-15
+returns-15 c =
     let at-match = c .before .before .before .before .before in
     let n = at-match .before .before .args .number in
-    let late = at-match .match .rest in
+    let rest = at-match .match .rest in
+    let late = rest .0 in
     let early = late .0 .0 .0 .0 .0 .0 .0 in
     let none = no-cause n (early .0 .0 .0 .0 .0 .1) (early .0 .0 .0 .0 .1) (early .0 .0 .0 .1) (early .0 .0 .1) (early .0 .1) (early .1)
-    (late .0 .0 .0 .0 .0 .0 .1) (late .0 .0 .0 .0 .0 .1) (late .0 .0 .0 .0 .1) (late .0 .0 .0 .1) (late .0 .0 .1) (late .0 .1) (late .1) in
-    rw none (c .before .before .put-bytes13 .ensures)
+    (late .0 .0 .0 .0 .0 .0 .1) (late .0 .0 .0 .0 .0 .1) (late .0 .0 .0 .0 .1) (late .0 .0 .0 .1) (late .0 .0 .1) (late .0 .1) (late .1) (rest .1) in
+    rw none (c .before .before .put-bytes14 .ensures)
 
 pub put-cause-spec : {M : Type 1} → statement M
 put-cause-spec =
@@ -247,6 +263,8 @@ put-cause-spec =
     put-bytes-requires-12
     slice-aggregate-put-bytes-13
     put-bytes-requires-13
+    slice-aggregate-put-bytes-14
+    put-bytes-requires-14
     same-length
     returns
     same-length-2
@@ -274,4 +292,6 @@ put-cause-spec =
     same-length-13
     returns-13
     same-length-14
-    returns-14)
+    returns-14
+    same-length-15
+    returns-15)
