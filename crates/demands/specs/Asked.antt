@@ -45,7 +45,7 @@ pub record FullReport (r b : List ℕ) (p : Planned) : Type 0 where
   pub length-told : lengthOf (p .outcome) ≡ length r
   pub buffer-filled : p .buffer ≡ r ++ drop (length r) b
 
--- no cause of a refusal (1 to 8, 10 to 13) holds of the sheet s
+-- no cause of a refusal (1 to 8, 10 to 13, 17) holds of the sheet s
 abbrev pub WithoutCause : List Edition → List ℕ → Type 0
 WithoutCause known s = (k l : ℕ) → ¬ (Refusal (editionOf known s) s k l)
 
@@ -157,7 +157,7 @@ pub record IsReport (known : List Edition) (s r : List ℕ) : Type 0 where
   pub is-in-order : InOrder net (readReport s net r)
   pub meets-demand-3 : Demand3 net (readReport s net r)
 
--- the bytes r are the line of a refusal of the sheet s: one line, `refused`, a number of the table (1 to 8, 10 to 13) and a line; the number
+-- the bytes r are the line of a refusal of the sheet s: one line, `refused`, a number of the table (1 to 8, 10 to 13, 17) and a line; the number
 -- and the line read off it have their cause
 pub record IsRefusal (known : List Edition) (s r : List ℕ) : Type 0 where
   pub one-line : length (records r) ≡ 1

@@ -25,7 +25,7 @@ use Rattle.sheet_names.specs.declared.Found.the-variants.{At, Absent}
 use Rattle.sheet.specs.Sheet.{lookup}
 use Rattle.log_lines.specs.LogLines.{logLine}
 use Rattle.log_lines.specs.BookingLaws.{Asks, asks-makes, name-is-field-1, name-is-field-2}
-use Rattle.log_lines.specs.FaultyLogLines.{LineFault, no-sign, wrong-count, bad-name, bad-number, wrong-amount, Tells, a-line-tells}
+use Rattle.log_lines.specs.FaultyLogLines.{LineFault, no-sign, wrong-count, bad-name, bare-name, bad-number, wrong-amount, Tells, a-line-tells}
 use Rattle.log_lines.specs.FaultyLogLines.{a-log-line-is-a-fault-just-for-its-cause}
 use Rattle.log_lines.specs.declared.Line.{Line}
 use Rattle.log_lines.specs.declared.Line.the-variants.{Booking, Fault}
@@ -155,6 +155,7 @@ module _ (s : List ℕ) (names : List (ℕ × ℕ)) (ls : Links) (t : ℕ → �
   fault-is-some (no-sign h) = omega arith
   fault-is-some (wrong-count h) = omega arith
   fault-is-some (bad-name h) = omega arith
+  fault-is-some (bare-name h) = omega arith
   fault-is-some (bad-number h) = omega arith
   fault-is-some (wrong-amount h) = omega arith
 

@@ -1,10 +1,12 @@
--- What Cards 1, 4, 5, 7 and 8 changed in reading, for planning (document 02), for either report, every sheet and every buffer. By the numbering from before,
--- which gave 2 for each fault of form, outcome and buffer are today's, but that 2 stands for 10, 11 and 12; by the look-up from before, which went by the
--- bytes of names, they are today's wherever no two names differ in case alone; by the site lines from before, with the letter `N`, they are today's wherever
--- no line has the letter `T`; by the link lines from before, of four fields, they are today's wherever no link line has a reserve either; by edition 1 alone
--- they are today's wherever line 1 is not the heading of edition 2. Since sheets are read so, and a report that is too long is told as 9.
+-- What Cards 1, 4, 5, 7, 8 and 9 changed in reading, for planning (document 02), for either report, every sheet and every buffer. By the lines from before
+-- Card 9, outcome and buffer are today's wherever no name is of digits alone, and wherever 17 is not told; the others speak of sheets without such names. By
+-- the numbering from before, which gave 2 for each fault of form, they are today's, but that 2 stands for 10, 11 and 12; by the look-up from before, which
+-- went by the bytes of names, they are today's wherever no two names differ in case alone; by the site lines from before, with the letter `N`, wherever no
+-- line has the letter `T`; by the link lines from before, of four fields, wherever no link line has a reserve either; by edition 1 alone wherever line 1 is
+-- not the heading of edition 2. Since sheets are read so, and a report that is too long is told as 9.
 use mathlib.Core.Bool.{Bool, true, false, cond}
 use mathlib.Core.List.{List}
+use mathlib.Core.Logic.{_⊎_, inl, inr, ⊎-elim}
 use mathlib.Core.Path.{_≡_, refl, ap}
 use Prim.Native.Nat.{ℕ, _≤_, _<_}
 use lib.Dec.{leb}
@@ -12,8 +14,9 @@ use lib.ListN.{length}
 use Rattle.model.specs.Edition.{edition1, edition2, editions}
 use Rattle.model.specs.declared.Edition.{Edition}
 use Rattle.sheet.specs.Sheet.{Read, refused, accepted, readSheet, lookup, editionOf}
-use Rattle.sheet.specs.Earlier.{Kinds, kind, kindBefore, kindUnmarked, kindUnreserved, Lookup, lookupBytes, readAsBy}
+use Rattle.sheet.specs.Earlier.{Kinds, kind, kindBare, kindBefore, kindUnmarked, kindUnreserved, Lookup, lookupBytes, readAsBy}
 use Rattle.sheet.specs.Renumbered.{numberBefore, readBefore, a-sheet-is-read-by-its-kinds, a-sheet-is-read-as-before}
+use Rattle.sheet.specs.BareNames.{WithoutBareNames, a-sheet-without-bare-names-is-read-as-before, a-sheet-is-read-as-before-or-gets-17}
 use Rattle.sheet.specs.Marks.{WithoutMarks, a-sheet-without-marks-is-read-as-before}
 use Rattle.sheet.specs.Reserves.{WithoutReserves, a-sheet-without-reserves-is-read-as-before}
 use Rattle.sheet.specs.Editions.{Headed, editionsBefore, other-sheets-are-read-as-before}
@@ -54,10 +57,22 @@ module _ (text : Reporter) (known : List Edition) (s b : List ℕ) where
   unfolding plannedReading plannedBy
   a-sheet-is-planned-by-its-kinds = rw (a-sheet-is-read-by-its-kinds (editionOf known s) s)
 
-  -- what was told as 2 before is told as one of 2, 10, 11, 12 now, at the same line; every other outcome, and the buffer, is as it was
-  pub a-sheet-is-planned-as-before : plannedReading kindBefore lookup text known s b ≡ plannedBefore (plannedBy text known s b)
+  -- a sheet without bare numbers for names gets the outcome and the buffer that it had when such names were names
+  pub a-sheet-without-bare-names-is-planned-as-before : WithoutBareNames s → plannedReading kindBare lookup text known s b ≡ plannedBy text known s b
   unfolding plannedReading plannedBy
-  a-sheet-is-planned-as-before = rw (a-sheet-is-read-as-before (editionOf known s) s) (read-before (readSheet known s))
+  a-sheet-without-bare-names-is-planned-as-before lettered = rw (a-sheet-without-bare-names-is-read-as-before (editionOf known s) s lettered)
+
+  -- and so does every sheet that is not told as 17 now
+  pub a-sheet-is-planned-as-before-or-gets-17 : (plannedReading kindBare lookup text known s b ≡ plannedBy text known s b)
+      ⊎ ((k : ℕ) × (plannedBy text known s b ≡ record { outcome = Refused 17 k; buffer = b }))
+  unfolding plannedReading plannedBy planRead
+  a-sheet-is-planned-as-before-or-gets-17 =
+      ⊎-elim (λ e. inl (rw e)) (λ h. inr (h .0, rw (h .1))) (a-sheet-is-read-as-before-or-gets-17 (editionOf known s) s)
+
+  -- what was told as 2 before is told as one of 2, 10, 11, 12 now, at the same line; every other outcome, and the buffer, is as it was
+  pub a-sheet-is-planned-as-before : WithoutBareNames s → plannedReading kindBefore lookup text known s b ≡ plannedBefore (plannedBy text known s b)
+  unfolding plannedReading plannedBy
+  a-sheet-is-planned-as-before lettered = rw (a-sheet-is-read-as-before (editionOf known s) s lettered) (read-before (readSheet known s))
 
   -- a sheet on which no two names differ in case alone, and whose link lines spell as its site lines do, gets the outcome and the buffer that it had
   pub a-sheet-spelt-alike-is-planned-as-before : SpeltAlike s → plannedReading kind lookupBytes text known s b ≡ plannedBy text known s b
@@ -65,15 +80,17 @@ module _ (text : Reporter) (known : List Edition) (s b : List ℕ) where
   a-sheet-spelt-alike-is-planned-as-before alike = rw (a-sheet-spelt-alike-is-read-as-before (editionOf known s) s alike)
 
   -- a sheet without marks gets the outcome and the buffer that it had by the site lines from before
-  pub a-sheet-without-marks-is-planned-as-before : WithoutMarks s → plannedReading kindUnmarked lookup text known s b ≡ plannedBy text known s b
+  pub a-sheet-without-marks-is-planned-as-before : WithoutMarks s → WithoutBareNames s
+      → plannedReading kindUnmarked lookup text known s b ≡ plannedBy text known s b
   unfolding plannedReading plannedBy
-  a-sheet-without-marks-is-planned-as-before none = rw (a-sheet-without-marks-is-read-as-before (editionOf known s) s none)
+  a-sheet-without-marks-is-planned-as-before none lettered = rw (a-sheet-without-marks-is-read-as-before (editionOf known s) s none lettered)
 
   -- and one without reserves and marks gets those that it had by the link lines from before
-  pub a-sheet-without-reserves-is-planned-as-before : WithoutReserves s → WithoutMarks s
+  pub a-sheet-without-reserves-is-planned-as-before : WithoutReserves s → WithoutMarks s → WithoutBareNames s
       → plannedReading kindUnreserved lookup text known s b ≡ plannedBy text known s b
   unfolding plannedReading plannedBy
-  a-sheet-without-reserves-is-planned-as-before none unmarked = rw (a-sheet-without-reserves-is-read-as-before (editionOf known s) s none unmarked)
+  a-sheet-without-reserves-is-planned-as-before none unmarked lettered =
+      rw (a-sheet-without-reserves-is-read-as-before (editionOf known s) s none unmarked lettered)
 
 -- ---- Card 8
 

@@ -14,6 +14,7 @@ use Rattle.theory_trees.specs.Ends.{unmarked-ends-are-leaves, unmarked-ends-are
 use Rattle.theory_walk.specs.Unmarked.{unmarked-pair-lists-stay}
 use Rattle.sheet.specs.Sheet.{Network, endsOf, Read, refused, accepted, readSheet, lookup, editionOf}
 use Rattle.sheet.specs.Earlier.{kindUnmarked}
+use Rattle.sheet.specs.BareNames.{WithoutBareNames}
 use Rattle.sheet.specs.Marks.{WithoutMarks, no-site-is-marked}
 use Rattle.sheet.specs.SheetTheorem.{an-accepted-sheet-is-a-tree}
 use Rattle.report.specs.Report.{reportOf, report, wholeReport}
@@ -74,15 +75,17 @@ module _ (known : List Edition) (s : List ℕ) (none : WithoutMarks s) where
       by (refused k l) h = refl
       by (accepted net) h = rw (h net refl)
 
-  -- a sheet without marks gets the outcome and the buffer that it had: by the site lines, the ends and the walk from before
-  pub an-unmarked-sheet-is-planned-as-before : (b : List ℕ)
+  -- a sheet without marks, and without bare numbers for names, gets the outcome and the buffer that it had: by the site lines, the ends and the walk from before
+  pub an-unmarked-sheet-is-planned-as-before : WithoutBareNames s → (b : List ℕ)
       → plannedReading kindUnmarked lookup (λ s net. reportBefore s net (halvesBy net)) known s b ≡ planned known s b
-  an-unmarked-sheet-is-planned-as-before b = a-sheet-without-marks-is-planned-as-before (λ s net. reportBefore s net (halvesBy net)) known s b none
+  an-unmarked-sheet-is-planned-as-before lettered b =
+      a-sheet-without-marks-is-planned-as-before (λ s net. reportBefore s net (halvesBy net)) known s b none lettered
       ∙ alike report (λ s net. reportBefore s net (halvesBy net)) b
       (λ net e. a-report-without-marks-is-as-before s net (an-accepted-sheet-is-a-tree (editionOf known s) s net e .tree) (unmarked net e))
 
-  pub an-unmarked-sheet-is-planned-whole-as-before : (b : List ℕ)
+  pub an-unmarked-sheet-is-planned-whole-as-before : WithoutBareNames s → (b : List ℕ)
       → plannedReading kindUnmarked lookup (λ s net. reportBefore s net (wholesBy net)) known s b ≡ plannedWhole known s b
-  an-unmarked-sheet-is-planned-whole-as-before b = a-sheet-without-marks-is-planned-as-before (λ s net. reportBefore s net (wholesBy net)) known s b none
+  an-unmarked-sheet-is-planned-whole-as-before lettered b =
+      a-sheet-without-marks-is-planned-as-before (λ s net. reportBefore s net (wholesBy net)) known s b none lettered
       ∙ alike wholeReport (λ s net. reportBefore s net (wholesBy net)) b
       (λ net e. a-whole-report-without-marks-is-as-before s net (an-accepted-sheet-is-a-tree (editionOf known s) s net e .tree) (unmarked net e))

@@ -1,5 +1,5 @@
 -- The number that `waderarmoire_replay` returns, taken apart, tells the outcome's text, number, line and count, for every sheet, log and list.
--- Nothing is lost: a text is 1 or 2, numbers are at most 13, a line at fault is one of the sheet, and a log has at most LOGLINES lines.
+-- Nothing is lost: a text is 1 or 2, numbers are at most 17, a line at fault is one of the sheet, and a log has at most LOGLINES lines.
 use mathlib.Core.Path.{_≡_}
 use mathlib.Core.List.{List}
 use Prim.Native.Nat.{ℕ, _≤_}
@@ -16,7 +16,7 @@ use Rattle.waderarmoire.specs.Packed.{packedReplay, unpackedText, unpack
 -- how large the numbers of an outcome are
 record Bounded (o : Outcome) : Type 0 where
   pub text-small : textOf o ≤ 2
-  pub number-small : number o ≤ 13
+  pub number-small : number o ≤ 17
   pub line-small : lineOf o ≤ BYTES
   pub count-small : countOf o ≤ LOGLINES
 
@@ -34,7 +34,7 @@ a-bounded-replay-is-told (Answered n) b =
     record { told-text = omega arith; told-number = omega arith; told-line = omega arith; told-count = omega arith }
 a-bounded-replay-is-told (Refused t k l) b =
     let two : t ≤ 2 = b .text-small in
-    let few : k ≤ 13 = b .number-small in
+    let few : k ≤ 17 = b .number-small in
     let near : l ≤ BYTES = b .line-small in
     record { told-text = omega arith; told-number = omega arith; told-line = omega arith; told-count = omega arith }
 
