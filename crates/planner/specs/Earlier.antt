@@ -6,7 +6,6 @@
 -- not the heading of edition 2. Since sheets are read so, and a report that is too long is told as 9.
 use mathlib.Core.Bool.{Bool, true, false, cond}
 use mathlib.Core.List.{List}
-use mathlib.Core.Logic.{_⊎_, inl, inr, ⊎-elim}
 use mathlib.Core.Path.{_≡_, refl, ap}
 use Prim.Native.Nat.{ℕ, _≤_, _<_}
 use lib.Dec.{leb}
@@ -16,7 +15,8 @@ use Rattle.model.specs.declared.Edition.{Edition}
 use Rattle.sheet.specs.Sheet.{Read, refused, accepted, readSheet, lookup, editionOf}
 use Rattle.sheet.specs.Earlier.{Kinds, kind, kindBare, kindBefore, kindUnmarked, kindUnreserved, Lookup, lookupBytes, readAsBy}
 use Rattle.sheet.specs.Renumbered.{numberBefore, readBefore, a-sheet-is-read-by-its-kinds, a-sheet-is-read-as-before}
-use Rattle.sheet.specs.BareNames.{WithoutBareNames, a-sheet-without-bare-names-is-read-as-before, a-sheet-is-read-as-before-or-gets-17}
+use Rattle.sheet.specs.BareNames.{WithoutBareNames, a-sheet-without-bare-names-is-read-as-before}
+use Rattle.sheet.specs.BareNames.{a-sheet-not-refused-with-17-is-read-as-before}
 use Rattle.sheet.specs.Marks.{WithoutMarks, a-sheet-without-marks-is-read-as-before}
 use Rattle.sheet.specs.Reserves.{WithoutReserves, a-sheet-without-reserves-is-read-as-before}
 use Rattle.sheet.specs.Editions.{Headed, editionsBefore, other-sheets-are-read-as-before}
@@ -63,11 +63,11 @@ module _ (text : Reporter) (known : List Edition) (s b : List ℕ) where
   a-sheet-without-bare-names-is-planned-as-before lettered = rw (a-sheet-without-bare-names-is-read-as-before (editionOf known s) s lettered)
 
   -- and so does every sheet that is not told as 17 now
-  pub a-sheet-is-planned-as-before-or-gets-17 : (plannedReading kindBare lookup text known s b ≡ plannedBy text known s b)
-      ⊎ ((k : ℕ) × (plannedBy text known s b ≡ record { outcome = Refused 17 k; buffer = b }))
+  pub a-sheet-not-told-as-17-is-planned-as-before : ((k : ℕ) → ¬ (plannedBy text known s b .outcome ≡ Refused 17 k))
+      → plannedReading kindBare lookup text known s b ≡ plannedBy text known s b
   unfolding plannedReading plannedBy planRead
-  a-sheet-is-planned-as-before-or-gets-17 =
-      ⊎-elim (λ e. inl (rw e)) (λ h. inr (h .0, rw (h .1))) (a-sheet-is-read-as-before-or-gets-17 (editionOf known s) s)
+  a-sheet-not-told-as-17-is-planned-as-before none =
+      rw (a-sheet-not-refused-with-17-is-read-as-before (editionOf known s) s (λ k e. none k (rw e)))
 
   -- what was told as 2 before is told as one of 2, 10, 11, 12 now, at the same line; every other outcome, and the buffer, is as it was
   pub a-sheet-is-planned-as-before : WithoutBareNames s → plannedReading kindBefore lookup text known s b ≡ plannedBefore (plannedBy text known s b)
