@@ -1,3 +1,4 @@
 pub mod LogLines
 pub mod BookingLaws
 pub mod FaultyLogLines
+pub mod BareLogLines
