@@ -193,7 +193,7 @@ pub fn every_log<Failure>(
 fn path() -> Network {
     Network {
         edition: Edition::Two,
-        names: [SITES[0], "h", SITES[1]].map(|name| name.into()).to_vec(),
+        names: [SITES[0], "h", SITES[1]].map(Into::into).to_vec(),
         marks: vec![false; 3],
         links: vec![[0, 1], [1, 2]],
         sizes: vec![1, 2],
