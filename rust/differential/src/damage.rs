@@ -1,5 +1,6 @@
 //! Damaged sheets: every refusal, faults in any number and place, and noise.
 
+use sheets::bare::{bare_number, is_bare, is_name};
 use sheets::cases::in_either_case;
 use sheets::{
     Edition, Layout, Names, Network, Random, SIZE, Shape, Sizes, join_lines, some_reserve,
@@ -29,7 +30,7 @@ fn is_too_long(sheet: &[u8]) -> bool {
 }
 
 fn any_damage(edition: Edition, random: &mut Random) -> Damaged {
-    match random.below(48) {
+    match random.below(52) {
         0 => wrong_length(edition, random),
         1 => near_the_limit(edition, random),
         2 => too_many_sites(edition, random),
@@ -147,7 +148,9 @@ fn too_many_sites(edition: Edition, random: &mut Random) -> Damaged {
 
 /// Pieces of lines put together at random.
 fn sheet_of_pieces(edition: Edition, random: &mut Random) -> Damaged {
-    const LINES: [&[u8]; 19] = [
+    const LINES: [&[u8]; 21] = [
+        b"N\t4\n",
+        b"L\ta\t0\t1\n",
         b"N\ta\n",
         b"N\tb\n",
         b"N\tc\n",
@@ -391,7 +394,8 @@ fn site_in_either_case(line: &[u8], random: &mut Random) -> Vec<u8> {
     site_line(&name, random)
 }
 
-/// A name given to no site in either case: a new one, or one that looks much like one given.
+/// A name given to no site in either case, and no bare number: a new one, or one that looks much like one
+/// given.
 fn unknown_name(names: &[Vec<u8>], random: &mut Random) -> Vec<u8> {
     let known: HashSet<Vec<u8>> = names.iter().map(|name| name.to_ascii_uppercase()).collect();
     loop {
@@ -407,8 +411,8 @@ fn unknown_name(names: &[Vec<u8>], random: &mut Random) -> Vec<u8> {
             }
             _ => name = Names::Any.list(1, random).swap_remove(0),
         }
-        let is_name = name.iter().all(u8::is_ascii_alphanumeric);
-        if is_name && !known.contains(&name.to_ascii_uppercase()) {
+        let may_be_given = is_name(&name) && !is_bare(&name);
+        if may_be_given && !known.contains(&name.to_ascii_uppercase()) {
             return name;
         }
     }
@@ -440,15 +444,19 @@ fn fields(line: &[u8]) -> Lines {
         .collect()
 }
 
-/// A line of the wrong form made from a site line or a link line, and its number: 2, 10, 11 or 12.
+/// The faults of form in their order within a line.
+const FORMS: [u8; 5] = [2, 10, 11, 17, 12];
+
+/// A line of the wrong form made from a site line or a link line, and its number: 2, 10, 11, 17 or 12.
 fn wrong_form(line: &[u8], random: &mut Random) -> (Vec<u8>, u8) {
     let mut fields = fields(line);
-    let number = *random.pick(&[2, 10, 10, 10, 11, 11, 11, 12, 12, 12]);
+    let number = *random.pick(&[2, 10, 10, 10, 11, 11, 11, 17, 17, 17, 12, 12, 12]);
     if number == 12 && fields[0] != b"L" {
         let name = fields[1].clone();
         fields = vec![b"L".to_vec(), name.clone(), name, b"1".to_vec()];
     }
     let is_link = fields[0] == b"L";
+    let names = if is_link { 1..3 } else { 1..2 };
     if is_link && random.once_in(3) {
         fields.truncate(4);
         if random.once_in(2) {
@@ -456,26 +464,19 @@ fn wrong_form(line: &[u8], random: &mut Random) -> (Vec<u8>, u8) {
         }
     }
     // Faults that come later in the order are put in or not: they do not matter.
-    let mut has = |fault| number == fault || (number < fault && random.once_in(3));
-    let [bad_number, bad_name, wrong_count] = [12, 11, 10].map(&mut has);
+    let place = |fault| FORMS.iter().position(|&it| it == fault);
+    let mut has = |fault| number == fault || (place(number) < place(fault) && random.once_in(3));
+    let [bad_number, bare, bad_name, wrong_count] = [12, 17, 11, 10].map(&mut has);
     if bad_number && is_link {
-        let one = random.between(3, fields.len() - 1);
-        let both = random.once_in(3);
-        for (place, field) in fields.iter_mut().enumerate().skip(3) {
-            if both || place == one {
-                *field = badly_written(field, random);
-            }
-        }
+        spoil(&mut fields[3..], random, badly_written);
+    }
+    if bare {
+        spoil(&mut fields[names.clone()], random, |_, random| {
+            bare_number(random)
+        });
     }
     if bad_name {
-        let names = if is_link { 1..=2 } else { 1..=1 };
-        let one = random.between(*names.start(), *names.end());
-        let both = random.once_in(3);
-        for place in names {
-            if both || place == one {
-                fields[place] = bad_name_like(&fields[place], random);
-            }
-        }
+        spoil(&mut fields[names], random, bad_name_like);
     }
     if wrong_count {
         count_wrongly(&mut fields, random);
@@ -484,6 +485,21 @@ fn wrong_form(line: &[u8], random: &mut Random) -> (Vec<u8>, u8) {
         spoil_letter(&mut fields, random);
     }
     (fields.join(&b'\t'), number)
+}
+
+/// Puts something else in the place of one of the fields, or of all.
+fn spoil(
+    fields: &mut [Vec<u8>],
+    random: &mut Random,
+    spoilt: impl Fn(&[u8], &mut Random) -> Vec<u8>,
+) {
+    let one = random.below(fields.len());
+    let all = random.once_in(3);
+    for (place, field) in fields.iter_mut().enumerate() {
+        if all || place == one {
+            *field = spoilt(field, random);
+        }
+    }
 }
 
 /// A number that is well written, for a reserve below the size, above it, or too large.
@@ -540,6 +556,9 @@ fn bad_name_like(name: &[u8], random: &mut Random) -> Vec<u8> {
         2 => {
             let most = *random.pick(&[13, 16, 17, 40, 6_000]);
             let length = random.between(13, most);
+            if random.once_in(3) {
+                name = vec![*random.pick(b"07"); length];
+            }
             name.resize(length, b'n');
         }
         _ => {
@@ -627,25 +646,25 @@ fn with_faulty_line(edition: Edition, random: &mut Random) -> (Lines, u8, usize)
     let mut lines = network.lines(Layout::any(random), random);
     let sites = places(&lines, is_site);
     let links = places(&lines, |line| !is_site(line));
-    match random.below(28) {
+    match random.below(30) {
         0 => {
             lines[0] = wrong_heading(&lines, random);
             (lines, 2, 1)
         }
-        1..=8 => {
+        1..=9 => {
             let place = random.between(1, lines.len() - 1);
             let (line, number) = wrong_form(&lines[place], random);
             lines[place] = line;
             (lines, number, place + 1)
         }
-        9..=16 => {
+        10..=18 => {
             let place = random.between(1, lines.len());
             let copied = random.between(1, lines.len() - 1);
             let (line, number) = wrong_form(&lines[copied], random);
             lines.insert(place, line);
             (lines, number, place + 1)
         }
-        17 => {
+        19 => {
             // A name already given, after its line, in either case.
             let given = *random.pick(&sites);
             let place = random.between(given + 1, lines.len());
@@ -653,7 +672,7 @@ fn with_faulty_line(edition: Edition, random: &mut Random) -> (Lines, u8, usize)
             lines.insert(place, line);
             (lines, 5, place + 1)
         }
-        18 => {
+        20 => {
             // A link put before one of its sites.
             let link = *random.pick(&links);
             let line = lines.remove(link);
@@ -669,7 +688,7 @@ fn with_faulty_line(edition: Edition, random: &mut Random) -> (Lines, u8, usize)
             lines.insert(place, line);
             (lines, 6, place + 1)
         }
-        19..=21 => {
+        21..=23 => {
             // A reserve above the size.
             let place = *random.pick(&links);
             let mut fields = fields(&lines[place]);
@@ -677,7 +696,7 @@ fn with_faulty_line(edition: Edition, random: &mut Random) -> (Lines, u8, usize)
             lines[place] = fields.join(&b'\t');
             (lines, 13, place + 1)
         }
-        22 | 23 => {
+        24 | 25 => {
             let faults: &[u8] = if random.once_in(2) { &[13] } else { &[13, 6] };
             with_faulty_link(&network, lines, &links, faults, random)
         }

@@ -6,6 +6,7 @@
 
 use crate::{Failure, damage};
 use second::{LOG_LINES, REPORT_BYTES, Replayed};
+use sheets::bare;
 use sheets::ledger::{self, Seen, is_too_long};
 use sheets::logs::{Case, case, every_small_log};
 use sheets::{Edition, Network, Random};
@@ -30,7 +31,7 @@ const LEAST_ACROSS_SHARE: u64 = 10;
 /// has.
 const LEAST_SECOND_SHARES: [u64; 2] = [5, 100];
 /// All answers that a line can get.
-const ANSWERS: [usize; 10] = [0, 2, 3, 6, 10, 11, 12, 14, 15, 16];
+const ANSWERS: [usize; 11] = [0, 2, 3, 6, 10, 11, 17, 12, 14, 15, 16];
 
 thread_local! {
     /// The index of the log a thread compares.
@@ -143,7 +144,7 @@ impl Lists {
 #[derive(Default)]
 struct Tally {
     /// How many logs have a line with each answer.
-    logs: [u64; 17],
+    logs: [u64; 18],
     lines: u64,
     /// How many logs were refused: for the sheet, for their length, for the list.
     refused: [u64; 3],
@@ -171,7 +172,7 @@ impl Tally {
     }
 
     fn see(&mut self, network: &Network, answers: &[u64], seen: Seen) {
-        let mut occurs = [0; 17];
+        let mut occurs = [0; 18];
         for &answer in answers {
             occurs[answer as usize] = 1;
         }
@@ -312,19 +313,22 @@ pub fn small() -> Result<(), Different> {
         }
     }
     let mut tally = Tally::default();
-    let count = every_small_log(3, |case| {
+    let mut see = |case: &Case| {
         let places = ledger::lines(&case.log).count();
         let mut compared = compare(&mut lists, case, places, &mut tally);
         if places > 0 {
             compared = compared.and_then(|()| compare(&mut lists, case, places - 1, &mut tally));
         }
         compared.map_err(|what| different(case, what))
-    })?;
+    };
+    let count = every_small_log(3, &mut see)?;
+    let lines = bare::every_log(&mut see)?;
     println!(
         "logs: {} with answers written by hand; {count} of at most 3 lines, every answer and every load \
          by the card",
         sheets::replay::TRIED.len()
     );
+    println!("  bare numbers: {lines} lines, every answer by the card");
     Ok(())
 }
 

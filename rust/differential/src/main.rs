@@ -7,7 +7,8 @@
 //! ```
 //!
 //! The sheets of the scope document come first, then small sheets with names in either case, with
-//! reserves and with marks, then sheets at the limits of both editions, then all small trees, then
+//! reserves, with marks and with bare numbers as names, then sheets at the limits of both editions, then all
+//! small trees, then
 //! random trees and damaged sheets of both editions from a seed, then the programs over standard input
 //! and output. Reports headed `plan` are compared byte for byte. Of those headed `whole` loads and end
 //! sets are free: totals are compared, and pairs with those that the walk gives for the printed loads.
@@ -18,9 +19,10 @@
 //! compared, to show that they find it, or the random logs for an error in these.
 //!
 //! Then come booking logs: some with answers written by hand, all small ones over a short list of lines,
-//! random ones, and the programs over files. Answers are compared line by line and checked against the
+//! such with bare numbers as names, random ones, and the programs over files. Answers are compared line by line and checked against the
 //! card.
 
+mod bare;
 mod card;
 mod circuits;
 mod compare;
@@ -159,6 +161,7 @@ fn run(options: &Options) -> ExitCode {
             .and_then(|()| small::names_in_either_case())
             .and_then(|()| small::reserves())
             .and_then(|()| small::site_lines())
+            .and_then(|()| small::bare_numbers())
             .and_then(|()| small::headings())
             .and_then(|()| small::small_trees())
             .and_then(|()| small::marked_trees())
@@ -182,9 +185,11 @@ fn run(options: &Options) -> ExitCode {
 
 /// Whether a planted error is one in the replay of logs.
 fn is_of_logs(number: u64) -> bool {
-    use second::planted::Error::{AcrossAccepted, FirstLinkOnly, PairsByByte, UnendedLeftOut};
+    use second::planted::Error::{
+        AcrossAccepted, BareInLogUnknown, FirstLinkOnly, PairsByByte, UnendedLeftOut,
+    };
     let first_of_logs = FirstLinkOnly as u64..=UnendedLeftOut as u64;
-    let of_later_cards = [AcrossAccepted, PairsByByte].map(|error| error as u64);
+    let of_later_cards = [AcrossAccepted, PairsByByte, BareInLogUnknown].map(|error| error as u64);
     first_of_logs.contains(&number) || of_later_cards.contains(&number)
 }
 

@@ -5,7 +5,7 @@ use crate::damage::{self, Damaged};
 use crate::printed;
 use crate::small::accepted;
 use crate::tally::{SECOND_SHARE, Tally};
-use crate::{Failure, circuits, demands, editions, inward, marks, spelling, usable};
+use crate::{Failure, bare, circuits, demands, editions, inward, marks, spelling, usable};
 use second::REPORT_BYTES;
 use sheets::{Edition, Layout, Network, Random, SITES};
 use std::cell::Cell;
@@ -42,7 +42,7 @@ impl Case {
         let mut random = Random::new(start);
         let is_second = index % SECOND_SHARE == SECOND_SHARE - 1;
         let edition = Edition::ALL[usize::from(is_second)];
-        let (sheet, kind) = if random.below(5) < 2 {
+        let (sheet, kind) = if random.below(8) < 3 {
             let network = tree(edition, &mut random);
             let sheet = network.sheet(Layout::any(&mut random), &mut random);
             (sheet, Kind::Tree(network))
@@ -67,6 +67,7 @@ impl Case {
                 tally.odd += u64::from(checked.odd_pieces > 0);
                 tally.reserved += u64::from(usable::compare(planners, &self.sheet)?);
                 tally.marked += u64::from(marks::compare(planners, &self.sheet)?);
+                bare::check(&self.sheet, None)?;
                 tally.outcomes[0] += 1;
                 tally.spelt[0] += u64::from(spelling::matters(&self.sheet, None));
                 tally.solved += u64::from(solve);
@@ -195,12 +196,11 @@ impl Case {
         }
     }
 
-    /// Whether a refusal is for a line that starts with `T`.
-    fn is_for_marked(&self, refusal: Option<(u8, u32)>) -> bool {
+    /// The line that a refusal is for, if it is for one.
+    fn refused_line(&self, refusal: Option<(u8, u32)>) -> Option<&[u8]> {
+        let place = refusal.and_then(|(_, line)| line.checked_sub(1))?;
         let mut lines = self.sheet.split(|&byte| byte == b'\n');
-        let place = refusal.and_then(|(_, line)| line.checked_sub(1));
-        let line = place.and_then(|place| lines.nth(place as usize));
-        line.is_some_and(|line| line.starts_with(b"T"))
+        lines.nth(place as usize)
     }
 
     fn check_damaged(
@@ -227,7 +227,13 @@ impl Case {
         tally.see_edition(&self.sheet, answer.map_or(0, |(number, _)| number));
         let outcome = answer.map_or(0, |(number, _)| usize::from(number));
         tally.outcomes[outcome] += 1;
-        tally.marked_lines[outcome] += u64::from(self.is_for_marked(answer));
+        if let Some(line) = self.refused_line(answer) {
+            tally.marked_lines[outcome] += u64::from(line.starts_with(b"T"));
+            tally.bare_lines[outcome] += u64::from(bare::is_on(line));
+        }
+        if let Some(bare) = bare::check(&self.sheet, answer)? {
+            tally.bare_names[bare as usize] += 1;
+        }
         tally.spelt[outcome] += u64::from(spelling::matters(&self.sheet, answer));
         if refusal.is_some() && answer != refusal {
             return Err(format!(

@@ -5,6 +5,7 @@ use crate::compare::{Answer, LIST_PLACES, Planners};
 use crate::exact::{self, Fraction};
 use crate::{Failure, circuits, demands, editions, inward, marks, search, usable};
 use second::REPORT_BYTES;
+use sheets::bare;
 use sheets::cases::{self, Due};
 use sheets::{Edition, Layout, Names, Network, Random, SHAPES, Sizes, Spelling};
 use sheets::{headings, marks as site_lines, order, prufer_links, reserve, tried, whole};
@@ -90,7 +91,7 @@ fn tried_orders(planners: &mut Planners) -> Result<(), Failure> {
 /// Both planners on small sheets with names in either case, of two sites and a link each, against
 /// what is due by the words of the card.
 pub fn names_in_either_case() -> Result<(), Failure> {
-    let mut planners = Planners::new();
+    let mut planners = Planners::with_room(ROOM);
     let count = cases::every_sheet(|sheet, due| of_both(&mut planners, sheet, due))?;
     println!(
         "names in either case: {count} sheets of two sites of both editions, answers by the words of the card"
@@ -101,7 +102,7 @@ pub fn names_in_either_case() -> Result<(), Failure> {
 /// Both planners on small sheets with reserves, of two sites and a link line each, against what is due
 /// by the words of the card.
 pub fn reserves() -> Result<(), Failure> {
-    let mut planners = Planners::new();
+    let mut planners = Planners::with_room(ROOM);
     let count = reserve::every_sheet(|sheet, due| of_both(&mut planners, sheet, due))?;
     println!(
         "reserves: {count} sheets of two sites of both editions, answers by the words of the card"
@@ -112,10 +113,23 @@ pub fn reserves() -> Result<(), Failure> {
 /// Both planners on small sheets with site lines of either letter, against what is due by the words of
 /// the card.
 pub fn site_lines() -> Result<(), Failure> {
-    let mut planners = Planners::new();
+    let mut planners = Planners::with_room(ROOM);
     let count = site_lines::every_sheet(|sheet, due| of_both(&mut planners, sheet, due))?;
     println!(
         "marks: {count} sheets of two sites of both editions, answers by the words of the card"
+    );
+    Ok(())
+}
+
+/// Both planners on small sheets with bare numbers and other texts in the place of names, against what is due by
+/// the words of the card.
+pub fn bare_numbers() -> Result<(), Failure> {
+    let start = Instant::now();
+    let mut planners = Planners::with_room(ROOM);
+    let count = bare::every_sheet(|sheet, due| of_both(&mut planners, sheet, due))?;
+    println!(
+        "bare numbers: {count} sheets of two sites of both editions in {:.1} s, answers by the words of the card",
+        start.elapsed().as_secs_f64()
     );
     Ok(())
 }
@@ -172,7 +186,7 @@ fn two_sites(planners: &mut Planners, sheet: &[u8], due: &Due) -> Result<(), Str
         Due::Report(report) => report,
         Due::Refused(number, line) => return refused(planners, sheet, (*number, *line)),
     };
-    match planners.plan(sheet, REPORT_BYTES)? {
+    match planners.plan(sheet, planners.room())? {
         Answer::Report(answer) if answer == report => (),
         answer => {
             return Err(format!(
@@ -190,7 +204,7 @@ fn two_sites(planners: &mut Planners, sheet: &[u8], due: &Due) -> Result<(), Str
 
 /// Both planners on a sheet that must be refused.
 fn refused(planners: &mut Planners, sheet: &[u8], due: (u8, u32)) -> Result<(), String> {
-    match planners.plan(sheet, REPORT_BYTES)? {
+    match planners.plan(sheet, planners.room())? {
         Answer::Refused(number, line) if (number, line) == due => (),
         answer => {
             return Err(format!(
@@ -198,7 +212,7 @@ fn refused(planners: &mut Planners, sheet: &[u8], due: (u8, u32)) -> Result<(), 
             ));
         }
     }
-    match planners.whole(sheet, REPORT_BYTES)? {
+    match planners.whole(sheet, planners.room())? {
         Answer::Refused(number, line) if (number, line) == due => (),
         answer => {
             return Err(format!(

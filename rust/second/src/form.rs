@@ -1,9 +1,9 @@
 //! What is off in a line of the wrong form.
 //!
 //! Lines are read by `network` as if they were right. One that is not is looked at here once
-//! more, slowly, to tell the first of its faults in the order 2, 10, 11, 12.
+//! more, slowly, to tell the first of its faults in the order 2, 10, 11, 17, 12.
 
-use crate::names::NAME_BYTES;
+use crate::names::{Name, Place};
 use crate::planted::{Error, planted};
 use std::ops::{Range, RangeInclusive};
 
@@ -11,6 +11,7 @@ const LETTER_OR_ENDING: u8 = 2;
 const FIELD_COUNT: u8 = 10;
 const BAD_NAME: u8 = 11;
 const BAD_NUMBER: u8 = 12;
+const BARE_NUMBER: u8 = 17;
 
 /// Where the names of a line with a letter stand among its fields, and how many fields it may have.
 /// What stands behind the names are numbers.
@@ -40,23 +41,58 @@ pub fn fault(rest: &[u8]) -> u8 {
     };
     if planted(Error::NamesBeforeCount) {
         let mut names = fields.iter().take(names.end).skip(names.start);
-        if !names.all(|name| is_name(name)) {
+        if !names.all(|name| Name::of_field(name).is_some()) {
             return BAD_NAME;
         }
     }
     if !counts.contains(&fields.len()) {
         return FIELD_COUNT;
     }
-    if !fields[names.clone()].iter().all(|name| is_name(name)) {
-        let is_planted = planted(Error::SecondNameAsNumber) && is_name(fields[1]);
-        return if is_planted { BAD_NUMBER } else { BAD_NAME };
-    }
-    // No other fault of form is left.
-    let has_leading_zero = |number: &&[u8]| number.len() > 1 && number.starts_with(b"0");
-    if planted(Error::LeadingZeroAsLarge) && fields[names.end..].iter().any(has_leading_zero) {
+    let place = match fields[0] {
+        b"L" => Place::Link,
+        _ => |_| Place::Site,
+    };
+    let numbers = &fields[names.end..];
+    let number = fault_of_fields(&fields[names], numbers, place);
+    if planted(Error::LeadingZeroAsLarge)
+        && number == BAD_NUMBER
+        && numbers.iter().any(|number| has_leading_zero(number))
+    {
         return 3;
     }
+    number
+}
+
+/// The number of the first fault in the names and the numbers of a line, which must have one: all names
+/// are looked at for 11, then all for 17, and then the numbers for 12.
+#[cold]
+pub fn fault_of_fields(names: &[&[u8]], numbers: &[&[u8]], place: fn(usize) -> Place) -> u8 {
+    let names: Vec<Option<Name>> = names.iter().map(|name| Name::of_field(name)).collect();
+    let is_bare =
+        |(nth, name): (usize, &Option<Name>)| name.is_some_and(|it| it.is_bare(place(nth)));
+    let has_bare = names.iter().enumerate().any(is_bare);
+    if planted(Error::BareBeforeBad) && has_bare {
+        return BARE_NUMBER;
+    }
+    if names.contains(&None) {
+        let is_planted = planted(Error::SecondNameAsNumber) && names[0].is_some();
+        return if is_planted { BAD_NUMBER } else { BAD_NAME };
+    }
+    let is_late = planted(Error::BareAfterNumber) && !numbers.iter().all(|it| is_number(it));
+    if has_bare && !is_late {
+        return BARE_NUMBER;
+    }
+    // No other fault of form is left.
     BAD_NUMBER
+}
+
+fn has_leading_zero(number: &[u8]) -> bool {
+    number.len() > 1 && number.starts_with(b"0")
+}
+
+/// Whether a number is well written, for an error that can be planted.
+fn is_number(field: &[u8]) -> bool {
+    !field.is_empty() && field.iter().all(u8::is_ascii_digit) && !has_leading_zero(field)
 }
 
 /// The fault of a line that no byte 10 ends, whatever else is wrong with it.
@@ -70,10 +106,6 @@ fn unended(line: &[u8]) -> u8 {
     }
 }
 
-fn is_name(field: &[u8]) -> bool {
-    (1..=NAME_BYTES).contains(&field.len()) && field.iter().all(u8::is_ascii_alphanumeric)
-}
-
 #[cfg(test)]
 mod tests {
     use crate::{Outcome, plan};
@@ -85,16 +117,21 @@ mod tests {
                 && name.len() <= 12
                 && name.chars().all(|it| it.is_ascii_alphanumeric())
         };
-        let is_number = |number: &str| {
-            let is_decimal = !number.is_empty() && number.chars().all(|it| it.is_ascii_digit());
-            is_decimal && (number == "0" || !number.starts_with('0'))
-        };
+        let is_bare = |text: &str| !text.is_empty() && text.chars().all(|it| it.is_ascii_digit());
+        let is_number =
+            |number: &str| is_bare(number) && (number == "0" || !number.starts_with('0'));
         match line.split('\t').collect::<Vec<_>>()[..] {
             ["N" | "T", name] if !is_name(name) => 11,
+            ["N" | "T", name] if is_bare(name) => 17,
             ["L", first, second, _] | ["L", first, second, _, _]
                 if !is_name(first) || !is_name(second) =>
             {
                 11
+            }
+            ["L", first, second, _] | ["L", first, second, _, _]
+                if is_bare(first) || is_bare(second) =>
+            {
+                17
             }
             ["L", _, _, size] if !is_number(size) => 12,
             ["L", _, _, size, reserve] if !is_number(size) || !is_number(reserve) => 12,

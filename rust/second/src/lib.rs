@@ -12,8 +12,8 @@
 //! | module | step |
 //! |---|---|
 //! | `edition` | tells the edition of a sheet, which has the limits |
-//! | `network` | reads the sheet: sites, links, refusals 1 to 8 and 10 to 13 |
-//! | `form` | tells what is off in a line of the wrong form: refusals 2, 10, 11, 12 |
+//! | `network` | reads the sheet: sites, links, refusals 1 to 8, 10 to 13 and 17 |
+//! | `form` | tells what is off in a line of the wrong form: refusals 2, 10, 11, 17, 12 |
 //! | `names` | finds a site by its name, in either case |
 //! | `neighbours` | lists the neighbours of every site |
 //! | `tree` | roots the tree by taking off its leaves, and its parts |
@@ -88,7 +88,7 @@ pub enum Outcome {
     },
     /// There is none, and the buffer or list is as it was.
     Refused {
-        /// The number of the cause, 1 to 13.
+        /// The number of the cause, 1 to 13 or 17.
         number: u8,
         /// The line at fault, from 1, or 0 when no line is.
         line: u32,

@@ -10,13 +10,15 @@ use crate::{PLACES, Site};
 pub struct Name(u128);
 
 /// The most bytes a name may have.
-pub const NAME_BYTES: usize = 12;
+const NAME_BYTES: usize = 12;
 
 const EVERY_BYTE: u128 = u128::MAX / 0xff;
 const HIGH_BITS: u128 = EVERY_BYTE * 0x80;
 /// In a letter this bit alone tells small from capital. All digits have it, so that without it they
 /// still differ from each other and from letters.
 const CASE_BIT: u128 = 0x20;
+/// All letters have this bit, and no digit has it.
+const LETTER_BIT: u128 = 0x40;
 
 /// The high bit of every byte of `bytes` that lies in `low..=high`, both below 128. The bytes
 /// themselves must be below 128.
@@ -45,6 +47,21 @@ impl Name {
         }
         let kept = u128::MAX >> (128 - 8 * length);
         Some((Name(word & kept), length))
+    }
+
+    /// The name that a field is, if it is one.
+    #[cold]
+    pub fn of_field(field: &[u8]) -> Option<Name> {
+        let mut bytes = [0; 16];
+        bytes.get_mut(..field.len())?.copy_from_slice(field);
+        let (name, length) = Name::at_start(bytes)?;
+        (length == field.len()).then_some(name)
+    }
+
+    /// Whether it is a bare number, one of digits alone, which may not stand there.
+    #[inline]
+    pub fn is_bare(self, place: Place) -> bool {
+        self.0 & telling_letters(self) == 0 && !place.accepts_bare()
     }
 
     /// The bytes of the name, followed by zero bytes.
@@ -98,6 +115,47 @@ fn telling() -> u128 {
         return EVERY_BYTE * 0x1f;
     }
     !(EVERY_BYTE * CASE_BIT)
+}
+
+/// The bits of which a name has one if it is not one of digits alone.
+#[inline(always)]
+fn telling_letters(name: Name) -> u128 {
+    let starts_with_zero = name.0 & 0xff == u128::from(b'0');
+    if planted(Error::LeadingZeroBare) && starts_with_zero && name.length() > 1 {
+        return u128::MAX;
+    }
+    if planted(Error::FirstByteAlone) {
+        return LETTER_BIT;
+    }
+    if planted(Error::LastByteAlone) {
+        return LETTER_BIT << (8 * (name.length() - 1));
+    }
+    EVERY_BYTE * LETTER_BIT
+}
+
+/// Where a name stands. It makes no difference but to errors that can be planted.
+#[derive(Clone, Copy, PartialEq, Eq)]
+pub enum Place {
+    /// On the line of a site.
+    Site,
+    /// On a link line: its first name is 0, its second 1.
+    Link(usize),
+    /// On a line of a log, likewise.
+    Log(usize),
+}
+
+impl Place {
+    /// Whether bare numbers may stand there.
+    #[inline(always)]
+    fn accepts_bare(self) -> bool {
+        let accepts = match self {
+            Place::Site => planted(Error::BareInLogsAlone),
+            Place::Link(_) => planted(Error::BareInLogsAlone) || planted(Error::BareOnSitesAlone),
+            Place::Log(_) => planted(Error::BareOnSitesAlone) || planted(Error::BareInLogUnknown),
+        };
+        let is_second = matches!(self, Place::Link(1) | Place::Log(1));
+        accepts || planted(Error::BareAccepted) || (planted(Error::SecondBareAccepted) && is_second)
+    }
 }
 
 const SLOT_BITS: u32 = 10;
@@ -188,6 +246,40 @@ mod tests {
             if let Some((name, taken_length)) = taken {
                 assert_eq!(taken_length, length);
                 assert_eq!(name.bytes()[..length], b"Zz09AaMmNn55Qq77"[..length]);
+            }
+        }
+    }
+
+    #[test]
+    fn a_field_is_a_name_or_not() {
+        for length in 0..40 {
+            let field = &[b'z'; 40][..length];
+            let name = Name::of_field(field);
+            assert_eq!(name.is_some(), (1..=12).contains(&length));
+            for place in 0..length {
+                let mut other = field.to_vec();
+                other[place] = *b"\0 /:@[`{\x80\xb0".get(place % 10).expect("there are ten");
+                assert!(Name::of_field(&other).is_none(), "{other:?}");
+            }
+        }
+    }
+
+    /// Digits alone are a bare number, however many they are and whatever they start with; with a letter
+    /// at any place they are none.
+    #[test]
+    fn digits_alone_are_a_bare_number() {
+        for digit in b'0'..=b'9' {
+            for length in 1..=12 {
+                let mut text = [digit; 12];
+                text[length - 1] = b'9' + b'0' - digit;
+                assert!(name(&text[..length]).is_bare(Place::Site));
+                for place in 0..length {
+                    for letter in (0..=u8::MAX).filter(u8::is_ascii_alphabetic) {
+                        let mut text = text;
+                        text[place] = letter;
+                        assert!(!name(&text[..length]).is_bare(Place::Link(1)));
+                    }
+                }
             }
         }
     }

@@ -2,7 +2,7 @@
 
 use crate::edition::Edition;
 use crate::form;
-use crate::names::{Found, Name, NameTable};
+use crate::names::{Found, Name, NameTable, Place};
 use crate::planted::{Error, planted};
 use crate::{CAPACITY, PLACES, Refusal, Site};
 
@@ -142,7 +142,7 @@ impl<'sheet> Network<'sheet> {
         table: &mut NameTable,
         is_marked: bool,
     ) -> Result<usize, Fault> {
-        let (name, next) = read_name(self.sheet, start + 2, b'\n')?;
+        let (name, next) = read_name(self.sheet, start + 2, b'\n', Place::Site)?;
         if self.site_count == self.edition.sites {
             return Err(TOO_MANY_SITES);
         }
@@ -169,8 +169,8 @@ impl<'sheet> Network<'sheet> {
         table: &NameTable,
         joined: &mut JoinedSites,
     ) -> Result<usize, Fault> {
-        let (first_name, position) = read_name(self.sheet, start + 2, b'\t')?;
-        let (second_name, position) = read_name(self.sheet, position, b'\t')?;
+        let (first_name, position) = read_name(self.sheet, start + 2, b'\t', Place::Link(0))?;
+        let (second_name, position) = read_name(self.sheet, position, b'\t', Place::Link(1))?;
         let (size, reserve, next) = read_sizes(self.sheet, position)?;
         let found = (
             table.find(&self.names, first_name, Error::LinksByBytes),
@@ -311,12 +311,17 @@ fn load_tail<const COUNT: usize>(sheet: &[u8], position: usize) -> [u8; COUNT] {
     bytes
 }
 
-/// Reads a name that `after` follows; returns it and the position past `after`.
+/// Reads a name, no bare number, that `after` follows; returns it and the position past `after`.
 #[inline(always)]
-pub fn read_name(sheet: &[u8], position: usize, after: u8) -> Result<(Name, usize), Fault> {
+pub fn read_name(
+    sheet: &[u8],
+    position: usize,
+    after: u8,
+    place: Place,
+) -> Result<(Name, usize), Fault> {
     let bytes = load::<16>(sheet, position);
     let (name, length) = Name::at_start(bytes).ok_or(Fault::Form)?;
-    if bytes[length] == after {
+    if bytes[length] == after && !name.is_bare(place) {
         Ok((name, position + length + 1))
     } else {
         Err(Fault::Form)

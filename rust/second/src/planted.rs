@@ -1,6 +1,6 @@
 //! Errors planted on purpose.
 //!
-//! With the feature `planted` one of eighty errors can be switched on, to show that the comparison
+//! With the feature `planted` one of ninety errors can be switched on, to show that the comparison
 //! of the planners finds it. Without the feature none of this reaches the compiled planner.
 
 /// An error that can be planted, numbered from 1.
@@ -166,10 +166,30 @@ pub enum Error {
     OrderedByByte = 79,
     /// Open pairs are told apart by the low eight bits of the numbers of their sites.
     PairsByByte = 80,
+    /// Names of digits alone are accepted, as before the card on them.
+    BareAccepted = 81,
+    /// A name of digits alone is told before a bad name.
+    BareBeforeBad = 82,
+    /// Of a name the first byte alone is looked at for a digit.
+    FirstByteAlone = 83,
+    /// Site lines alone are looked at for names of digits alone.
+    BareOnSitesAlone = 84,
+    /// A badly written number is told before a name of digits alone.
+    BareAfterNumber = 85,
+    /// A second name may be one of digits alone.
+    SecondBareAccepted = 86,
+    /// Logs alone are looked at for names of digits alone.
+    BareInLogsAlone = 87,
+    /// A name of digits alone with a leading zero, as it is no number, is accepted.
+    LeadingZeroBare = 88,
+    /// Of a name the last byte alone is looked at for a digit.
+    LastByteAlone = 89,
+    /// A name of digits alone in a log is told as one that is no end.
+    BareInLogUnknown = 90,
 }
 
 /// All errors, in the order of their numbers.
-pub const ERRORS: [Error; 80] = [
+pub const ERRORS: [Error; 90] = [
     Error::RoundedHalf,
     Error::HighestRoot,
     Error::UpwardSets,
@@ -250,6 +270,16 @@ pub const ERRORS: [Error; 80] = [
     Error::SecondUnknown,
     Error::OrderedByByte,
     Error::PairsByByte,
+    Error::BareAccepted,
+    Error::BareBeforeBad,
+    Error::FirstByteAlone,
+    Error::BareOnSitesAlone,
+    Error::BareAfterNumber,
+    Error::SecondBareAccepted,
+    Error::BareInLogsAlone,
+    Error::LeadingZeroBare,
+    Error::LastByteAlone,
+    Error::BareInLogUnknown,
 ];
 
 #[cfg(feature = "planted")]

@@ -4,7 +4,8 @@
 //! answer: 0, or the number of the first cause against it.
 
 use crate::edition::Edition;
-use crate::names::{NAME_BYTES, Name, NameTable};
+use crate::form;
+use crate::names::{Name, NameTable, Place};
 use crate::network::{Network, load, read_name, read_number};
 use crate::planted::{Error, planted};
 use crate::tree::RootedTree;
@@ -47,8 +48,6 @@ const AMOUNT_RANGE: u8 = 3;
 const NOT_FREE_ENDS: u8 = 6;
 const LIST_TOO_SHORT: u8 = 9;
 const FIELD_COUNT: u8 = 10;
-const BAD_NAME: u8 = 11;
-const BAD_NUMBER: u8 = 12;
 const LESS_OPEN: u8 = 14;
 const OVERFILLED: u8 = 15;
 const NO_PLACE: u8 = 16;
@@ -333,8 +332,8 @@ fn read_fields(log: &[u8], start: usize) -> Option<(bool, [Name; 2], u32, usize)
         [b'-', b'\t'] => false,
         _ => return None,
     };
-    let (first, position) = read_name(log, start + 2, b'\t').ok()?;
-    let (second, position) = read_name(log, position, b'\t').ok()?;
+    let (first, position) = read_name(log, start + 2, b'\t', Place::Log(0)).ok()?;
+    let (second, position) = read_name(log, position, b'\t', Place::Log(1)).ok()?;
     let (halves, after, next) = read_number(log, position).ok()?;
     (after == b'\n').then_some((opens, [first, second], halves, next))
 }
@@ -347,16 +346,13 @@ fn form_fault(rest: &[u8], start: usize) -> (Result<Request, u8>, usize) {
     };
     let fields: Vec<&[u8]> = rest[..length].split(|&byte| byte == b'\t').collect();
     let number = match fields[..] {
-        [b"+" | b"-", first, second, _] if is_name(first) && is_name(second) => BAD_NUMBER,
-        [b"+" | b"-", _, _, _] => BAD_NAME,
+        [b"+" | b"-", first, second, amount] => {
+            form::fault_of_fields(&[first, second], &[amount], Place::Log)
+        }
         [b"+" | b"-", ..] => FIELD_COUNT,
         _ => LETTER_OR_ENDING,
     };
     (Err(number), start + length + 1)
-}
-
-fn is_name(field: &[u8]) -> bool {
-    (1..=NAME_BYTES).contains(&field.len()) && field.iter().all(u8::is_ascii_alphanumeric)
 }
 
 /// Goes along the path between two sites, up from both to where they meet, as long as `see` says so of

@@ -34,7 +34,7 @@ fn every_heading_and_length() {
         assert_eq!(answer(whole, sheet), due.in_whole_circuits());
         Ok::<(), ()>(())
     });
-    assert_eq!(count, Ok(44 * (8 + 8 * 10)));
+    assert_eq!(count, Ok(44 * (8 + 8 * 11)));
 }
 
 #[test]

@@ -1,6 +1,7 @@
 //! Booking logs, against answers written out by hand and those due by the words of the card.
 
 use second::{LOG_LINES, Replayed, replay};
+use sheets::bare;
 use sheets::ledger::{check, due, is_too_long};
 use sheets::logs::{Case, case, every_small_log};
 use sheets::replay::TRIED;
@@ -116,7 +117,13 @@ fn compare(case: &Case) -> Result<(), String> {
 #[test]
 fn every_log_of_three_lines() {
     let count = every_small_log(3, compare);
-    assert_eq!(count, Ok(7 * (20 * 20 * 20 + 20 * 20 + 20 + 1 + 19 * 421)));
+    assert_eq!(count, Ok(7 * (21 * 21 * 21 + 21 * 21 + 21 + 1 + 20 * 463)));
+}
+
+#[test]
+fn every_pair_of_short_names() {
+    let count = bare::every_log(compare);
+    assert_eq!(count, Ok((85 * 85 + 2 * 814) * 8));
 }
 
 #[test]

@@ -1,5 +1,5 @@
-//! Every error planted in the reading or the spelling of names, in reserves, in marks, or in editions gives
-//! another answer than that written out by hand on one of the sheets to try.
+//! Every error planted in the reading or the spelling of names, in reserves, in marks, in editions, or in bare
+//! numbers as names gives another answer than that written out by hand on one of the sheets to try.
 
 #![cfg(feature = "planted")]
 
@@ -42,13 +42,15 @@ fn all_as_written() -> bool {
 }
 
 #[test]
-fn errors_of_names_reserves_marks_and_editions_are_errors() {
+fn errors_of_sheets_are_errors() {
     assert!(all_as_written());
     let number = |error: Error| error as usize;
     let of_names_and_reserves = number(Error::TypedNames)..number(Error::FirstLinkOnly);
     let of_marks = number(Error::MarkedTrimmed)..number(Error::AcrossAccepted);
     let of_editions = number(Error::SecondForAll)..number(Error::PairsByByte);
-    for number in of_names_and_reserves.chain(of_marks).chain(of_editions) {
+    let of_bare_numbers = number(Error::BareAccepted)..number(Error::BareInLogUnknown);
+    let of_cards = of_names_and_reserves.chain(of_marks).chain(of_editions);
+    for number in of_cards.chain(of_bare_numbers) {
         let error = ERRORS[number - 1];
         plant(error);
         assert!(!all_as_written(), "{error:?}");

@@ -48,7 +48,11 @@ fn errors_of_logs_are_errors() {
         .collect();
     assert!(cases.iter().all(|(case, due)| is_right(case, due)));
     let of_logs = &ERRORS[Error::FirstLinkOnly as usize - 1..Error::UnendedLeftOut as usize];
-    let of_later_cards = [Error::AcrossAccepted, Error::PairsByByte];
+    let of_later_cards = [
+        Error::AcrossAccepted,
+        Error::PairsByByte,
+        Error::BareInLogUnknown,
+    ];
     for &error in of_logs.iter().chain(&of_later_cards) {
         plant(error);
         let found = cases.iter().position(|(case, due)| !is_right(case, due));

@@ -4,7 +4,7 @@ use second::{Outcome, REPORT_BYTES, SITES, order, order_lines, pair_lines, plan,
 use sheets::cases::{self, Due};
 use sheets::tried::{ACCEPTED, largest_sums, largest_sums_printed, refused, star};
 use sheets::whole::TRIED;
-use sheets::{Edition, Layout, Network, Random, marks, reserve};
+use sheets::{Edition, Layout, Network, Random, bare, marks, reserve};
 
 type Planner = fn(&[u8], &mut [u8]) -> Outcome;
 
@@ -229,13 +229,19 @@ fn every_small_sheet_in_either_case() {
 #[test]
 fn every_small_sheet_with_reserves() {
     let count = reserve::every_sheet(is_due_of_both);
-    assert_eq!(count, Ok(24 * 25 * 25 * 2 + 24 * 24 * 3));
+    assert_eq!(count, Ok(24 * 25 * 36 * 2 + 24 * 24 * 3));
 }
 
 #[test]
 fn every_small_sheet_with_marks() {
     let count = marks::every_sheet(is_due_of_both);
-    assert_eq!(count, Ok(2 * 14 * 22 * 6));
+    assert_eq!(count, Ok(2 * 14 * 28 * 6));
+}
+
+#[test]
+fn every_small_sheet_with_bare_numbers() {
+    let count = bare::every_sheet(is_due_of_both);
+    assert_eq!(count, Ok((85 + 814) * 4 + (85 * 85 + 2 * 814) * 5));
 }
 
 /// A mark makes no difference to the order of work, and none at all at a site with one link.
@@ -297,7 +303,9 @@ fn every_byte_as_a_name() {
     for other in bytes {
         for given in (0..=u8::MAX).filter(u8::is_ascii_alphanumeric) {
             let is_same = given.eq_ignore_ascii_case(&other);
+            let has_bare = given.is_ascii_digit() || other.is_ascii_digit();
             let due = match (other.is_ascii_alphanumeric(), is_same) {
+                _ if has_bare => [17, 17],
                 (false, _) => [11, 11],
                 (true, true) => [5, 0],
                 (true, false) => [8, 6],

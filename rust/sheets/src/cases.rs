@@ -1,6 +1,7 @@
 //! Names in either case: spellings, and small sheets over a few names with what is due by the words
 //! of the card.
 
+use crate::bare::is_bare;
 use crate::tried::tabbed;
 use crate::{Edition, Random};
 
@@ -44,6 +45,23 @@ pub enum Due {
 }
 
 impl Due {
+    /// The report on two sites and a link that names them in either order, with a usable size. Nothing is
+    /// trimmed, and the ends are the same whatever is marked.
+    pub(crate) fn of_two_sites(sites: [&str; 2], link: [&str; 2], usable: u32) -> Due {
+        let [first, second] = sites;
+        let [from, to] = link;
+        let halves = 2 * usable;
+        let pair = match usable {
+            0 => String::new(),
+            _ => format!("P {first} {second} {halves}\n"),
+        };
+        Due::Report(tabbed(&format!(
+            "plan {halves} {}\nL {from} {to} {usable} {usable}\nN {first} {first}\nN {second} {second}\n\
+             X {first} {usable} 1\nX {second} {usable} 1\n{pair}",
+            u8::from(usable > 0)
+        )))
+    }
+
     /// What is due in whole circuits of a sheet with two sites, where nothing is left free: the same
     /// but for the heading and the number of odd pieces, which is 0.
     #[must_use]
@@ -111,10 +129,19 @@ fn sheet(sites: [&str; 2], link: [&str; 2]) -> Vec<u8> {
     [Edition::One.heading(), &tabbed(&lines)].concat()
 }
 
-/// What is due of it. Two names are the same if they agree when a-z is read as A-Z.
+/// What is due of it. Two names are the same if they agree when a-z is read as A-Z; none is a bare number.
 fn due(sites: [&str; 2], link: [&str; 2]) -> Due {
+    if is_bare(sites[0].as_bytes()) {
+        return Due::Refused(17, 2);
+    }
+    if is_bare(sites[1].as_bytes()) {
+        return Due::Refused(17, 3);
+    }
     if sites[0].eq_ignore_ascii_case(sites[1]) {
         return Due::Refused(5, 3);
+    }
+    if link.iter().any(|name| is_bare(name.as_bytes())) {
+        return Due::Refused(17, 4);
     }
     let site = |name: &str| {
         sites
@@ -127,9 +154,5 @@ fn due(sites: [&str; 2], link: [&str; 2]) -> Due {
     if from == to {
         return Due::Refused(7, 4);
     }
-    let [first, second] = sites;
-    Due::Report(tabbed(&format!(
-        "plan 2 1\nL {from} {to} 1 1\nN {first} {first}\nN {second} {second}\n\
-         X {first} 1 1\nX {second} 1 1\nP {first} {second} 2\n"
-    )))
+    Due::of_two_sites(sites, [from, to], 1)
 }

@@ -64,12 +64,13 @@ const LENGTHS: [usize; 8] = [
 
 /// Lines behind the first: texts between which one byte over and over makes up the length of the sheet, and
 /// the refusal that such lines get.
-const LONG: [(&str, u8, &str, (u8, u32)); 8] = [
+const LONG: [(&str, u8, &str, (u8, u32)); 9] = [
     ("\n", b'\n', "", (2, 2)),
     ("\nN a\nN b\nL a b 4\nL a b ", b'7', "\n", (3, 5)),
     ("\nN a\nN b\nL a b 4\nL a b ", b'7', "", (2, 5)),
     ("\nN a\nN b\nL a b 4\nL a b ", b'7', "x\n", (12, 5)),
     ("\nN a\nN b\nL a b 4\nN ", b'c', "\n", (11, 5)),
+    ("\nN a\nN b\nL a b 4\nT ", b'7', "\n", (11, 5)),
     ("\nN a\nN b\nL a b 4\nT ", b'\t', "\n", (10, 5)),
     ("\nN a\nN b\nN a\nN ", b'c', "", (5, 4)),
     ("\nN a\nN b\nL a b 4\nnetwork 2", b'\n', "\n", (2, 5)),

@@ -3,6 +3,7 @@
 //! Slow and plain, and with nothing of a planner: a link lies on the path between two sites if
 //! they are no longer joined without it.
 
+use crate::bare::{fault_of_names, is_bare};
 use crate::{Network, SIZE};
 use std::collections::{BTreeMap, HashMap};
 
@@ -112,8 +113,8 @@ impl Ledger {
         let [letter, first, second, amount] = fields[..] else {
             return Err(10);
         };
-        if !is_name(first) || !is_name(second) {
-            return Err(11);
+        if let Some(number) = fault_of_names(&[first, second]) {
+            return Err(number.into());
         }
         if !is_number(amount) {
             return Err(12);
@@ -285,13 +286,8 @@ fn sides(network: &Network) -> Vec<Vec<bool>> {
     network.links.iter().enumerate().map(side).collect()
 }
 
-fn is_name(field: &[u8]) -> bool {
-    (1..=12).contains(&field.len()) && field.iter().all(u8::is_ascii_alphanumeric)
-}
-
 fn is_number(field: &[u8]) -> bool {
-    let is_decimal = !field.is_empty() && field.iter().all(u8::is_ascii_digit);
-    is_decimal && (field == b"0" || field[0] != b'0')
+    is_bare(field) && (field == b"0" || field[0] != b'0')
 }
 
 /// How often loads are worked out anew: after every line of a log with so few lines, after some lines of

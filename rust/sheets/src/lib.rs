@@ -3,6 +3,7 @@
 
 #![forbid(unsafe_code)]
 
+pub mod bare;
 pub mod cases;
 mod edition;
 pub mod headings;

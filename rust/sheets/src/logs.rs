@@ -3,6 +3,7 @@
 //! They fill links and empty them, open as many pairs as may be open together, and have lines with
 //! faults of every kind.
 
+use crate::bare::bare_number;
 use crate::cases::in_either_case;
 use crate::ledger::{AMOUNT, LOG_BYTES, LOG_LINES, Ledger, OPEN_PAIRS, lines};
 use crate::{
@@ -243,9 +244,11 @@ impl<'case> Writer<'case> {
     }
 
     fn piece_of_name(&mut self, end: usize) -> Vec<u8> {
-        const BAD: [&[u8]; 9] = [
+        const BAD: [&[u8]; 11] = [
             b"",
             b"abcdefghijklm",
+            b"0123456789012",
+            b"40~",
             b"a b",
             b"a-",
             b"\0",
@@ -254,7 +257,7 @@ impl<'case> Writer<'case> {
             b"@",
             b"[`{/:",
         ];
-        const UNKNOWN: [&[u8]; 5] = [b"zq9zq9", b"0", b"Q", b"abcdefghijkl", b"7777"];
+        const UNKNOWN: [&[u8]; 5] = [b"zq9zq9", b"0q", b"Q", b"abcdefghijkl", b"7777x"];
         match self.random.below(16) {
             0 | 1 => self.random.pick(&BAD).to_vec(),
             2 => self.random.pick(&UNKNOWN).to_vec(),
@@ -265,6 +268,7 @@ impl<'case> Writer<'case> {
             }
             // An end, and maybe both names the same one.
             5 => self.name(self.ends[0]),
+            6 => bare_number(self.random),
             _ => self.name(end),
         }
     }
@@ -487,13 +491,13 @@ fn all_pairs(ends: &[usize]) -> Vec<[usize; 2]> {
     (0..ends.len()).flat_map(pairs).collect()
 }
 
-/// A name of one or two bytes for each site, so that many lines fit into a log.
+/// A name of one or two bytes for each site, so that many lines fit into a log. Each starts with a letter.
 fn short_names(network: &mut Network) {
-    const DIGITS: &[u8; 36] = b"0123456789ABCDEFGHIJKLMNOPQRSTUVWXYZ";
+    const LETTERS: &[u8; 36] = b"ABCDEFGHIJKLMNOPQRSTUVWXYZ0123456789";
     for (number, name) in network.names.iter_mut().enumerate() {
         *name = match number {
-            0..36 => vec![DIGITS[number]],
-            _ => vec![DIGITS[number / 36], DIGITS[number % 36]],
+            0..26 => vec![LETTERS[number]],
+            _ => vec![LETTERS[(number - 26) / 36], LETTERS[(number - 26) % 36]],
         };
     }
 }
@@ -609,7 +613,7 @@ pub fn every_small_log<Failure>(
 }
 
 /// The lines that small logs have.
-const LINES: [&str; 20] = [
+const LINES: [&str; 21] = [
     "+ a b 1",
     "+ b a 2",
     "+ a b 3",
@@ -626,6 +630,7 @@ const LINES: [&str; 20] = [
     "+ h zz 0",
     "+ a b 2000001",
     "- a b 01",
+    "+ 40 b 01",
     "+ a-b h 01",
     "+ a b",
     "* a b 1",

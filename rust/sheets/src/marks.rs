@@ -1,5 +1,6 @@
 //! Marks: small sheets with site lines of either letter, with what is due by the words of the card.
 
+use crate::bare::fault_of_names;
 use crate::cases::Due;
 use crate::tried::tabbed;
 
@@ -9,7 +10,7 @@ const LETTERS: [&str; 14] = [
 ];
 
 /// What stands behind the letter.
-const FIELDS: [&[&str]; 22] = [
+const FIELDS: [&[&str]; 28] = [
     &["b"],
     &["B"],
     &["a"],
@@ -17,6 +18,11 @@ const FIELDS: [&[&str]; 22] = [
     &["c"],
     &["T"],
     &["0"],
+    &["40"],
+    &["007"],
+    &["4a"],
+    &["012345678901"],
+    &["0123456789012"],
     &["abcdefghijkl"],
     &["abcdefghijklm"],
     &[""],
@@ -28,6 +34,7 @@ const FIELDS: [&[&str]; 22] = [
     &["b", ""],
     &["b", "b"],
     &["-", "b"],
+    &["40", "b"],
     &["", ""],
     &["a", "b", "1"],
     &["a", "b", "1", "1"],
@@ -85,11 +92,8 @@ fn due(line: &[&str], after: &str) -> Due {
     let [_, name] = line else {
         return refused(10);
     };
-    let is_name = |name: &str| {
-        (1..=12).contains(&name.len()) && name.bytes().all(|byte| byte.is_ascii_alphanumeric())
-    };
-    if !is_name(name) {
-        return refused(11);
+    if let Some(number) = fault_of_names(&[name.as_bytes()]) {
+        return refused(number);
     }
     if name.eq_ignore_ascii_case("a") {
         return refused(5);
@@ -100,17 +104,7 @@ fn due(line: &[&str], after: &str) -> Due {
         // A site is left alone: that of the line, or c, or `a` too.
         ("\n", _) | ("\nL a B 3\nN c\n", true) | ("\nT B\nL a b 3\n", false) => Due::Refused(8, 0),
         (_, false) => Due::Refused(6, 4),
-        ("\nL b A 3\n", true) => report(name, [name, "a"], 3),
-        (_, true) => report(name, [name, "a"], 2),
+        ("\nL b A 3\n", true) => Due::of_two_sites(["a", name], [name, "a"], 3),
+        (_, true) => Due::of_two_sites(["a", name], [name, "a"], 2),
     }
-}
-
-/// The report on the sites `a` and `name` and a link with a usable size: the ends are the same whatever
-/// is marked.
-fn report(name: &str, [from, to]: [&str; 2], usable: u32) -> Due {
-    let halves = 2 * usable;
-    Due::Report(tabbed(&format!(
-        "plan {halves} 1\nL {from} {to} {usable} {usable}\nN a a\nN {name} {name}\nX a {usable} 1\n\
-         X {name} {usable} 1\nP a {name} {halves}\n"
-    )))
 }

@@ -34,7 +34,7 @@ const MARKED_PATH: &str =
     "network 1\nN a\nT h\nN k\nN b\nN c\nL a h 7\nL h k 3\nL k b 5\nL k c 5\n";
 
 /// The logs.
-pub const TRIED: [Tried; 18] = [
+pub const TRIED: [Tried; 22] = [
     Tried {
         title: "no lines",
         sheet: STAR,
@@ -146,5 +146,32 @@ pub const TRIED: [Tried; 18] = [
         sheet: "network 1\nT a\nT h\nT k\nT b\nL a h 7\nL h k 3\nL k b 5\n",
         log: "+ a h 14\n+ h k 6\n+ b k 10\n+ a k 1\n+ h b 1\n+ a b 1\n+ k k 1\n+ k h 1\n",
         answers: &[0, 0, 0, 6, 6, 6, 6, 15],
+    },
+    Tried {
+        title: "bare numbers as names",
+        sheet: STAR,
+        log: "+ 40 a 1\n+ a 40 1\n- 0 b 1\n- b 007 1\n+ 1 1 1\n+ 9 000000000000 1\n+ 123456789012 c 2\n",
+        answers: &[17, 17, 17, 17, 17, 17, 17],
+    },
+    Tried {
+        title: "names of digits and others",
+        sheet: "network 1\nN 4a\nN a4\nL 4a a4 1\n",
+        log: "+ 4a a4 1\n+ 4A A4 1\n+ 4a 4 1\n+ 44 a4 1\n+ 4b a4 1\n+ 1234567890123 a4 1\n- 4a a4 2\n",
+        answers: &[0, 0, 17, 17, 6, 11, 0],
+    },
+    Tried {
+        title: "bare numbers after other faults of form but the amount, and before all others",
+        sheet: STAR,
+        log: "* 40 b 1\n40 a b 1\n+ 40 b\n+ 40 b 1 1\n+ 40 b- 1\n- a- 40 1\n+ 40  1\n+  40 1\n+ 40 b 01\n\
+              - a 40 \n+ 40 b 0\n+ a 40 2000001\n+ 40 hub 1\n+ d 40 1\n+ 40 40 1\n- 40 b 9\n+ 40 b 9\n+ 40 b 1",
+        answers: &[
+            2, 2, 10, 10, 11, 11, 11, 11, 17, 17, 17, 17, 17, 17, 17, 17, 17, 2,
+        ],
+    },
+    Tried {
+        title: "a line with a bare number moves nothing",
+        sheet: STAR,
+        log: "+ a b 2\n+ 40 b 1\n- 40 b 1\n+ a b 1\n- a 40 2\n- a b 2\n- a b 1\n",
+        answers: &[0, 17, 17, 15, 17, 0, 14],
     },
 ];

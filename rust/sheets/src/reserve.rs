@@ -4,9 +4,9 @@ use crate::SIZE;
 use crate::cases::Due;
 use crate::tried::tabbed;
 
-/// Names on link lines: those of the two sites, one of them in the other case, one that is not given
-/// and one that is bad.
-const NAMES: [&str; 5] = ["a", "b", "B", "q", "-"];
+/// Names on link lines: those of the two sites, one of them in the other case, one that is not given,
+/// one that is a bare number and one that is bad.
+const NAMES: [&str; 6] = ["a", "b", "B", "q", "7", "-"];
 
 /// Numbers around every border, and texts that are no numbers.
 const NUMBERS: [&str; 24] = [
@@ -92,6 +92,9 @@ fn due(names: [&str; 2], numbers: &[&str], is_joined: bool) -> Due {
     if names.contains(&"-") {
         return refused(11);
     }
+    if names.contains(&"7") {
+        return refused(17);
+    }
     let numbers = numbers.iter().map(|text| value(text));
     let Some(numbers) = numbers.collect::<Option<Vec<u128>>>() else {
         return refused(12);
@@ -110,15 +113,7 @@ fn due(names: [&str; 2], numbers: &[&str], is_joined: bool) -> Due {
     if from == to || is_joined {
         return refused(7);
     }
-    let pair = match usable {
-        0 => String::new(),
-        _ => format!("P a b {}\n", 2 * usable),
-    };
-    Due::Report(tabbed(&format!(
-        "plan {} {}\nL {from} {to} {usable} {usable}\nN a a\nN b b\nX a {usable} 1\nX b {usable} 1\n{pair}",
-        2 * usable,
-        u8::from(usable > 0)
-    )))
+    Due::of_two_sites(["a", "b"], [&from, &to], usable as u32)
 }
 
 /// The value of a number that is well written: in decimal, without a leading zero.

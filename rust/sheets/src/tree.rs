@@ -1,5 +1,6 @@
 //! Random trees, and their sheets.
 
+use crate::bare::is_bare;
 use crate::cases::in_either_case;
 use crate::{Edition, Random, SIZE};
 use std::collections::HashSet;
@@ -185,21 +186,25 @@ pub enum Names {
     Alike,
     /// A few letters in either case, over and over, and a digit that is close to one of them.
     Cases,
+    /// 1 to 12 digits with a letter in the place of one of them.
+    Digits,
 }
 
 const LETTERS: &[u8; 62] = b"ABCDEFGHIJKLMNOPQRSTUVWXYZabcdefghijklmnopqrstuvwxyz0123456789";
 
-fn letters(from: &[u8], count: usize, random: &mut Random) -> Vec<u8> {
+/// So many letters and digits out of some.
+pub(crate) fn letters(from: &[u8], count: usize, random: &mut Random) -> Vec<u8> {
     (0..count).map(|_| *random.pick(from)).collect()
 }
 
 impl Names {
-    const ALL: [Names; 5] = [
+    const ALL: [Names; 6] = [
         Names::Counted,
         Names::Any,
         Names::Long,
         Names::Alike,
         Names::Cases,
+        Names::Digits,
     ];
 
     /// One of the ways.
@@ -220,17 +225,23 @@ impl Names {
                 let count = random.between(1, 12);
                 letters(b"qQpP0", count, random)
             }
+            Names::Digits => {
+                let count = random.between(1, 12);
+                let mut name = letters(b"0123456789", count, random);
+                name[random.below(count)] = *random.pick(b"aAfFqQpPzZ");
+                name
+            }
         }
     }
 
-    /// Names for `count` sites, different in either case.
+    /// Names for `count` sites, different in either case, and none a bare number.
     pub fn list(self, count: usize, random: &mut Random) -> Vec<Vec<u8>> {
         let mut taken = HashSet::with_capacity(count);
         (0..count)
             .map(|number| {
                 loop {
                     let name = self.draw(number, random);
-                    if taken.insert(name.to_ascii_uppercase()) {
+                    if !is_bare(&name) && taken.insert(name.to_ascii_uppercase()) {
                         return name;
                     }
                 }

@@ -43,7 +43,7 @@ pub(crate) fn tabbed(text: &str) -> Vec<u8> {
 }
 
 /// The accepted sheets.
-pub const ACCEPTED: [Accepted; 41] = [
+pub const ACCEPTED: [Accepted; 43] = [
     Accepted {
         title: "star 1, 1, 1",
         sheet: "network 1\nN hub\nN a\nN b\nN c\nL hub a 1\nL hub b 1\nL hub c 1\n",
@@ -322,22 +322,22 @@ P c e 4
     },
     Accepted {
         title: "lines mixed, names in either case",
-        sheet: "network 1\nN Q\nN r\nL R q 2\nN 7\nL 7 Q 3\nN 012345678901\nL q 012345678901 2\n",
+        sheet: "network 1\nN Q\nN r\nL R q 2\nN 7x\nL 7X Q 3\nN 01234567890a\nL q 01234567890A 2\n",
         report: "\
 plan 7 3
 L r Q 2 2
-L 7 Q 3 3
-L Q 012345678901 2 2
+L 7x Q 3 3
+L Q 01234567890a 2 2
 N Q -
 N r r
-N 7 7
-N 012345678901 012345678901
+N 7x 7x
+N 01234567890a 01234567890a
 X r 2 1
-X 7 3 1
-X 012345678901 2 1
-P r 7 3
-P r 012345678901 1
-P 7 012345678901 3
+X 7x 3 1
+X 01234567890a 2 1
+P r 7x 3
+P r 01234567890a 1
+P 7x 01234567890a 3
 ",
     },
     Accepted {
@@ -375,19 +375,19 @@ P abcdefghijkL c0P 2
     },
     Accepted {
         title: "path 1, 1, 1 of letters and the digits close to them",
-        sheet: "network 1\nN 0\nN P\nN 1\nN q\nL 0 p 1\nL p 1 1\nL 1 Q 1\n",
+        sheet: "network 1\nN 4p0\nN 4pP\nN 4p1\nN 4pq\nL 4P0 4Pp 1\nL 4Pp 4p1 1\nL 4P1 4pQ 1\n",
         report: "\
 plan 2 1
-L 0 P 1 1
-L P 1 1 1
-L 1 q 1 1
-N 0 0
-N P -
-N 1 -
-N q q
-X 0 1 1
-X q 1 1
-P 0 q 2
+L 4p0 4pP 1 1
+L 4pP 4p1 1 1
+L 4p1 4pq 1 1
+N 4p0 4p0
+N 4pP -
+N 4p1 -
+N 4pq 4pq
+X 4p0 1 1
+X 4pq 1 1
+P 4p0 4pq 2
 ",
     },
     Accepted {
@@ -835,6 +835,38 @@ P Hill mill 6
 P Hill Dell 4
 ",
     },
+    Accepted {
+        title: "names of digits but for a letter",
+        sheet: "network 1\nN 4a\nN a4\nN 00000000000Z\nL 4A a4 4\nL A4 00000000000z 40\n",
+        report: "\
+plan 8 1
+L 4a a4 4 4
+L a4 00000000000Z 40 4
+N 4a 4a
+N a4 00000000000Z
+N 00000000000Z 00000000000Z
+X 4a 4 1
+X 00000000000Z 4 2
+P 4a 00000000000Z 8
+",
+    },
+    Accepted {
+        title: "a marked site of digits but for a letter inside, of edition 2",
+        sheet: "network 2\nN 0x1\nT 1e3\nN 123456P89012\nL 0X1 1E3 3\nL 1e3 123456p89012 10 3\n",
+        report: "\
+plan 20 2
+L 0x1 1e3 3 3
+L 1e3 123456P89012 7 7
+N 0x1 0x1
+N 1e3 1e3
+N 123456P89012 123456P89012
+X 0x1 3 1
+X 1e3 10 1
+X 123456P89012 7 1
+P 0x1 1e3 6
+P 1e3 123456P89012 14
+",
+    },
 ];
 
 /// A sheet of an edition with all sites that it may have, `s1`, `s2` and so on, each but the first linked to
@@ -896,6 +928,8 @@ const LAST_SITES: &[(&str, &str, u8)] = &[
         4,
     ),
     ("a site too many, marked, with a bad name", "T a-b\n", 11),
+    ("a site too many called 40", "N 40\n", 17),
+    ("a site too many called 007, marked", "T 007\n", 17),
     ("a site too many without byte 10", "N new", 2),
 ];
 
@@ -940,7 +974,7 @@ pub fn refused() -> Vec<Refused> {
             line: 2 * edition.sites() as u32 + 1,
         }));
     }
-    let lists = [REFUSED, FORMS, CASES, RESERVES, MARKS, EDITIONS];
+    let lists = [REFUSED, FORMS, CASES, RESERVES, MARKS, EDITIONS, BARE];
     for &(title, sheet, number, line) in lists.into_iter().flatten() {
         list.push(Refused {
             title,
@@ -1606,13 +1640,13 @@ const CASES: &[(&str, &str, u8, u32)] = &[
     ),
     (
         "a digit for the letter close to it",
-        "network 1\nN P\nN b\nL 0 b 1\n",
+        "network 1\nN xP\nN b\nL x0 b 1\n",
         6,
         4,
     ),
     (
         "a letter for the digit close to it",
-        "network 1\nN 0\nN b\nL B p 1\n",
+        "network 1\nN 0x\nN b\nL B px 1\n",
         6,
         4,
     ),
@@ -2352,4 +2386,290 @@ const EDITIONS: &[(&str, &str, u8, u32)] = &[
         7,
         5,
     ),
+];
+
+/// Bare numbers as names: all names of a line are looked at for 11, then all for 17, and then the numbers for 12.
+/// Title, sheet, number and line.
+const BARE: &[(&str, &str, u8, u32)] = &[
+    ("site called 40", "network 1\nN 40\n", 17, 2),
+    ("site called 0", "network 1\nN 0\n", 17, 2),
+    ("site called 007", "network 1\nN 007\n", 17, 2),
+    ("marked site called 9", "network 1\nT 9\n", 17, 2),
+    ("name of 12 digits", "network 1\nN 123456789012\n", 17, 2),
+    (
+        "name of 12 zeros, marked",
+        "network 1\nT 000000000000\n",
+        17,
+        2,
+    ),
+    (
+        "site called 40 below a tree",
+        "network 1\nN a\nN b\nL a b 1\nN 40\n",
+        17,
+        5,
+    ),
+    (
+        "site called 40, given twice",
+        "network 1\nN 40\nN 40\n",
+        17,
+        2,
+    ),
+    ("edition 2, site called 40", "network 2\nN a\nN 40\n", 17, 3),
+    (
+        "edition 2, marked site called 0",
+        "network 2\nN a\nT 0\n",
+        17,
+        3,
+    ),
+    ("name of 13 digits", "network 1\nN 1234567890123\n", 11, 2),
+    (
+        "name of 13 zeros, marked",
+        "network 1\nT 0000000000000\n",
+        11,
+        2,
+    ),
+    ("digits and a sign", "network 1\nN 40-\n", 11, 2),
+    ("digits and the byte above them", "network 1\nN 9:\n", 11, 2),
+    ("digits and the byte below them", "network 1\nN /0\n", 11, 2),
+    ("digits and a space", "network 1\nN 4~0\n", 11, 2),
+    ("digits and byte 13", "network 1\nN 40\r\n", 11, 2),
+    (
+        "site called 40 with a third field",
+        "network 1\nN 40 b\n",
+        10,
+        2,
+    ),
+    ("site with two bare numbers", "network 1\nT 40 40\n", 10, 2),
+    (
+        "site called 40 with a small letter",
+        "network 1\nn 40\n",
+        2,
+        2,
+    ),
+    (
+        "site called 40 with a space for the tab",
+        "network 1\nN~40\n",
+        2,
+        2,
+    ),
+    (
+        "site called 40 without byte 10",
+        "network 1\nN a\nN 40",
+        2,
+        3,
+    ),
+    ("first name 40", "network 1\nN a\nN b\nL 40 b 1\n", 17, 4),
+    ("second name 40", "network 1\nN a\nN b\nL a 40 1\n", 17, 4),
+    ("first name 007", "network 1\nN a\nN b\nL 007 b 1\n", 17, 4),
+    (
+        "second name of 12 zeros",
+        "network 1\nN a\nN b\nL a 000000000000 1\n",
+        17,
+        4,
+    ),
+    (
+        "two bare numbers as names",
+        "network 1\nN a\nN b\nL 40 7 1\n",
+        17,
+        4,
+    ),
+    (
+        "one bare number as both names",
+        "network 1\nN a\nN b\nL 40 40 1\n",
+        17,
+        4,
+    ),
+    (
+        "names and numbers alike",
+        "network 1\nN a\nN b\nL 1 1 1 1\n",
+        17,
+        4,
+    ),
+    (
+        "edition 2, first name 40",
+        "network 2\nN a\nN b\nL 40 b 1\n",
+        17,
+        4,
+    ),
+    (
+        "edition 2, second name 40",
+        "network 2\nN a\nN b\nL a 40 1\n",
+        17,
+        4,
+    ),
+    (
+        "first name 40, second name bad",
+        "network 1\nN a\nN b\nL 40 b_ 1\n",
+        11,
+        4,
+    ),
+    (
+        "first name bad, second name 40",
+        "network 1\nN a\nN b\nL a_ 40 1\n",
+        11,
+        4,
+    ),
+    (
+        "first name 40, second name empty",
+        "network 1\nN a\nN b\nL 40  1\n",
+        11,
+        4,
+    ),
+    (
+        "first name empty, second name 40",
+        "network 1\nN a\nN b\nL  40 1\n",
+        11,
+        4,
+    ),
+    (
+        "first name of 13 digits, second name 40",
+        "network 1\nN a\nN b\nL 1234567890123 40 1\n",
+        11,
+        4,
+    ),
+    (
+        "first name 40, second name of 13 digits",
+        "network 1\nN a\nN b\nL 40 0000000000000 1\n",
+        11,
+        4,
+    ),
+    (
+        "first name 40, a leading zero",
+        "network 1\nN a\nN b\nL 40 b 07\n",
+        17,
+        4,
+    ),
+    (
+        "second name 40, a leading zero",
+        "network 1\nN a\nN b\nL a 40 07\n",
+        17,
+        4,
+    ),
+    (
+        "second name 40, an empty size",
+        "network 1\nN a\nN b\nL a 40 \n",
+        17,
+        4,
+    ),
+    (
+        "first name 40, a bad reserve",
+        "network 1\nN a\nN b\nL 40 b 5 x\n",
+        17,
+        4,
+    ),
+    (
+        "second name 007, an empty reserve",
+        "network 1\nN a\nN b\nL a 007 5 \n",
+        17,
+        4,
+    ),
+    (
+        "first name 40, the size too large",
+        "network 1\nN a\nN b\nL 40 b 1000001\n",
+        17,
+        4,
+    ),
+    (
+        "second name 40, the reserve too large",
+        "network 1\nN a\nN b\nL a 40 1 1000001\n",
+        17,
+        4,
+    ),
+    (
+        "first name 40, the reserve above the size",
+        "network 1\nN a\nN b\nL 40 b 1 2\n",
+        17,
+        4,
+    ),
+    (
+        "first name 40, second name unknown",
+        "network 1\nN a\nN b\nL 40 q 1\n",
+        17,
+        4,
+    ),
+    (
+        "first name unknown, second name 40",
+        "network 1\nN a\nN b\nL q 40 1\n",
+        17,
+        4,
+    ),
+    (
+        "first name 40, no site above",
+        "network 1\nL 40 b 1\n",
+        17,
+        2,
+    ),
+    (
+        "second name 40, already joined",
+        "network 1\nN a\nN b\nL a b 1\nL a 40 1\n",
+        17,
+        5,
+    ),
+    (
+        "three fields, second name 40",
+        "network 1\nN a\nN b\nL a 40\n",
+        10,
+        4,
+    ),
+    (
+        "six fields, first name 40",
+        "network 1\nN a\nN b\nL 40 b 1 1 1\n",
+        10,
+        4,
+    ),
+    (
+        "first name 40 behind a small letter",
+        "network 1\nN a\nN b\nl 40 b 1\n",
+        2,
+        4,
+    ),
+    (
+        "second name 40 without byte 10",
+        "network 1\nN a\nN b\nL a 40 1",
+        2,
+        4,
+    ),
+    (
+        "first name of a letter and digits, unknown",
+        "network 1\nN a\nN b\nL a40 b 1\n",
+        6,
+        4,
+    ),
+    (
+        "second name of digits and a letter, unknown",
+        "network 1\nN a\nN b\nL a 40a 1\n",
+        6,
+        4,
+    ),
+    (
+        "names of digits and a letter in either case",
+        "network 1\nN 4a\nN 4A\n",
+        5,
+        3,
+    ),
+    (
+        "lowest line decides: 17 before 2",
+        "network 1\nN 40\nP\n",
+        17,
+        2,
+    ),
+    (
+        "lowest line decides: 17 before 11",
+        "network 1\nN 40\nN a-b\n",
+        17,
+        2,
+    ),
+    (
+        "lowest line decides: 5 before 17",
+        "network 1\nN a\nN A\nN 40\n",
+        5,
+        3,
+    ),
+    (
+        "lowest line decides: 12 before 17",
+        "network 1\nN a\nN b\nL a b 07\nL a 40 1\n",
+        12,
+        4,
+    ),
+    ("heading decides before 17", "network 3\nN 40\n", 2, 1),
 ];
