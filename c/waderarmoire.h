@@ -91,6 +91,7 @@ uint64_t waderarmoire_order(const uint8_t *sheet, size_t sheet_len, size_t *list
  *   2  first field neither "+" nor "-", or a line that is not ended
  *  10  wrong number of fields
  *  11  a name is not 1 to 12 letters or digits
+ *  17  name of digits only
  *  12  a number is not written in decimal without a leading zero
  *   3  amount 0 or above 2,000,000
  *   6  the names are not those of two different ends (a-z read as A-Z), or another
@@ -124,9 +125,10 @@ uint64_t waderarmoire_replay(const uint8_t *sheet, size_t sheet_len, const uint8
  *  11  a name is not 1 to 12 letters or digits
  *  12  a number is not written in decimal without a leading zero
  *  13  reserve above the size
+ *  17  name of digits only
  * A sheet whose line 1 is no heading is measured by edition 1. The lowest line with a fault
- * decides; within a line the order is 2, 10, 11, 12, then 4, 5 for a site and 3, 13, 6, 7 for a
- * link.
+ * decides; within a line the order is 2, 10, 11, 17, then 4, 5 for a site and 12, 3, 13, 6, 7 for
+ * a link.
  */
 static inline unsigned waderarmoire_number(uint64_t answer)
 {

@@ -7,20 +7,19 @@
 //! ```
 //!
 //! The sheets of the scope document come first, then small sheets with names in either case, with
-//! reserves, with marks and with bare numbers as names, then sheets at the limits of both editions, then all
-//! small trees, then
-//! random trees and damaged sheets of both editions from a seed, then the programs over standard input
-//! and output. Reports headed `plan` are compared byte for byte. Of those headed `whole` loads and end
-//! sets are free: totals are compared, and pairs with those that the walk gives for the printed loads.
-//! Of every accepted sheet the reports are checked against the demands on them. Orders of work are
-//! compared place for place, and some checked against the card's rule. The first sheet with a
-//! difference is kept in a file, and the seed and index that make it again are printed. With an error
-//! planted in the second planner, which needs the feature `planted`, only the random sheets are
-//! compared, to show that they find it, or the random logs for an error in these.
+//! reserves, with marks and with bare numbers as names, then sheets at the limits of both editions,
+//! then all small trees, then random trees and damaged sheets of both editions from a seed, then the
+//! programs over standard input and output. Reports headed `plan` are compared byte for byte. Of those
+//! headed `whole` loads and end sets are free: totals are compared, and pairs with those that the walk
+//! gives for the printed loads. Of every accepted sheet the reports are checked against the demands on
+//! them. Orders of work are compared place for place, and some checked against the card's rule. The
+//! first sheet with a difference is kept in a file, and the seed and index that make it again are
+//! printed. With an error planted in the second planner, which needs the feature `planted`, only the
+//! random sheets are compared, to show that they find it, or the random logs for an error in these.
 //!
 //! Then come booking logs: some with answers written by hand, all small ones over a short list of lines,
-//! such with bare numbers as names, random ones, and the programs over files. Answers are compared line by line and checked against the
-//! card.
+//! such with bare numbers as names, random ones, and the programs over files. Answers are compared line
+//! by line and checked against the card.
 
 mod bare;
 mod card;

@@ -61,14 +61,13 @@ fn short_texts() -> Vec<String> {
 fn long_texts() -> Vec<String> {
     const DIGITS: [&str; 2] = ["40718293650417", "00000000000000"];
     let mut texts = Vec::new();
-    for (digits, length) in DIGITS
-        .into_iter()
-        .flat_map(|it| (4..=14).map(move |length| (it, length)))
-    {
-        texts.push(digits[..length].to_string());
-        for place in 0..length {
-            let with = |byte| format!("{}{byte}{}", &digits[..place], &digits[place + 1..length]);
-            texts.extend(["x", "P", "/", ":"].map(with));
+    for length in 4..=14 {
+        for digits in DIGITS.map(|digits| &digits[..length]) {
+            texts.push(digits.to_string());
+            for place in 0..length {
+                let with = |byte| format!("{}{byte}{}", &digits[..place], &digits[place + 1..]);
+                texts.extend(["x", "P", "/", ":"].map(with));
+            }
         }
     }
     texts

@@ -36,8 +36,8 @@
 //! # Ok::<(), waderarmoire::Refusal>(())
 //! ```
 //!
-//! Two names are the same if they agree when a-z is read as A-Z. A report spells each as on the line of
-//! its site:
+//! A name is 1 to 12 letters or digits, and not digits alone. Two names are the same if they agree when a-z is
+//! read as A-Z. A report spells each as on the line of its site:
 //!
 //! ```
 //! let sheet = b"network\t1\nN\tHill\nN\tmill\nL\tHILL\tMill\t4\n";
@@ -169,23 +169,24 @@ unsafe extern "C" {
 pub struct Refusal {
     /// The number of the cause:
     ///
-    /// 1. no bytes, or more than 16,384 (edition 2: 24,576)
-    /// 2. wrong heading, letter or line ending
-    /// 3. size or reserve above 1,000,000
-    /// 4. more sites than 256 (edition 2: 384)
-    /// 5. name already given to a site
-    /// 6. link to a name not given on a line above
-    /// 7. link whose sites are already joined by links above, or are one site
-    /// 8. fewer than two sites, or not all sites are joined
-    /// 9. report longer than the buffer; of [`order`], more sites than places in the list
-    /// 10. wrong number of fields
-    /// 11. a name is not 1 to 12 letters or digits
-    /// 12. a number is not written in decimal without a leading zero
-    /// 13. reserve above the size
+    /// - 1: no bytes, or more than 16,384 (edition 2: 24,576)
+    /// - 2: wrong heading, letter or line ending
+    /// - 3: size or reserve above 1,000,000
+    /// - 4: more sites than 256 (edition 2: 384)
+    /// - 5: name already given to a site
+    /// - 6: link to a name not given on a line above
+    /// - 7: link whose sites are already joined by links above, or are one site
+    /// - 8: fewer than two sites, or not all sites are joined
+    /// - 9: report longer than the buffer; of [`order`], more sites than places in the list
+    /// - 10: wrong number of fields
+    /// - 11: a name is not 1 to 12 letters or digits
+    /// - 12: a number is not written in decimal without a leading zero
+    /// - 13: reserve above the size
+    /// - 17: name of digits only
     ///
     /// A sheet whose line 1 is no heading is measured by edition 1. Names are read in either case for 5, 6 and
-    /// 7. The lowest line with a fault decides; within a
-    /// line the order is 2, 10, 11, 12, then 4, 5 for a site and 3, 13, 6, 7 for a link.
+    /// 7. The lowest line with a fault decides; within a line the order is 2, 10, 11, 17, then 4, 5 for a site
+    /// and 12, 3, 13, 6, 7 for a link.
     pub number: u8,
     /// The line at fault, counted from 1, or 0 when no line is.
     pub line: u32,
@@ -209,6 +210,7 @@ impl Refusal {
             11 => "a name is not 1 to 12 letters or digits",
             12 => "a number is not written in decimal without a leading zero",
             13 => "reserve above the size",
+            17 => "name of digits only",
             _ => "a cause without words",
         }
     }

@@ -74,6 +74,7 @@ impl Error for ReplayRefusal {}
 /// - 2: a letter other than `+` and `-`, or a missing line ending
 /// - 10: wrong number of fields
 /// - 11: a name is not 1 to 12 letters or digits
+/// - 17: name of digits only
 /// - 12: an amount is not written in decimal without a leading zero
 /// - 3: an amount of 0, or above 2,000,000
 /// - 6: the names are not those of two different ends, or another end lies between the two
