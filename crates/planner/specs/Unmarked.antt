@@ -75,7 +75,8 @@ module _ (known : List Edition) (s : List ℕ) (none : WithoutMarks s) where
       by (refused k l) h = refl
       by (accepted net) h = rw (h net refl)
 
-  -- a sheet without marks, and without bare numbers for names, gets the outcome and the buffer that it had: by the site lines, the ends and the walk from before
+  -- a sheet without marks, and without bare numbers for names, gets the outcome and the buffer that it had: by the site lines, the ends and the walk from
+  -- before
   pub an-unmarked-sheet-is-planned-as-before : WithoutBareNames s → (b : List ℕ)
       → plannedReading kindUnmarked lookup (λ s net. reportBefore s net (halvesBy net)) known s b ≡ planned known s b
   an-unmarked-sheet-is-planned-as-before lettered b =
