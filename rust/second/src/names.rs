@@ -134,7 +134,7 @@ fn telling_letters(name: Name) -> u128 {
 }
 
 /// Where a name stands. It makes no difference but to errors that can be planted.
-#[derive(Clone, Copy, PartialEq, Eq)]
+#[derive(Clone, Copy)]
 pub enum Place {
     /// On the line of a site.
     Site,
