@@ -1,0 +1,12 @@
+pub mod Regions
+pub mod JoinedTree
+pub mod Carried
+pub mod Lowered
+pub mod Meeting
+pub mod Again
+pub mod Exchange
+pub mod Totals
+pub mod Numbers
+pub mod Numbered
+pub mod FarSites
+pub mod TwoRegions
