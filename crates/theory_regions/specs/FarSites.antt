@@ -7,7 +7,7 @@ use Prim.Native.Nat.{ℕ, _+_, _*_, _≤_}
 use native.Mathlib.Omega.{arith}
 use lib.ListN.{length}
 use Rattle.lists.specs.Numbers.{is, differ, look}
-use Rattle.lists.specs.Sums.{same?, pick-same, pick-other, pick-cases, is-same, is-other, is-le, differ-same, differ-other, product-one, sum-single}
+use Rattle.lists.specs.Sums.{same?, pick-same, pick-other, pick-cases, is-same, is-other, is-le, differ-same, differ-other, differ-le, product-one, sum-single}
 use Rattle.lists.specs.Places.{over-add, over-eq, over-is}
 use Rattle.model.specs.Flows.{Links, one, two, sites, at, sumAt, leaf, mark, atTerminals}
 use Rattle.theory_trees.specs.Trees.{at-le}
@@ -59,10 +59,10 @@ either-far-site-gives-one-sum A A′ u = omega (arith, all-ends-are-own-or-far A
 
 -- ---- a region finds its far site
 
-differ-one : {u v : ℕ} → differ u v ≡ 1 → u ≢ v
+pub differ-one : {u v : ℕ} → differ u v ≡ 1 → u ≢ v
 differ-one e z = omega (arith, differ-same z)
 
-pub leaf-le : (ls : Links) (v : ℕ) → leaf ls v ≤ 1
+leaf-le : (ls : Links) (v : ℕ) → leaf ls v ≤ 1
 unfolding leaf
 leaf-le ls v = is-le (sumAt ls v (λ i. 1)) 1
 
@@ -72,6 +72,12 @@ lone-iff a v = (
   λ e. let r = product-one (leaf (a .links) v) (differ (mark (a .marks) v) 1) (leaf-le (a .links) v) e in (r .0, differ-one (r .1)),
   λ h. rw (h .0, differ-other (h .1)) refl,
 )
+
+pub lone-le : (a : Region) (v : ℕ) → lone a v ≤ 1
+unfolding lone
+lone-le a v = same? (leaf (a .links) v) 0
+    (λ e. rw e (omega arith))
+    (λ d. let one : leaf (a .links) v ≡ 1 = omega (arith, leaf-le (a .links) v) in rw one (omega (arith, differ-le (mark (a .marks) v) 1)))
 
 pub a-region-finds-its-far-site : {a : Region} {p : Border} → Bordered a p → mark (a .marks) (p .far) ≢ 1 → (u : List ℕ)
     → ownSum a (farSite a (p .shared)) u ≡ ownSum a (p .far) u

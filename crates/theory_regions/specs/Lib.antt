@@ -10,3 +10,7 @@ pub mod Numbers
 pub mod Numbered
 pub mod FarSites
 pub mod TwoRegions
+pub mod Sharing
+pub mod SharingLaws
+pub mod JoinedNames
+pub mod Examples

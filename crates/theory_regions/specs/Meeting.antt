@@ -8,39 +8,40 @@ use native.Mathlib.Omega.{arith}
 use lib.ListN.{length}
 use Rattle.lists.specs.Numbers.{is}
 use Rattle.lists.specs.Sums.{same?, sum-eq}
-use Rattle.model.specs.Flows.{Site, one, two, at, sumAt, leaf, endAt}
+use Rattle.model.specs.Flows.{Links, Site, Tree, one, two, at, sumAt, leaf, endAt}
 use Rattle.model.specs.Trimming.{Light, Balanced}
 use Rattle.theory_trees.specs.Trees.{at-le, at-first, at-second, at-none, at-end, loopless}
 use Rattle.theory_trees.specs.Sites.{at-site}
 use Rattle.theory_trees.specs.Leaves.{leaf-has-one-link}
 use Rattle.theory_trees.specs.Ends.{ends-are-told, a-leaf-is-an-end}
 use Rattle.theory_regions.specs.Regions.{Region, endsIn}
-use Rattle.theory_regions.specs.JoinedTree.{Border, Bordered, Lies, Joins}
+use Rattle.theory_regions.specs.JoinedTree.{Between, Border, Bordered, Lies, Joins}
 use Rattle.theory_regions.specs.Carried.{hits, hits-one, sum-carried}
+
+-- a link is at both its sites
+pub at-both : (ls : Links) (j : ℕ) {x y : ℕ} → Between ls j x y → (at ls x j ≡ 1) × (at ls y j ≡ 1)
+at-both ls j (inl h) = (at-first ls j (h .0), at-second ls j (h .1))
+at-both ls j (inr h) = (at-second ls j (h .1), at-first ls j (h .0))
+
+-- the sites of a link of a tree
+pub link-sites : {ls : Links} {n : ℕ} → Tree ls n → {j x y : ℕ} → j < length ls → Between ls j x y → Site n x × Site n y × (x ≢ y)
+link-sites T {j} l (inl h) = (rw (h .0) at (T .ends j l .0), rw (h .1) at (T .ends j l .1), (λ e. loopless T j l (h .0 ∙ e ∙ sym (h .1))))
+link-sites T {j} l (inr h) = (rw (h .1) at (T .ends j l .1), rw (h .0) at (T .ends j l .0), (λ e. loopless T j l (h .0 ∙ sym e ∙ sym (h .1))))
 
 -- ---- a region with its border
 
 module _ {a : Region} {p : Border} (A : Bordered a p) where
   pub near-site : Site (a .sites) (p .near)
-  near-site = elim (A .between) [
-    | inl h ↦ rw (h .0) at (A .tree .ends (p .shared) (A .here) .0)
-    | inr h ↦ rw (h .1) at (A .tree .ends (p .shared) (A .here) .1)
-  ]
+  near-site = link-sites (A .tree) (A .here) (A .between) .0
 
   pub far-site : Site (a .sites) (p .far)
-  far-site = elim (A .between) [
-    | inl h ↦ rw (h .1) at (A .tree .ends (p .shared) (A .here) .1)
-    | inr h ↦ rw (h .0) at (A .tree .ends (p .shared) (A .here) .0)
-  ]
+  far-site = link-sites (A .tree) (A .here) (A .between) .1
 
   pub near-is-not-far : p .near ≢ p .far
-  near-is-not-far e = elim (A .between) [
-    | inl h ↦ loopless (A .tree) (p .shared) (A .here) (h .0 ∙ e ∙ sym (h .1))
-    | inr h ↦ loopless (A .tree) (p .shared) (A .here) (h .0 ∙ sym e ∙ sym (h .1))
-  ]
+  near-is-not-far = link-sites (A .tree) (A .here) (A .between) .2
 
   pub shared-at-far : at (a .links) (p .far) (p .shared) ≡ 1
-  shared-at-far = elim (A .between) [ inl h ↦ at-second (a .links) (p .shared) (h .1) | inr h ↦ at-first (a .links) (p .shared) (h .0) ]
+  shared-at-far = at-both (a .links) (p .shared) (A .between) .1
 
   -- the far site has no link but the shared one, and is an end
   pub far-has-just-the-shared-link : (i : ℕ) → i < length (a .links) → at (a .links) (p .far) i ≡ 1 → i ≡ p .shared

@@ -177,6 +177,16 @@ module _ {a : Region} {p : Border} {b : Region} {q : Border} (A : Bordered a p) 
         length-left-out (q .shared) (b .links) (B .here),
       )
 
+  pub joined-sized : length (tree .capacities) ≡ length (tree .links)
+  joined-sized = omega (arith, joined-length, capacities-there, A .sized, B .sized)
+    where
+      capacities-there : suc (length (tree .capacities)) ≡ length (a .capacities) + length (b .capacities)
+      capacities-there = unfold joinedTree in omega (
+        arith,
+        length-append (a .capacities) (leftOut (q .shared) (b .capacities)),
+        length-left-out (q .shared) (b .capacities) (omega (arith, B .sized, B .here)),
+      )
+
   link-first : (i : ℕ) → i < length (a .links) → getD (tree .links) i (0, 0) ≡ getD (a .links) i (0, 0)
   unfolding joinedTree
   link-first i l = List·getD-append (a .links) (map (moved a p b q) (leftOut (q .shared) (b .links))) (0, 0) i l
