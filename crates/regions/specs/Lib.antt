@@ -4,3 +4,4 @@ pub mod Causes
 pub mod SharedLaws
 pub mod Told
 pub mod LentBack
+pub mod Examples

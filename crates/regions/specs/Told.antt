@@ -1,7 +1,7 @@
 -- What the exchange between two regions tells, for any two sheets and any two lent lists: each number for its cause and for no other, and the lists after.
 -- Document 02, Card 10.
 use mathlib.Core.List.{List, _++_}
-use mathlib.Core.Logic.{_↔_}
+use mathlib.Core.Logic.{_↔_, _⊎_, inl, inr}
 use mathlib.Core.Path.{_≡_, refl, sym, ap, _∙_}
 use Prim.Native.Nat.{ℕ, _+_, _≤_, _<_}
 use native.Mathlib.Decide.{decLe}
@@ -11,6 +11,7 @@ use lib.ListN.{length, drop}
 use Rattle.lists.specs.Sums.{cases, contradiction}
 use Rattle.model.specs.declared.Edition.{Edition}
 use Rattle.sheet.specs.Sheet.{Network, Read, refused, accepted, readSheet, editionOf}
+use Rattle.sheet.specs.Answers.{refusals-have-sheet-numbers}
 use Rattle.sheet.specs.SheetTheorem.{a-sheet-is-refused-for-its-cause}
 use Rattle.theory_regions.specs.Regions.{Given}
 use Rattle.theory_regions.specs.JoinedTree.{Border}
@@ -21,7 +22,8 @@ use Rattle.regions.specs.Outcome.{sheetOf, number, lineOf, none, firstOf
 use Rattle.regions.specs.Outcome.{exchangeOver, exchangeRead, exchanged}
 use Rattle.regions.specs.Causes.{BothRead, AcceptedPair, Cause, of-the-first, of-the-second, no-shared-link}
 use Rattle.regions.specs.Causes.{first-list-too-short, second-list-too-short}
-use Rattle.regions.specs.SharedLaws.{apart-exactly-unless-they-share, the-sharing-is-told, the-shared-link-is-one, a-size-for-each-link, firstGiven, secondGiven}
+use Rattle.regions.specs.SharedLaws.{apart-exactly-unless-they-share, the-sharing-is-told, the-shared-link-is-one}
+use Rattle.regions.specs.SharedLaws.{a-size-for-each-link, firstGiven, secondGiven}
 use Rattle.regions.specs.declared.Outcome.the-variants.{Answered, Refused}
 
 -- refused with a sheet, a number and a line: the counts and the sums are 0, and both lists keep their values
@@ -167,3 +169,31 @@ module _ (known : List Edition) (s t l m : List ℕ) where
       by (both-answered X r h) e =
           let same : Answered (told (firstGiven X)) (told (secondGiven X)) ≡ Refused sheet n at = ap (λ o. o .outcome) (sym (both-are-answered X r) ∙ e) in
           contradiction cc
+
+  -- ---- which numbers
+
+  -- sheet 0 is named for 18 alone, at line 0
+  pub sheet-0-is-named-for-18-alone : {k line : ℕ} → Cause known s t l m 0 k line → (k ≡ 18) × (line ≡ 0)
+  sheet-0-is-named-for-18-alone c = by c refl
+    where
+      by : {x k line : ℕ} → Cause known s t l m x k line → x ≡ 0 → (k ≡ 18) × (line ≡ 0)
+      by (of-the-first c) e = absurd (omega arith)
+      by (of-the-second net r c) e = absurd (omega arith)
+      by (no-shared-link R h) e = (refl, refl)
+      by (first-list-too-short X h) e = absurd (omega arith)
+      by (second-list-too-short X g h) e = absurd (omega arith)
+
+  -- 9 is told for a list that is too short alone, at line 0: it is never a number of the sheet it names
+  pub nine-is-told-for-a-list-alone : {x line : ℕ} → Cause known s t l m x 9 line
+      → (net : Network) × (other : Network) × (p : Border) × (q : Border) × AcceptedPair known s net t other p q × (line ≡ 0)
+      × (((x ≡ 1) × (length l < length (net .links))) ⊎ ((x ≡ 2) × (length (net .links) ≤ length l) × (length m < length (other .links))))
+  nine-is-told-for-a-list-alone c = by c refl
+    where
+      by : {x k line : ℕ} → Cause known s t l m x k line → k ≡ 9
+          → (net : Network) × (other : Network) × (p : Border) × (q : Border) × AcceptedPair known s net t other p q × (line ≡ 0)
+          × (((x ≡ 1) × (length l < length (net .links))) ⊎ ((x ≡ 2) × (length (net .links) ≤ length l) × (length m < length (other .links))))
+      by (of-the-first c) e = absurd (refusals-have-sheet-numbers (editionOf known s) s c .not-nine e)
+      by (of-the-second net r c) e = absurd (refusals-have-sheet-numbers (editionOf known t) t c .not-nine e)
+      by (no-shared-link R h) e = absurd (omega arith)
+      by (first-list-too-short {net} {other} {p} {q} X h) e = (net, other, p, q, X, refl, inl (refl, h))
+      by (second-list-too-short {net} {other} {p} {q} X g h) e = (net, other, p, q, X, refl, inr (refl, g, h))
