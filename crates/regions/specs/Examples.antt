@@ -19,9 +19,9 @@ use Rattle.regions.specs.Shared.{partner}
 use Rattle.regions.specs.Outcome.{Exchanged, refusal, deliver, exchangeOver, exchangeRead, exchanged}
 use Rattle.regions.specs.declared.Outcome.the-variants.{Answered}
 
--- `hill` joined to a, b and, over the shared link, to `dale`
+-- `hill` joined to `dale`, over the shared link, and to a and b
 abbrev hill : List ℕ
-hill = bytes "network\t1\nN\thill\nN\ta\nN\tb\nN\tdale\nL\thill\ta\t3\nL\thill\tb\t3\nL\thill\tdale\t10\n"
+hill = bytes "network\t1\nN\thill\nN\ta\nN\tb\nN\tdale\nL\thill\tdale\t10\nL\thill\ta\t5\nL\thill\tb\t1\n"
 
 -- `Dale` joined to c, to d and, over the shared link, to `HILL`
 abbrev dale : List ℕ
@@ -44,8 +44,8 @@ exchange s t l m = exchanged editions s t l m
 
 -- 6 and 2 are shown, and the lesser goes to both; a place past the answer keeps its value
 both-are-given : exchange hill dale (7 ∷ 7 ∷ 7 ∷ 7 ∷ []) (8 ∷ 8 ∷ 8 ∷ []) ≡ record {
-  outcome = Answered (record { count = 3; sum = 6 }) (record { count = 3; sum = 2 });
-  first = 3 ∷ 3 ∷ 2 ∷ 7 ∷ [];
+  outcome = Answered (record { count = 3; sum = 4 }) (record { count = 3; sum = 2 });
+  first = 2 ∷ 3 ∷ 1 ∷ 7 ∷ [];
   second = 1 ∷ 2 ∷ 1 ∷ [];
 }
 unfolding exchange

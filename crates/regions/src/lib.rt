@@ -2,8 +2,8 @@
 
 // What a region is told: the number of its trimmed sizes, which stand in its lent list, and their sum over its own ends' links.
 pub struct Answer {
-    count: usize,
-    sum: u64,
+    pub count: usize,
+    pub sum: u64,
 }
 
 // What the exchange comes to: the answer for each region, or a refusal with its sheet (1, 2, or 0 where it means both), number and line.

@@ -2,7 +2,7 @@
 -- What is balanced in both regions and agrees on the shared link is balanced in the joined tree; what is balanced there is balanced in each region, so
 -- that it passes neither first trimmed size of the shared link.
 use mathlib.Core.Path.{_≡_, refl, sym, ap, _∙_}
-use mathlib.Core.Logic.{_≢_, _⊎_, inl, inr}
+use mathlib.Core.Logic.{_≢_, _⊎_, inl, inr, ⊎-swap}
 use mathlib.Core.List.{List}
 use Prim.Native.Nat.{ℕ, _+_, _≤_, _<_}
 use native.Mathlib.Omega.{arith}
@@ -16,7 +16,7 @@ use Rattle.theory_trees.specs.Greatest.{greatest-is-unique, balanced-is-greates
 use Rattle.theory_regions.specs.Regions.{Region, endsIn, trimmed, firstSize, trimmedAgain}
 use Rattle.theory_regions.specs.JoinedTree.{Border, Bordered, Joins}
 use Rattle.theory_regions.specs.Carried.{spread, spread-own, spread-none}
-use Rattle.theory_regions.specs.Meeting.{either, turned, light-in-the-joined-tree, balanced-in-the-region, joint-of-a-region}
+use Rattle.theory_regions.specs.Meeting.{turned, light-in-the-joined-tree, balanced-in-the-region, joint-of-a-region}
 use Rattle.theory_regions.specs.Again.{trimmed-is-greatest, trimmed-again-is-greatest, the-shared-link-has-the-lesser}
 use Rattle.theory_regions.specs.Again.{no-size-is-passed, no-other-is-greater}
 
@@ -27,7 +27,7 @@ module _ {a b t : Region} {p q : Border} {site₁ link₁ site₂ link₂ : ℕ 
       → ((x : ℕ) × Site (a .sites) x × (endsIn a x ≢ 1) × (site₁ x ≡ v)) ⊎ ((y : ℕ) × Site (b .sites) y × (endsIn b y ≢ 1) × (site₂ y ≡ v))
   joint-of-one v j m l o = elim (J .each-link j l) [
     | inl r ↦ joint-of-a-region A B J v (r .0) m (r .1) (rw (r .2) o)
-    | inr r ↦ either (joint-of-a-region B A (turned J) v (r .0) m (r .1) (rw (r .2) o))
+    | inr r ↦ ⊎-swap (joint-of-a-region B A (turned J) v (r .0) m (r .1) (rw (r .2) o))
   ]
 
   -- what is balanced in both regions is balanced in the joined tree

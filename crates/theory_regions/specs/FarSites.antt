@@ -7,12 +7,13 @@ use Prim.Native.Nat.{ℕ, _+_, _*_, _≤_}
 use native.Mathlib.Omega.{arith}
 use lib.ListN.{length}
 use Rattle.lists.specs.Numbers.{is, differ, look}
-use Rattle.lists.specs.Sums.{same?, pick-same, pick-other, pick-cases, is-same, is-other, is-le, differ-same, differ-other, differ-le, product-one, sum-single}
+use Rattle.lists.specs.Sums.{same?, pick-same, pick-other, pick-cases, is-same, is-other, is-le, differ-other, differ-le, product-one, sum-single}
 use Rattle.lists.specs.Places.{over-add, over-eq, over-is}
 use Rattle.model.specs.Flows.{Links, one, two, sites, at, sumAt, leaf, mark, atTerminals}
 use Rattle.theory_trees.specs.Trees.{at-le}
 use Rattle.theory_trees.specs.Sites.{sites-once}
-use Rattle.theory_regions.specs.Regions.{Region, endsIn, lone, farSite, own, ownSum}
+use Rattle.theory_walk.specs.Regions.{differ-one}
+use Rattle.theory_regions.specs.Regions.{Region, endsIn, trimmedAgain, lone, farSite, own, ownSum, given}
 use Rattle.theory_regions.specs.JoinedTree.{Border, Bordered}
 use Rattle.theory_regions.specs.Meeting.{far-site, shared-at-far, far-has-just-the-shared-link, far-is-an-end}
 
@@ -59,9 +60,6 @@ either-far-site-gives-one-sum A A′ u = omega (arith, all-ends-are-own-or-far A
 
 -- ---- a region finds its far site
 
-pub differ-one : {u v : ℕ} → differ u v ≡ 1 → u ≢ v
-differ-one e z = omega (arith, differ-same z)
-
 leaf-le : (ls : Links) (v : ℕ) → leaf ls v ≤ 1
 unfolding leaf
 leaf-le ls v = is-le (sumAt ls v (λ i. 1)) 1
@@ -93,3 +91,10 @@ a-region-finds-its-far-site {a} {p} A plain u =
       | inl h ↦ absurd (d (rw (h .1) far-is-lone))
       | inr h ↦ ap (λ f. ownSum a f u) (h .0)
     ])
+
+-- so the sum that it is given is that over all ends, less the shared link's size
+pub the-sum-over-all-ends : {a : Region} {p : Border} → Bordered a p → mark (a .marks) (p .far) ≢ 1 → (other : ℕ) → let u = given a (p .shared) other in
+    atTerminals (a .links) (a .sites) (endsIn a) (look (u .sizes)) ≡ u .sum + look (u .sizes) (p .shared)
+unfolding given
+the-sum-over-all-ends {a} {p} A plain other =
+    let u = trimmedAgain a (p .shared) other in omega (arith, all-ends-are-own-or-far A u, a-region-finds-its-far-site A plain u)

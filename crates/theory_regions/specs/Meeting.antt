@@ -2,7 +2,7 @@
 -- over its links is the same, and what is balanced in the joined tree is balanced in each region. What is shown of the first region holds of the second,
 -- turned round.
 use mathlib.Core.Path.{_≡_, refl, sym, ap, _∙_}
-use mathlib.Core.Logic.{_≢_, _↔_, _⊎_, inl, inr}
+use mathlib.Core.Logic.{_≢_, _↔_, _⊎_, inl, inr, ⊎-swap}
 use Prim.Native.Nat.{ℕ, _*_, _<_}
 use native.Mathlib.Omega.{arith}
 use lib.ListN.{length}
@@ -91,10 +91,6 @@ at-carried {a} A {t} {site} {link} L v i s l =
 
 -- ---- two regions in their joined tree
 
-pub either : {P Q : Type 0} → P ⊎ Q → Q ⊎ P
-either (inl h) = inr h
-either (inr h) = inl h
-
 -- the second region first
 pub turned : {a b t : Region} {p q : Border} {site₁ link₁ site₂ link₂ : ℕ → ℕ} → Joins a p b q t site₁ link₁ site₂ link₂
     → Joins b q a p t site₂ link₂ site₁ link₁
@@ -104,11 +100,11 @@ turned J = record {
   near-far = sym (J .far-near);
   far-near = sym (J .near-far);
   common = λ x y r s e. elim (J .common y x s r (sym e)) [ inl h ↦ inr (h .1, h .0) | inr h ↦ inl (h .1, h .0) ];
-  each-site = λ z s. either (J .each-site z s);
+  each-site = λ z s. ⊎-swap (J .each-site z s);
   sites-once = omega (arith, J .sites-once);
   one-link = sym (J .one-link);
   only = λ i k l m e. let h = J .only k i m l (sym e) in (h .1, h .0);
-  each-link = λ j l. either (J .each-link j l);
+  each-link = λ j l. ⊎-swap (J .each-link j l);
 }
 
 module _ {a b t : Region} {p q : Border} {site₁ link₁ site₂ link₂ : ℕ → ℕ} (A : Bordered a p) (B : Bordered b q)

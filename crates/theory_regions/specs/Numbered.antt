@@ -1,13 +1,13 @@
 -- The joined tree as it is numbered through is a joined tree: the first region keeps its numbers, the second's own sites and links follow in their order.
 use mathlib.Core.Path.{_≡_, refl, sym, ap, _∙_}
-use mathlib.Core.Logic.{_≢_, _⊎_, inl, inr, ite, if-pos, if-neg}
+use mathlib.Core.Logic.{_≢_, _⊎_, inl, inr, if-pos, if-neg}
 use mathlib.Core.List.{map}
 use Prim.Native.Nat.{ℕ, zero, suc, _+_, _-_, _≤_, _<_, min, max}
 use native.Mathlib.Omega.{arith}
 use native.Mathlib.Decide.{decLt, decLe}
 use lib.ListN.{length, getD, length-map, length-append, List·getD-append}
 use lib.Seq.{getD-append-add}
-use Rattle.lists.specs.Numbers.{pick, look}
+use Rattle.lists.specs.Numbers.{look}
 use Rattle.lists.specs.Sums.{pick-same, pick-other, same?, cases}
 use Rattle.lists.specs.Places.{look-from}
 use Rattle.model.specs.Flows.{Site, one, two, mark, sites}
@@ -63,34 +63,32 @@ module _ {a : Region} {p : Border} {b : Region} {q : Border} (A : Bordered a p) 
 
   pub place-near : to (q .near) ≡ p .far
   unfolding place
-  place-near = pick-same refl (p .far) (pick (q .near) (q .far) (p .near) (a .sites + rank q (q .near)))
+  place-near = pick-same refl _ _
 
   pub place-far : to (q .far) ≡ p .near
   unfolding place
-  place-far = pick-other (λ e. near-is-not-far B (sym e)) (p .far) (pick (q .far) (q .far) (p .near) (a .sites + rank q (q .far)))
-      ∙ pick-same refl (p .near) (a .sites + rank q (q .far))
+  place-far = pick-other (λ e. near-is-not-far B (sym e)) _ _ ∙ pick-same refl _ _
 
   place-own : (y : ℕ) → Own B y → to y ≡ a .sites + rank q y
   unfolding place
-  place-own y o = pick-other (o .not-near) (p .far) (pick y (q .far) (p .near) (a .sites + rank q y)) ∙ pick-other (o .not-far) (p .near) (a .sites + rank q y)
+  place-own y o = pick-other (o .not-near) _ _ ∙ pick-other (o .not-far) _ _
 
   pub position-shared : link-to (q .shared) ≡ p .shared
   unfolding position
-  position-shared = pick-same refl (p .shared) (length (a .links) + down (q .shared) (q .shared))
+  position-shared = pick-same refl _ _
 
   pub position-own : (k : ℕ) → k ≢ q .shared → link-to k ≡ length (a .links) + down (q .shared) k
   unfolding position
-  position-own k d = pick-other d (p .shared) (length (a .links) + down (q .shared) k)
+  position-own k d = pick-other d _ _
 
   -- what is said of the sites of both regions
   pub glued-first : {W : Type 0} (f g : ℕ → W) (x : ℕ) → Site (a .sites) x → x ≢ p .far → glued a p b q f g x ≡ f x
   unfolding glued
-  glued-first f g x s d = pick-other d (g (q .near)) (ite (decLe x (a .sites)) (f x) (g (ranked q (x - a .sites))))
-      ∙ if-pos (decLe x (a .sites)) (s .1) (f x) (g (ranked q (x - a .sites)))
+  glued-first f g x s d = pick-other d _ _ ∙ if-pos (decLe x (a .sites)) (s .1) _ _
 
   pub glued-far : {W : Type 0} (f g : ℕ → W) → glued a p b q f g (p .far) ≡ g (q .near)
   unfolding glued
-  glued-far f g = pick-same refl (g (q .near)) (ite (decLe (p .far) (a .sites)) (f (p .far)) (g (ranked q (p .far - a .sites))))
+  glued-far f g = pick-same refl _ _
 
   glued-own : {W : Type 0} (f g : ℕ → W) (y : ℕ) → Own B y → glued a p b q f g (to y) ≡ g y
   unfolding glued
@@ -98,8 +96,7 @@ module _ {a : Region} {p : Border} {b : Region} {q : Border} (A : Bordered a p) 
       let z = a .sites + rank q y in
       let back : z - a .sites ≡ rank q y = omega arith in
       let far = far-site A in
-      rw (place-own y o) (pick-other (λ e. omega (arith, o .low)) (g (q .near)) (ite (decLe z (a .sites)) (f z) (g (ranked q (z - a .sites))))
-      ∙ if-neg (decLe z (a .sites)) (λ h. omega (arith, o .low)) (f z) (g (ranked q (z - a .sites)))
+      rw (place-own y o) (pick-other (λ e. omega (arith, o .low)) _ _ ∙ if-neg (decLe z (a .sites)) (λ h. omega (arith, o .low)) _ _
       ∙ ap (λ r. g (ranked q r)) back ∙ ap g (o .again))
 
   pub glued-second : {W : Type 0} (f g : ℕ → W) (y : ℕ) → Site (b .sites) y → y ≢ q .far → glued a p b q f g (to y) ≡ g y

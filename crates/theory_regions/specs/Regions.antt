@@ -61,6 +61,6 @@ pub record Given : Type 0 where
   pub sizes : List ℕ
   pub sum : ℕ
 
--- by itself, by which of its links is shared, and by the other's first trimmed size of that link
+-- it is given that by itself, by which of its links is shared, and by the other's first trimmed size of that link
 unfoldable pub given : Region → ℕ → ℕ → Given
 given a s other = record { sizes = trimmedAgain a s other; sum = ownSum a (farSite a s) (trimmedAgain a s other) }

@@ -88,5 +88,6 @@ module _ (a b : Region) (partner : ℕ → ℕ) where
       (ite (decLt k (length (b .links))) (pick (look (a .capacities) j) (look (b .capacities) k) (chosen j k) apart) apart)
       apart
 
+  -- they share one link if they have two names in common, a link in both between these, of one usable size, and a far site each
   unfoldable pub sharingOf : Sharing
   sharingOf = pick commons 2 (sharedAt sharedFirst (sharedSecond sharedFirst)) apart

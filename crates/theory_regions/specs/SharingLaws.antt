@@ -1,7 +1,7 @@
 -- The decision whether two regions share one link tells it: by the names, which are different within a region, and since two sites of a tree have at most one
 -- link between them.
 use mathlib.Core.Path.{_≡_, refl, sym, ap, _∙_}
-use mathlib.Core.Logic.{_≢_, _↔_, _⊎_, inl, inr, ite, if-pos, if-neg}
+use mathlib.Core.Logic.{_≢_, _↔_, _⊎_, inl, inr, ⊎-swap, ite, if-pos, if-neg}
 use Prim.Native.Nat.{ℕ, zero, suc, _+_, _-_, _*_, _≤_, _<_}
 use native.Mathlib.Omega.{arith}
 use native.Mathlib.Decide.{decLt}
@@ -11,12 +11,13 @@ use Rattle.lists.specs.Sums.{contradiction, same?, cases, pick-same, pick-other
 use Rattle.lists.specs.Sums.{product-one, sum-add, sum-eq, sum-eq-but, sum-two, sum-single}
 use Rattle.model.specs.Flows.{Links, Site, Tree, one, two, at, side}
 use Rattle.theory_trees.specs.Trees.{at-end, at-le, bridge, loopless, side-link}
+use Rattle.theory_walk.specs.Regions.{differ-one}
 use Rattle.theory_regions.specs.Regions.{Region, lone}
 use Rattle.theory_regions.specs.JoinedTree.{Between, Border}
 use Rattle.theory_regions.specs.Sharing.{Named, SharesOneLink, Partners, firstFrom, Sharing, apart, sharing, commons, sharedFirst, sharedSecond}
 use Rattle.theory_regions.specs.Sharing.{met, mayBeFar, chosen, sharedAt, sharingOf}
-use Rattle.theory_regions.specs.Meeting.{at-both, link-sites, either}
-use Rattle.theory_regions.specs.FarSites.{differ-one, lone-iff, lone-le}
+use Rattle.theory_regions.specs.Meeting.{at-both, link-sites}
+use Rattle.theory_regions.specs.FarSites.{lone-iff, lone-le}
 use Rattle.theory_regions.specs.TwoRegions.{Neighbours}
 
 -- ---- of trees and sums
@@ -322,7 +323,7 @@ module _ {N : Type 0} {a b : Region} {name₁ name₂ : ℕ → N} (A : Named a 
       partnered-turned j k x y L = record {
         here = L .here;
         there = L .there;
-        between = either (L .between);
+        between = ⊎-swap (L .between);
         first = L .second;
         second = L .first;
         first-there = L .second-there;

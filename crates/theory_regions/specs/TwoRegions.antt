@@ -1,6 +1,6 @@
 -- Card 10 of document 02 for two regions: what they are given after the exchange is the trimmed sizes of their joined tree, link by link, and the two sums
 -- added are its total in halves, the largest that a plan of it has, however finely cut.
-use mathlib.Core.Path.{_≡_, refl, sym, ap}
+use mathlib.Core.Path.{_≡_, refl, sym}
 use mathlib.Core.Logic.{_≢_}
 use mathlib.Core.List.{List}
 use Prim.Native.Nat.{ℕ, _+_, _*_, _≤_, _<_}
@@ -31,7 +31,7 @@ pub record Neighbours (a : Region) (p : Border) (b : Region) (q : Border) : Type
 abbrev pub planOf : Region → List Pair
 planOf t = pairListOfParts (t .links) (t .sites) (look (trimmed t)) (endsIn t)
 
--- total is the largest total of a tree, in halves: no plan that fits has more, k parts to a circuit, and a plan in halves reaches it
+-- so many halves are the largest total of a tree: no plan that fits has more, k parts to a circuit, and a plan in halves reaches it
 pub record Largest (t : Region) (halves : ℕ) : Type 0 where
   pub none-has-more : (fs : List Pair) → Multiflow (t .links) (t .sites) (endsIn t) fs → (k : ℕ) → Fits (t .links) k (look (t .capacities)) fs
       → 2 * total fs ≤ k * halves
@@ -98,7 +98,3 @@ module _ {a b : Region} {p q : Border} (M : Neighbours a p b q) where
   -- and there is one
   pub the-joined-tree-of-two-regions : OfTheJoinedTree a b (joinedTree a p b q) (λ i. i) (position a p b q) firstGiven secondGiven
   the-joined-tree-of-two-regions = two-regions-have-what-every-joined-tree-has (the-joined-tree-joins (M .first) (M .second) (M .one-size))
-
--- what a region is given depends on nothing of the other but its first trimmed size of the shared link: neighbours that agree in it give the same
-pub one-number-decides : (a b b′ : Region) (s k k′ : ℕ) → firstSize b k ≡ firstSize b′ k′ → given a s (firstSize b k) ≡ given a s (firstSize b′ k′)
-one-number-decides a b b′ s k k′ e = ap (given a s) e
