@@ -1,0 +1,16 @@
+pub mod Regions
+pub mod JoinedTree
+pub mod Carried
+pub mod Lowered
+pub mod Meeting
+pub mod Again
+pub mod Exchange
+pub mod Totals
+pub mod Numbers
+pub mod Numbered
+pub mod FarSites
+pub mod TwoRegions
+pub mod Sharing
+pub mod SharingLaws
+pub mod JoinedNames
+pub mod Examples
