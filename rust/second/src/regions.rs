@@ -173,7 +173,7 @@ fn first_too_short(regions: &[Region; 2], places: [usize; 2]) -> Option<u8> {
     };
     let mut short = [1, 2].into_iter().filter(is_short);
     if planted(Error::SecondShortFirst) {
-        return short.last();
+        return short.next_back();
     }
     short.next()
 }
