@@ -1,9 +1,10 @@
 //! A second tree circuit planner.
 //!
 //! It reads a network sheet and writes the report headed `plan`, or that headed `whole`, or lists the
-//! sites in the order of work, or replays a booking log over it, or tells why the sheet is refused. It
-//! was written from the scope document and the cards alone and shares nothing with the proved planner,
-//! so that comparing the two can find a mistake in either.
+//! sites in the order of work, or replays a booking log over it, or trims it with the sheet of a
+//! neighbouring region, or tells why the sheet is refused. It was written from the scope document and
+//! the cards alone and shares nothing with the proved planner, so that comparing the two can find a
+//! mistake in either.
 //!
 //! Every step takes time linear in the sheet, or as good as linear: finding out whether two sites
 //! are joined already, names that collide in their hash table, and the sites that may be taken next,
@@ -26,6 +27,7 @@
 //! | `report` | writes the report |
 //! | `order` | takes the sites in the order of work |
 //! | `replay` | replays a booking log over the network |
+//! | `regions` | trims two regions that share one link |
 //! | `program` | what the programs do |
 //!
 //! Sites and links are numbered from 0 inside, in the order of their lines. The capacity of a link is
@@ -47,6 +49,7 @@ mod pairs;
 mod pieces;
 pub mod planted;
 pub mod program;
+mod regions;
 mod replay;
 mod report;
 mod tree;
@@ -57,6 +60,7 @@ pub use edition::Edition;
 use forest::Forest;
 use network::Network;
 use planted::{Error, planted};
+pub use regions::{Answer, Exchanged, first_step, regions, regions_text, second_step};
 pub use replay::{AMOUNT, LOG_BYTES, LOG_LINES, OPEN_PAIRS, Replayed, replay};
 use report::Shown;
 use tree::RootedTree;
@@ -95,10 +99,13 @@ pub enum Outcome {
     },
 }
 
-/// A refusal on its way to the caller.
-struct Refusal {
-    number: u8,
-    line: u32,
+/// Why a sheet is refused.
+#[derive(Clone, Copy, Debug, PartialEq, Eq)]
+pub struct Refusal {
+    /// The number of the cause.
+    pub number: u8,
+    /// The line at fault, from 1, or 0 when no line is.
+    pub line: u32,
 }
 
 /// Plans the network of `sheet` in halves and writes the report headed `plan` into `buffer`.

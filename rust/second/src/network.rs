@@ -286,8 +286,7 @@ impl<'sheet> Network<'sheet> {
         is_end
     }
 
-    /// Whether the line of a site marks it, for errors that can be planted.
-    #[cold]
+    /// Whether the line of a site marks it.
     pub fn is_marked(&self, site: Site) -> bool {
         self.is_marked[usize::from(site)]
     }

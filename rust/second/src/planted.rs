@@ -1,7 +1,8 @@
 //! Errors planted on purpose.
 //!
-//! With the feature `planted` one of ninety errors can be switched on, to show that the comparison
-//! of the planners finds it. Without the feature none of this reaches the compiled planner.
+//! With the feature `planted` one of these errors can be switched on, to show that the comparison of the
+//! planners finds it, or, of the fourteen errors in regions, the unit tests. Without the feature none of
+//! this reaches the compiled planner.
 
 /// An error that can be planted, numbered from 1.
 #[derive(Clone, Copy, Debug, PartialEq, Eq)]
@@ -186,10 +187,38 @@ pub enum Error {
     LastByteAlone = 89,
     /// A name of digits alone in a log is told as one that is no end.
     BareInLogUnknown = 90,
+    /// The greater of two trimmed sizes becomes the size of the shared link.
+    GreaterShared = 91,
+    /// Regions are not trimmed again with the size of the shared link.
+    TrimmedOnce = 92,
+    /// The far site counts for its own region and for the other.
+    FarInBothSums = 93,
+    /// The sizes of the shared link are compared as they are given.
+    SharedByGiven = 94,
+    /// Two regions may have more than two names in common.
+    ThirdInCommon = 95,
+    /// The far site may be marked.
+    MarkedFar = 96,
+    /// A list that is too short for a region is told before sheets that share no link.
+    ShortBeforeShared = 97,
+    /// Of two lists that are too short that of the second region is told.
+    SecondShortFirst = 98,
+    /// Of two sheets at fault the second is told.
+    SecondSheetFirst = 99,
+    /// Names in common are the same by bytes.
+    CommonByBytes = 100,
+    /// The list of the first region is filled before that of the second is told as too short.
+    ListBeforeShort = 101,
+    /// Of the links of a marked end only one counts in the sum of its region.
+    MarkedCountedOnce = 102,
+    /// One name may be that of the far site in both sheets.
+    FarOnOneSide = 103,
+    /// The far site may have several links.
+    FarWithLinks = 104,
 }
 
 /// All errors, in the order of their numbers.
-pub const ERRORS: [Error; 90] = [
+pub const ERRORS: [Error; 104] = [
     Error::RoundedHalf,
     Error::HighestRoot,
     Error::UpwardSets,
@@ -280,6 +309,20 @@ pub const ERRORS: [Error; 90] = [
     Error::LeadingZeroBare,
     Error::LastByteAlone,
     Error::BareInLogUnknown,
+    Error::GreaterShared,
+    Error::TrimmedOnce,
+    Error::FarInBothSums,
+    Error::SharedByGiven,
+    Error::ThirdInCommon,
+    Error::MarkedFar,
+    Error::ShortBeforeShared,
+    Error::SecondShortFirst,
+    Error::SecondSheetFirst,
+    Error::CommonByBytes,
+    Error::ListBeforeShort,
+    Error::MarkedCountedOnce,
+    Error::FarOnOneSide,
+    Error::FarWithLinks,
 ];
 
 #[cfg(feature = "planted")]

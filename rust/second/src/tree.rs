@@ -123,6 +123,11 @@ impl RootedTree {
         self.capacity[usize::from(site)]
     }
 
+    /// Gives the link from a site to its parent another capacity.
+    pub fn set_capacity(&mut self, site: Site, capacity: u32) {
+        self.capacity[usize::from(site)] = capacity;
+    }
+
     /// Whether a site is an end.
     #[inline]
     pub fn is_terminal(&self, site: Site) -> bool {
