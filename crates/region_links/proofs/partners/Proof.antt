@@ -2,10 +2,8 @@
 use mathlib.Core.Path.{_≡_, refl, sym, ap, _∙_}
 use Prim.Native.Nat.{_+_, _-_, _≤_}
 use native.Mathlib.Omega.{arith}
-use borrow.Author.Needs.{needs}
 use lib.ListN.{length, length-set}
 use lib.Seq.{getD-set-same, getD-set-other}
-use Rattle.lists.specs.Numbers.{look}
 use Rattle.lists.specs.Sums.{same?}
 use Rattle.model.specs.Limits.{PLACES}
 use Rattle.sheet_names.specs.LookupLaws.{range-at}
