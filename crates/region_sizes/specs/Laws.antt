@@ -1,5 +1,5 @@
 -- Laws of a region that is offered as lists: its sites with a single link and no mark, the sum over its own ends, and its trimmed sizes.
-use mathlib.Core.Path.{_≡_, refl, sym, ap, _∙_}
+use mathlib.Core.Path.{_≡_, sym, ap, _∙_}
 use mathlib.Core.Logic.{_≢_}
 use mathlib.Core.List.{List, [], _++_}
 use Prim.Native.Nat.{ℕ, suc, _+_, _-_, _*_, _≤_, _<_, min}
@@ -89,7 +89,8 @@ module _ {n : ℕ} {one two marks c : List ℕ} (w : MarkedTree largest n one tw
       rw (a-tree-within-the-limits-is-accepted largest n one two marks c w, le-leb (length one) (length lent) h)
       (ap (λ k. capacities n one two marks c ++ drop k lent) (capacities-keep-the-promise w .each))
 
-  pub a-trimmed-size-stands-there : (rest : List ℕ) (j : ℕ) → j < length one → look (capacities n one two marks c ++ rest) j ≡ look (capacities n one two marks c) j
+  pub a-trimmed-size-stands-there : (rest : List ℕ) (j : ℕ) → j < length one
+      → look (capacities n one two marks c ++ rest) j ≡ look (capacities n one two marks c) j
   a-trimmed-size-stands-there rest j h =
       List·getD-append (capacities n one two marks c) rest 0 j (omega (arith, capacities-keep-the-promise w .each))
 

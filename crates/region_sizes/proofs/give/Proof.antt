@@ -84,7 +84,8 @@ unfolding given ownSum farSite lone
 returns c =
     let a = c .before .before .before .before .before .before .before .before .before .before .before .before .before .before .before .before .args in (
       c .own-sum .ensures
-          ∙ ap₂ (ownSum (regionBy (a .n) (a .one .now) (a .two .now) (a .marks .now) [])) (c .before .before .far-site .ensures) (taken (c .before .before .before .before .before)),
+          ∙ ap₂ (ownSum (regionBy (a .n) (a .one .now) (a .two .now) (a .marks .now) [])) (c .before .before .far-site .ensures)
+          (taken (c .before .before .before .before .before)),
       after (c .before .before .before .before .before),
     )
 

@@ -43,7 +43,8 @@ loop-holds c = (omega arith, refl)
 own-at-requires : tie.Need-own-at-requires Inv-loop μ-loop
 own-at-requires c κs =
     let s = c .before .before .before .before .before .before .before .before .before .before .before .before .before .before .before in
-    (omega (arith, s .pre .within .few), c .before .before .before .before .before .before .before .before .before .before .chain .ensures, offer-limited (s .pre .within))
+    let made = c .before .before .before .before .before .before .before .before .before .before in
+    (omega (arith, s .pre .within .few), made .chain .ensures, offer-limited (s .pre .within))
 
 -- what a site counts stays small
 small : {n : ℕ} {one two marks sizes : List ℕ} → MarkedTree largest n one two marks sizes → (x v : ℕ)
@@ -68,7 +69,8 @@ sums-small f k zero h = omega arith
 sums-small f k (suc i) h = omega (arith, sums-small f k i h, h i)
 
 -- what one more site counts
-counted : (c : tie.After-own-at Inv-loop μ-loop) → let t = c .before .before .before .before .before in let a = t .before .before .before .before .before .before .before .before .before .before .before .args in
+counted : (c : tie.After-own-at Inv-loop μ-loop) → let t = c .before .before .before .before .before in
+    let a = t .before .before .before .before .before .before .before .before .before .before .before .args in
     c .own-at .result ≡ is (own (look (t .before .ends .result)) (a .far) (1 + t .loop .i)) 1
     * sumAt (links (a .one .now) (a .two .now)) (1 + t .loop .i) (look (a .sizes .now))
 counted c =
@@ -104,7 +106,8 @@ returns c =
     let a = t .before .before .before .before .before .before .before .before .before .before .before .args in
     let all : t .loop .i ≡ a .n = omega arith in
     t .loop .inv .1
-    ∙ ap (λ i. sum i (λ k. is (own (look (t .before .ends .result)) (a .far) (1 + k)) 1 * sumAt (links (a .one .now) (a .two .now)) (1 + k) (look (a .sizes .now)))) all
+    ∙ ap (λ i. sum i (λ k. is (own (look (t .before .ends .result)) (a .far) (1 + k)) 1
+    * sumAt (links (a .one .now) (a .two .now)) (1 + k) (look (a .sizes .now)))) all
     ∙ own-sum-by-sites (a .n) (a .one .now) (a .two .now) (a .marks .now) (a .far) (a .sizes .now) (look (t .before .ends .result)) (t .before .ends .ensures)
 
 pub own-sum-spec : {M : Type 1} → statement M
