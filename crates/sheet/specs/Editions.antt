@@ -1,6 +1,6 @@
 -- What Card 8 changed in reading (document 02): a sheet that is not headed as edition 2 is read as it was; one that is was refused with 2 at line 1, or with 1
 -- if longer than 16,384 bytes. A planner from before the card knows edition 1 alone. By the heading, which has one digit.
-use mathlib.Core.Bool.{Bool, true, false, cond, _&&_}
+use mathlib.Core.Bool.{Bool, true, false, cond, _&&_, false≢true}
 use mathlib.Core.List.{List, [], _∷_}
 use mathlib.Core.Logic.{inr}
 use mathlib.Core.Path.{_≡_, refl, sym, ap, _∙_}
@@ -68,6 +68,10 @@ not-headed-as-edition-2 s none = rw (fails (isHeading 50 (fields (lineAt s 0))) 
     by : (t : Bool) → cond t edition1 edition1 ≡ edition1
     by true = refl
     by false = refl
+
+-- as a sheet headed as edition 1 is not
+pub edition-1-is-another-heading : (s : List ℕ) → Headed edition1 s → ¬ (Headed edition2 s)
+edition-1-is-another-heading s one two = false≢true (sym (one-digit (fields (lineAt s 0)) two) ∙ one)
 
 -- a planner from before reads every sheet as one of edition 1
 pub edition-1-alone : (s : List ℕ) → editionOf editionsBefore s ≡ edition1
