@@ -71,7 +71,7 @@ first-found test i (suc m) = same? (test i) 1
       | inr h ↦ inr (omega (arith, h .0), h .1)
     ]))
 
-one-is-found : (test : ℕ → ℕ) (m : ℕ) → firstFrom test 0 m < m → test (firstFrom test 0 m) ≡ 1
+pub one-is-found : (test : ℕ → ℕ) (m : ℕ) → firstFrom test 0 m < m → test (firstFrom test 0 m) ≡ 1
 one-is-found test m l = elim (first-found test 0 m) [ inl h ↦ absurd (omega (arith, h .0)) | inr h ↦ h .1 ]
 
 ite-cases : {P A : Type 0} (Q : A → Type 0) (h : Dec P) (x y : A) → (P → Q x) → (¬ P → Q y) → Q (ite h x y)
