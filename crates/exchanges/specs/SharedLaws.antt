@@ -51,7 +51,7 @@ module _ (s : List ℕ) (net : Network) (t : List ℕ) (other : Network) where
       inl ((omega (arith, h .1), omega (arith, h .1, h .2)), sym (rw back (h .3)))
   found-or-not x Absent h = inr (refl, λ y p e. h (y - 1) (omega arith) (sym e))
 
-  look-ups-find-partners : Partners (length (net .names)) (length (other .names)) (siteName s net) (siteName t other) (partner s net t other)
+  pub look-ups-find-partners : Partners (length (net .names)) (length (other .names)) (siteName s net) (siteName t other) (partner s net t other)
   unfolding partner
   look-ups-find-partners x p =
       let f = nameAt s (net .names) (x - 1) in found-or-not x (lookup t (other .names) f) (lookup-says t f (other .names) 1)

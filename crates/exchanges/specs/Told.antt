@@ -61,16 +61,16 @@ pub data ExchangeTold (known : List Edition) (s t l m : List ℕ) : Type 0 where
 -- ---- case by case
 
 module _ (known : List Edition) (s t l m : List ℕ) where
-  first-refused : (k line : ℕ) → readSheet known s ≡ refused k line → exchanged known s t l m ≡ refusal 1 k line l m
+  pub first-refused : (k line : ℕ) → readSheet known s ≡ refused k line → exchanged known s t l m ≡ refusal 1 k line l m
   unfolding exchanged exchangeRead
   first-refused k line e = rw e refl
 
-  second-refused : (net : Network) (k line : ℕ) → readSheet known s ≡ accepted net → readSheet known t ≡ refused k line
+  pub second-refused : (net : Network) (k line : ℕ) → readSheet known s ≡ accepted net → readSheet known t ≡ refused k line
       → exchanged known s t l m ≡ refusal 2 k line l m
   unfolding exchanged exchangeRead
   second-refused net k line e f = rw (e, f) refl
 
-  by-sharing : {net other : Network} → BothRead known s net t other → exchanged known s t l m ≡ exchangeOver net other l m (sharingIn s net t other)
+  pub by-sharing : {net other : Network} → BothRead known s net t other → exchanged known s t l m ≡ exchangeOver net other l m (sharingIn s net t other)
   unfolding exchanged exchangeRead
   by-sharing R = rw (R .first, R .second) refl
 
