@@ -8,6 +8,7 @@ ghost use Rattle.planner.specs.Taken.{Listed};
 ghost use Rattle.region_sizes.specs.Offered.{regionBy};
 ghost use Rattle.exchanges.specs.Outcome.{exchanged};
 ghost use Rattle.exchanges.specs.Taken.{deliverBetween, Taken};
+ghost use Rattle.exchanges.specs.declared.Outcome.the-variants.{Refused};
 use model::SITES;
 use region_sharing::Shared;
 use sheet::Lists;
@@ -31,8 +32,19 @@ pub enum Outcome {
     },
 }
 
-// The answers for two regions that share one link, by its number in each: each is given its trimmed sizes, at the front of its lent list, and their sum; or the
-// first list with fewer places than its region has links is refused.
+// The refusal of the list of a region.
+fn short_list(sheet: u64) -> Outcome
+    ensures { λ r. ⌜ r ≡ Refused sheet 9 0 ⌝ }
+{
+    Outcome::Refused {
+        sheet,
+        number: 9,
+        line: 0,
+    }
+}
+
+// The answers for two regions that share one link, by its number in each: each is given its trimmed sizes, at the front of its lent list, and their
+// sum; or the first list with fewer places than its region has links is refused.
 fn deliver(
     n: usize,
     one: &[usize],
@@ -51,28 +63,26 @@ fn deliver(
 ) -> Outcome
     requires { ⌜ MarkedTree largest n (now one) (now two) (now marks) (now capacity) × (link < length (now one))
         × MarkedTree largest n2 (now one2) (now two2) (now marks2) (now capacity2) × (link2 < length (now one2)) ⌝ }
-    ensures told { λ r. ⌜ r ≡ deliverBetween (regionBy n (now (one .entry)) (now (two .entry)) (now (marks .entry)) (now (capacity .entry))) link
-        (regionBy n2 (now (one2 .entry)) (now (two2 .entry)) (now (marks2 .entry)) (now (capacity2 .entry))) link2 (now (sizes .entry)) (now (sizes2 .entry)) .outcome ⌝ }
-    ensures left { λ r. ⌜ now (sizes .exit) ≡ deliverBetween (regionBy n (now (one .entry)) (now (two .entry)) (now (marks .entry)) (now (capacity .entry))) link
-        (regionBy n2 (now (one2 .entry)) (now (two2 .entry)) (now (marks2 .entry)) (now (capacity2 .entry))) link2 (now (sizes .entry)) (now (sizes2 .entry)) .first ⌝ }
-    ensures left2 { λ r. ⌜ now (sizes2 .exit) ≡ deliverBetween (regionBy n (now (one .entry)) (now (two .entry)) (now (marks .entry)) (now (capacity .entry))) link
-        (regionBy n2 (now (one2 .entry)) (now (two2 .entry)) (now (marks2 .entry)) (now (capacity2 .entry))) link2 (now (sizes .entry)) (now (sizes2 .entry)) .second ⌝ }
+    ensures told { λ r. ⌜ r ≡ deliverBetween
+        (regionBy n (now (one .entry)) (now (two .entry)) (now (marks .entry)) (now (capacity .entry))) link
+        (regionBy n2 (now (one2 .entry)) (now (two2 .entry)) (now (marks2 .entry)) (now (capacity2 .entry))) link2
+        (now (sizes .entry)) (now (sizes2 .entry)) .outcome ⌝ }
+    ensures left { λ r. ⌜ now (sizes .exit) ≡ deliverBetween
+        (regionBy n (now (one .entry)) (now (two .entry)) (now (marks .entry)) (now (capacity .entry))) link
+        (regionBy n2 (now (one2 .entry)) (now (two2 .entry)) (now (marks2 .entry)) (now (capacity2 .entry))) link2
+        (now (sizes .entry)) (now (sizes2 .entry)) .first ⌝ }
+    ensures left2 { λ r. ⌜ now (sizes2 .exit) ≡ deliverBetween
+        (regionBy n (now (one .entry)) (now (two .entry)) (now (marks .entry)) (now (capacity .entry))) link
+        (regionBy n2 (now (one2 .entry)) (now (two2 .entry)) (now (marks2 .entry)) (now (capacity2 .entry))) link2
+        (now (sizes .entry)) (now (sizes2 .entry)) .second ⌝ }
 {
     let count = one.len();
     let count2 = one2.len();
     if sizes.len() < count {
-        return Outcome::Refused {
-            sheet: 1,
-            number: 9,
-            line: 0,
-        };
+        return short_list(1);
     }
     if sizes2.len() < count2 {
-        return Outcome::Refused {
-            sheet: 2,
-            number: 9,
-            line: 0,
-        };
+        return short_list(2);
     }
     let shown = region_sizes::first_size(n, one, two, marks, capacity, link);
     let shown2 = region_sizes::first_size(n2, one2, two2, marks2, capacity2, link2);
@@ -182,7 +192,8 @@ fn exchange_parts<'a, 'b>(
     sizes2: &mut [u64],
 ) -> Outcome
     requires { ⌜ Taken (now first) (now starts) (now stops) n (take m (now one)) (take m (now two)) (take n (now mark)) (take m (now capacity))
-        × Taken (now second) (now starts2) (now stops2) n2 (take m2 (now one2)) (take m2 (now two2)) (take n2 (now mark2)) (take m2 (now capacity2))
+        × Taken (now second) (now starts2) (now stops2) n2 (take m2 (now one2)) (take m2 (now two2))
+        (take n2 (now mark2)) (take m2 (now capacity2))
         × (m ≤ length (now one)) × (m ≤ length (now two)) × (m ≤ length (now capacity)) × (n ≤ length (now mark))
         × (m2 ≤ length (now one2)) × (m2 ≤ length (now two2)) × (m2 ≤ length (now capacity2)) × (n2 ≤ length (now mark2)) ⌝ }
     ensures told { λ r. ⌜ r ≡ exchanged editions (now (first .entry)) (now (second .entry)) (now (sizes .entry)) (now (sizes2 .entry)) .outcome ⌝ }

@@ -1,5 +1,5 @@
 -- `deliver` meets its contract: the places first, then each region is given what goes by the other's number.
-use mathlib.Core.Path.{sym, ap}
+use mathlib.Core.Path.{sym, ap, _∙_}
 use borrow.Author.Needs.{needs}
 use Rattle.exchanges.specs.Taken.{first-list-is-short, second-list-is-short, both-are-given}
 use Rattle.exchanges.proofs.deliver.Statement.{statement}
@@ -7,18 +7,20 @@ use Rattle.exchanges.proofs.deliver.Tie as tie
 
 returns : tie.Need-returns
 returns c =
-    let s = c .before .before .before .before .before .before .before .before .before .before .before in
+    let short = c .before in
+    let s = short .before .before .before .before .before .before .before .before .before .before .before in
     let a = s .args in
-    let e = first-list-is-short (s .pre .0) (s .pre .2) (a .link) (a .link2) (s .pre .1) (s .pre .3) (a .sizes .now) (a .sizes2 .now) (c .if1 .taken) in
-    (sym (ap (λ p. p .outcome) e), (sym (ap (λ p. p .first) e), sym (ap (λ p. p .second) e)))
+    let e = first-list-is-short (s .pre .0) (s .pre .2) (a .link) (a .link2) (s .pre .1) (s .pre .3) (a .sizes .now) (a .sizes2 .now) (short .if1 .taken) in
+    (c .short-list .ensures ∙ sym (ap (λ p. p .outcome) e), (sym (ap (λ p. p .first) e), sym (ap (λ p. p .second) e)))
 
 returns-2 : tie.Need-returns-2
 returns-2 c =
-    let s = c .before .before .before .before .before .before .before .before .before .before .before .before in
+    let short = c .before in
+    let s = short .before .before .before .before .before .before .before .before .before .before .before .before in
     let a = s .args in
     let e = second-list-is-short (s .pre .0) (s .pre .2) (a .link) (a .link2) (s .pre .1) (s .pre .3) (a .sizes .now) (a .sizes2 .now)
-    (c .before .if1 .left) (c .if2 .taken) in
-    (sym (ap (λ p. p .outcome) e), (sym (ap (λ p. p .first) e), sym (ap (λ p. p .second) e)))
+    (short .before .if1 .left) (short .if2 .taken) in
+    (c .short-list2 .ensures ∙ sym (ap (λ p. p .outcome) e), (sym (ap (λ p. p .first) e), sym (ap (λ p. p .second) e)))
 
 returns-3 : tie.Need-returns-3
 returns-3 c =
@@ -37,7 +39,9 @@ pub deliver-spec : {M : Type 1} → statement M
 deliver-spec =
     tie.close
     (tie.spec
+    (λ c κs. search needs)
     returns
+    (λ c κs. search needs)
     returns-2
     (λ c κs. search needs)
     (λ c κs. search needs)

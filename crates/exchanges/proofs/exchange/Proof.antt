@@ -1,4 +1,4 @@
--- `exchange` meets its contract: a refusal of the reading is passed on as one of sheet 1, and over an accepted sheet the second is read.
+-- `exchange` meets its contract: a refusal of the reading is passed on as one of sheet 1; else the second sheet is read.
 use mathlib.Core.Path.{sym, ap, _∙_}
 use borrow.Author.Needs.{needs}
 use Rattle.model.specs.Edition.{editions}
@@ -13,7 +13,8 @@ exchange-second-requires c κs =
     let told = c .before .before in
     let read = told .before .before in
     rw (← (read .read .ensures)) at
-    (accepted-is-listed (read .before .before .before .before .before .args .first .now) (sym (ap (λ x. x .answer) (read .read .ensures)) ∙ told .enum-told .given .1))
+    (accepted-is-listed (read .before .before .before .before .before .args .first .now)
+    (sym (ap (λ x. x .answer) (read .read .ensures)) ∙ told .enum-told .given .1))
 
 returns : tie.Need-returns
 returns c =

@@ -7,7 +7,8 @@ use Rattle.exchanges.proofs.exchange_networks.Tie as tie
 
 exchange-parts-requires : tie.Need-exchange-parts-requires
 exchange-parts-requires c κs =
-    let s = c .before .before .before .before .before .before .before .before .before .before .before .before .before .before .before .before .before .before .before .before .before .before .before .before .before .before .before .before in
+    let second = c .before .before .before .before .before .before .before .before .before .before .before .before in
+    let s = second .before .before .before .before .before .before .before .before .before .before .before .before .before .before .before .before in
     let room = room-for-the-links (s .pre .0) in
     let room2 = room-for-the-links (s .pre .1) in
     (the-lists-are-taken (s .pre .0), the-lists-are-taken (s .pre .1), room .0, room .1, room .2, room .3, room2 .0, room2 .1, room2 .2, room2 .3)

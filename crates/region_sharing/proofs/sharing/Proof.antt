@@ -15,7 +15,8 @@ use Rattle.region_sharing.proofs.sharing.Statement.{statement}
 use Rattle.region_sharing.proofs.sharing.Tie as tie
 
 -- at a link of the first region: its sites
-sites : (c : tie.Else2) → let found = c .before in let a = found .before .before .before .before .before .before .before .before .before .before .before .args in
+sites : (c : tie.Else2) → let found = c .before in
+    let a = found .before .before .before .before .before .before .before .before .before .before .before .args in
     Site (a .n) (look (a .one .now) (found .shared-first .result)) × Site (a .n) (look (a .two .now) (found .shared-first .result))
 sites c =
     let found = c .before in
