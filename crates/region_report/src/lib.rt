@@ -46,7 +46,8 @@ fn size_lines(
     requires { ⌜ Linked (now sheet) (now starts) (now stops) n (now one) (now two)
         × (at + 60 * length (now one) ≤ REPORT) ⌝ }
     ensures { λ r. ⌜ Wrote (now (buf .entry)) at (linkLines (spelt (now (sheet .entry)) (ranges (now (starts .entry)) (now (stops .entry)) 0 n))
-        (links (now (one .entry)) (now (two .entry))) (now (sizes .entry)) (length (now (one .entry)))) (now (buf .exit)) r ⌝ }
+        (links (now (one .entry)) (now (two .entry))) (now (sizes .entry)) (length (now (one .entry)))) (now (buf .exit)) r
+        × (r ≤ REPORT) ⌝ }
 {
     let mut next = at;
     for j in 0..one.len() {
@@ -75,7 +76,8 @@ fn lines_parts<'a>(
     requires { ⌜ Linked (now sheet) (now starts) (now stops) n (take m (now one)) (take m (now two))
         × (at + 60 * m ≤ REPORT) × (m ≤ length (now one)) × (m ≤ length (now two)) ⌝ }
     ensures { λ r. ⌜ Wrote (now (buf .entry)) at (linkLines (spelt (now (sheet .entry)) (ranges (now (starts .entry)) (now (stops .entry)) 0 n))
-        (links (take m (now (one .entry))) (take m (now (two .entry)))) (now (sizes .entry)) m) (now (buf .exit)) r ⌝ }
+        (links (take m (now (one .entry))) (take m (now (two .entry)))) (now (sizes .entry)) m) (now (buf .exit)) r
+        × (r ≤ REPORT) ⌝ }
 {
     size_lines(
         sheet,
@@ -99,7 +101,8 @@ fn lines_network(
     at: usize,
 ) -> usize
     requires { ⌜ Listed (now sheet) network × (at ≤ 256) ⌝ }
-    ensures { λ r. ⌜ Wrote (now (buf .entry)) at (linksText editions (now (sheet .entry)) (now (sizes .entry))) (now (buf .exit)) r ⌝ }
+    ensures { λ r. ⌜ Wrote (now (buf .entry)) at (linksText editions (now (sheet .entry)) (now (sizes .entry))) (now (buf .exit)) r
+        × (r ≤ REPORT) ⌝ }
 {
     let n = network.sites;
     let m = network.links;
@@ -120,7 +123,8 @@ fn lines_network(
 // The lines of all links of a sheet, with their sizes, from a place of the buffer on; none where it is refused.
 pub fn write_links(sheet: &[u8], sizes: &[u64; SITES], buf: &mut [u8], at: usize) -> usize
     requires { ⌜ at ≤ 256 ⌝ }
-    ensures { λ r. ⌜ Wrote (now (buf .entry)) at (linksText editions (now (sheet .entry)) (now (sizes .entry))) (now (buf .exit)) r ⌝ }
+    ensures { λ r. ⌜ Wrote (now (buf .entry)) at (linksText editions (now (sheet .entry)) (now (sizes .entry))) (now (buf .exit)) r
+        × (r ≤ REPORT) ⌝ }
 {
     let reading = sheet::read(sheet);
     let answer = reading.answer;
@@ -138,7 +142,8 @@ pub fn write_region(
     sizes: &[u64; SITES],
     buf: &mut [u8],
 ) -> usize
-    ensures { λ r. ⌜ Wrote (now (buf .entry)) 0 (regionText editions number sum (now (sheet .entry)) (now (sizes .entry))) (now (buf .exit)) r ⌝ }
+    ensures { λ r. ⌜ Wrote (now (buf .entry)) 0 (regionText editions number sum (now (sheet .entry)) (now (sizes .entry))) (now (buf .exit)) r
+        × (r ≤ REPORT) ⌝ }
 {
     let word = put_bytes(buf, 0, b"region", 9);
     let at = put_numbers(buf, word, number, sum);

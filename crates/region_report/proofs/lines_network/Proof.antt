@@ -18,7 +18,7 @@ returns : tie.Need-returns
 returns c =
     let done = c .before .before in
     let s = done .before .before .before .before .before .before .before .before .before .before .before in
-    rw (lines-of-a-sheet (s .pre .0) (s .args .sizes .now)) at (done .lines-parts .ensures)
+    (rw (lines-of-a-sheet (s .pre .0) (s .args .sizes .now)) at (done .lines-parts .ensures .0), done .lines-parts .ensures .1)
 
 pub lines-network-spec : {M : Type 1} → statement M
 lines-network-spec = tie.close (tie.spec lines-parts-requires (λ c. search needs) returns)

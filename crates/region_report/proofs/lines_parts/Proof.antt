@@ -17,7 +17,7 @@ returns c =
     let done = c .before .before in
     let s = done .before .before .before .before .before .before .before .before in
     let a = s .args in
-    rw (length-take-le (a .m) (a .one .now) (s .pre .2)) at (done .size-lines .ensures)
+    (rw (length-take-le (a .m) (a .one .now) (s .pre .2)) at (done .size-lines .ensures .0), done .size-lines .ensures .1)
 
 pub lines-parts-spec : {M : Type 1} → statement M
 lines-parts-spec =

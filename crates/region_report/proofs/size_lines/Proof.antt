@@ -67,7 +67,7 @@ returns c =
     let top = c .before in
     let a = top .before .before .before .before .before .args in
     let all : top .loop .j ≡ length (a .one .now) = omega arith in
-    rw all at (top .loop .inv .2)
+    (rw all at (top .loop .inv .2), omega (arith, top .loop .inv .1, top .before .before .before .before .before .pre .1))
 
 pub size-lines-spec : {M : Type 1} → statement M
 size-lines-spec =

@@ -1,5 +1,6 @@
 -- `write_links` meets its contract: a refused sheet has no lines, and an accepted one those of its network.
 use mathlib.Core.Path.{sym, ap, _∙_}
+use native.Mathlib.Omega.{arith}
 use borrow.Author.Needs.{needs}
 use Rattle.planner.specs.Taken.{accepted-is-listed}
 use Rattle.exchanges.specs.Taken.{refusal-is-read}
@@ -21,10 +22,13 @@ lines-network-requires c κs =
 returns : tie.Need-returns
 returns c =
     let read = c .before .before in
-    let a = read .before .before .before .args in
-    rw (no-lines-of-a-refused-sheet (a .sheet .now) (a .sizes .now)
-    (refusal-is-read (a .sheet .now) (sym (ap (λ x. x .answer) (read .read .ensures)) ∙ c .enum-told .given .1)))
-    (nothing (a .buf .now) (a .at))
+    let s = read .before .before .before in
+    let a = s .args in (
+      rw (no-lines-of-a-refused-sheet (a .sheet .now) (a .sizes .now)
+          (refusal-is-read (a .sheet .now) (sym (ap (λ x. x .answer) (read .read .ensures)) ∙ c .enum-told .given .1)))
+          (nothing (a .buf .now) (a .at)),
+      omega (arith, s .pre),
+    )
 
 pub write-links-spec : {M : Type 1} → statement M
 write-links-spec =

@@ -31,7 +31,8 @@ returns c =
     let numbers = done .before .before .before .before in
     let word = numbers .before .before .before .before in
     let a = word .before .before .before .before .before .args in
-    then (rw (heading-is (a .number) (a .sum)) at (then (word .put-bytes .ensures) (numbers .put-numbers .ensures))) (done .write-links .ensures)
+    let heading = rw (heading-is (a .number) (a .sum)) at (then (word .put-bytes .ensures) (numbers .put-numbers .ensures)) in
+    (then heading (done .write-links .ensures .0), done .write-links .ensures .1)
 
 pub write-region-spec : {M : Type 1} → statement M
 write-region-spec =
