@@ -25,7 +25,6 @@ use Rattle.sheet_names.specs.LookupLaws.{length-ranges}
 use Rattle.sheet_names.specs.Names.{ranges, Different}
 use Rattle.sheet.specs.declared.Answer.the-variants as answered
 use Rattle.sheet.specs.declared.Lists.{Lists}
-use Rattle.theory_regions.specs.JoinedTree.{Border}
 use Rattle.theory_regions.specs.Regions.{Region, firstSize, Given, given}
 use Rattle.theory_regions.specs.Sharing.{Partners, Sharing, apart, sharing, sharingOf}
 use Rattle.theory_regions.specs.SharingLaws.{Tells, tells-none, tells-some, the-decision-tells}

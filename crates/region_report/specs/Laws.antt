@@ -1,10 +1,10 @@
 -- Laws of the text of a region's answer: a line in its pieces, one line more, and how long they are.
 use mathlib.Core.List.{List, [], _∷_, _++_, append-assoc}
 use mathlib.Core.Path.{_≡_, refl, sym, ap, _∙_}
-use Prim.Native.Nat.{ℕ, zero, suc, _+_, _-_, _*_, _^_, _≤_, _<_}
+use Prim.Native.Nat.{ℕ, _+_, _-_, _^_, _≤_, _<_}
 use native.Mathlib.Numerals.{add-one}
 use native.Mathlib.Omega.{arith}
-use lib.ListN.{length, take, length-append, length-take}
+use lib.ListN.{length, take, length-append}
 use lib.Seq.{length-take-le}
 use Rattle.lists.specs.Numbers.{look}
 use Rattle.model.specs.Edition.{editions}
@@ -13,7 +13,7 @@ use Rattle.model.specs.Limits.{SITES, LINKS}
 use Rattle.model.specs.Text.{bytes}
 use Rattle.planner.specs.Small.{name-or-nothing}
 use Rattle.planner.specs.Taken.{Listed, room-for-the-links}
-use Rattle.exchanges.specs.Taken.{Taken, networkBy, the-lists-are-taken}
+use Rattle.exchanges.specs.Taken.{the-lists-are-taken}
 use Rattle.sheet.specs.Editions.{an-accepted-sheet-is-within-the-largest}
 use Rattle.sheet.specs.Sheet.{refused, readSheet}
 use Rattle.sheet.specs.declared.Lists.{Lists}

@@ -9,7 +9,7 @@ use Rattle.model.specs.Text.{bytes}
 use Rattle.model.specs.declared.Edition.{Edition}
 use Rattle.text_writers.specs.Fields.{decimal, line}
 use Rattle.sheet_names.specs.Names.{nameAt}
-use Rattle.sheet.specs.Sheet.{Network, Read, refused, accepted, readSheet}
+use Rattle.sheet.specs.Sheet.{Read, refused, accepted, readSheet}
 
 -- `L`: names, trimmed size
 unfoldable pub linkRecord : (ℕ → List ℕ) → ℕ → ℕ → ℕ → List ℕ

@@ -6,7 +6,6 @@ ghost use mathlib.Core.Path.{_≡_};
 ghost use mathlib.Core.List.{[]};
 ghost use Prim.Native.Nat.{ℕ, _*_, _≤_};
 ghost use lib.Dec.{eqb};
-ghost use lib.ListN.{length};
 ghost use Rattle.lists.specs.Numbers.{look};
 ghost use Rattle.model.specs.Edition.{largest};
 ghost use Rattle.model.specs.Flows.{Site};

@@ -13,7 +13,7 @@ use Rattle.sheet.specs.Sheet.{Network, accepted, readSheet, editionOf}
 use Rattle.exchanges.specs.Outcome.{sheetOf, number, lineOf, firstOf, secondOf, exchanged}
 use Rattle.exchanges.specs.Causes.{Cause, of-the-first, of-the-second, no-shared-link, first-list-too-short, second-list-too-short}
 use Rattle.exchanges.specs.SharedLaws.{a-size-for-each-link}
-use Rattle.exchanges.specs.Told.{IsRefused, ExchangeTold, for-its-cause, both-answered, the-exchange-is-told-or-its-cause}
+use Rattle.exchanges.specs.Told.{ExchangeTold, for-its-cause, both-answered, the-exchange-is-told-or-its-cause}
 use Rattle.exchanges.specs.declared.Answer.{Answer}
 use Rattle.exchanges.specs.declared.Outcome.{Outcome}
 use Rattle.exchanges.specs.declared.Outcome.the-variants.{Answered, Refused}

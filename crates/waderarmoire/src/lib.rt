@@ -114,7 +114,8 @@ pub extern "C" fn waderarmoire_regions(
     sizes2: &mut [u64],
     sums: &mut [u64; 2],
 ) -> u64
-    ensures told { λ r. ⌜ r ≡ packedRegions (exchanged editions (now (first .entry)) (now (second .entry)) (now (sizes .entry)) (now (sizes2 .entry)) .outcome) ⌝ }
+    ensures told { λ r. ⌜ r
+        ≡ packedRegions (exchanged editions (now (first .entry)) (now (second .entry)) (now (sizes .entry)) (now (sizes2 .entry)) .outcome) ⌝ }
     ensures left { λ r. ⌜ now (sizes .exit)
         ≡ exchanged editions (now (first .entry)) (now (second .entry)) (now (sizes .entry)) (now (sizes2 .entry)) .first ⌝ }
     ensures left2 { λ r. ⌜ now (sizes2 .exit)

@@ -1,5 +1,5 @@
 -- `size_line` meets its contract: its four fields, piece by piece; a line has at most 60 bytes.
-use mathlib.Core.List.{[], _∷_, _++_}
+use mathlib.Core.List.{[], _∷_}
 use mathlib.Core.Path.{ap}
 use native.Mathlib.Omega.{arith}
 use borrow.Author.Needs.{needs}

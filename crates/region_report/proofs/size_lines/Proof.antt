@@ -1,6 +1,6 @@
 -- `size_lines` meets its contract. The loop's invariant: the lines of the first j links are written, each of at most 60 bytes.
-use mathlib.Core.Path.{_≡_, refl, sym, ap, subst, _∙_}
-use Prim.Native.Nat.{_+_, _-_, _*_, _≤_, _<_}
+use mathlib.Core.Path.{_≡_, ap}
+use Prim.Native.Nat.{_+_, _-_, _*_, _≤_}
 use native.Mathlib.Omega.{arith}
 use borrow.Author.Needs.{needs}
 use lib.ListN.{length}
@@ -89,8 +89,10 @@ size-lines-spec =
     (λ c κs. search needs)
     (λ c. let here = c .before .before .before .before .before in omega (arith, sites here, here .before .before .before .before .before .before .pre .0 .few))
     (λ c. let here = c .before .before .before .before .before in omega (arith, sites here, here .before .before .before .before .before .before .pre .0 .few))
-    (λ c. let here = c .before .before .before .before .before .before in omega (arith, sites here, here .before .before .before .before .before .before .pre .0 .few))
-    (λ c. let here = c .before .before .before .before .before .before in omega (arith, sites here, here .before .before .before .before .before .before .pre .0 .few))
+    (λ c. let here = c .before .before .before .before .before .before in
+    omega (arith, sites here, here .before .before .before .before .before .before .pre .0 .few))
+    (λ c. let here = c .before .before .before .before .before .before in
+    omega (arith, sites here, here .before .before .before .before .before .before .pre .0 .few))
     (λ c κs. search needs)
     (λ c. let here = c .before .before .before .before .before .before .before .before in omega (arith, here .before .before .before .before .before .before .pre .0 .fewer))
     (λ c. let here = c .before .before .before .before .before .before .before .before in omega (arith, here .before .before .before .before .before .before .pre .0 .fewer))

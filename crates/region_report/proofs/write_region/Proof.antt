@@ -1,9 +1,6 @@
 -- `write_region` meets its contract: the heading, then the lines of the links.
-use mathlib.Core.List.{[], _∷_, _++_}
 use native.Mathlib.Omega.{arith}
 use borrow.Author.Needs.{needs}
-use Rattle.model.specs.Text.{bytes}
-use Rattle.text_writers.specs.Fields.{decimal}
 use Rattle.text_writers.specs.Writing.{then}
 use Rattle.report_words.specs.TwoTexts.{two-numbers}
 use Rattle.region_report.specs.Laws.{heading-is}

@@ -1,10 +1,9 @@
 -- `sharing` meets its contract: the tests of the definition one by one.
-use mathlib.Core.Path.{_≡_, sym, ap, _∙_}
-use Prim.Native.Nat.{suc, _≤_, _<_}
+use mathlib.Core.Path.{sym, _∙_}
+use Prim.Native.Nat.{_≤_}
 use native.Mathlib.Omega.{arith}
 use borrow.Author.Needs.{needs}
-use lib.ListN.{length}
-use Rattle.lists.specs.Numbers.{differ, sum, look}
+use Rattle.lists.specs.Numbers.{look}
 use Rattle.model.specs.Flows.{Site}
 use Rattle.model.specs.Limits.{SITES}
 use Rattle.tree_links.specs.Chains.{offer-placed}

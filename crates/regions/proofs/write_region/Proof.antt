@@ -1,6 +1,5 @@
 -- `write_region` is safe: the text of a region fits the buffer.
 use mathlib.Core.Path.{sym}
-use native.Mathlib.Omega.{arith}
 use lib.Seq.{length-take-le}
 use borrow.Author.Needs.{needs}
 use Rattle.regions.proofs.write_region.Statement.{statement}

@@ -69,7 +69,9 @@ behind c =
     (room-lined (a .sheet) (a .line) (if .if1 .left) (omega arith) (omega arith)))
 
 put-part-requires-3 : tie.Need-put-part-requires-3
-put-part-requires-3 c κs = let number = c .before .before .before .before in room-front _ (32 ∷ []) (place (number .before .before .before .before .before .before .before .before .before .args .line)) (behind number)
+put-part-requires-3 c κs =
+    let number = c .before .before .before .before in
+    room-front _ (32 ∷ []) (place (number .before .before .before .before .before .before .before .before .before .args .line)) (behind number)
 
 put-place-requires : tie.Need-put-place-requires
 put-place-requires c κs =

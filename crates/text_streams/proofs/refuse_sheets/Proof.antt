@@ -40,7 +40,8 @@ slice-aggregate-write-all : tie.Need-slice-aggregate-write-all
 slice-aggregate-write-all c =
     let at-words = c .before .before in
     let s = at-words .before .before .before .before .before .before .before .before .before .args in
-    sym (length-take-le _ _ (omega (arith, at-words .write-words-of-sheets .ensures .next, words-of-sheets-are-short (s .sheet) (s .number) (s .line) (omega arith) (omega arith))))
+    sym (length-take-le _ _
+    (omega (arith, at-words .write-words-of-sheets .ensures .next, words-of-sheets-are-short (s .sheet) (s .number) (s .line) (omega arith) (omega arith))))
 
 write-all-requires : tie.Need-write-all-requires
 write-all-requires c κs = search needs
