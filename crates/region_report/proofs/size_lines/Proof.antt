@@ -94,8 +94,10 @@ size-lines-spec =
     (λ c. let here = c .before .before .before .before .before .before in
     omega (arith, sites here, here .before .before .before .before .before .before .pre .0 .few))
     (λ c κs. search needs)
-    (λ c. let here = c .before .before .before .before .before .before .before .before in omega (arith, here .before .before .before .before .before .before .pre .0 .fewer))
-    (λ c. let here = c .before .before .before .before .before .before .before .before in omega (arith, here .before .before .before .before .before .before .pre .0 .fewer))
+    (λ c. let here = c .before .before .before .before .before .before .before .before in
+    omega (arith, here .before .before .before .before .before .before .pre .0 .fewer))
+    (λ c. let here = c .before .before .before .before .before .before .before .before in
+    omega (arith, here .before .before .before .before .before .before .pre .0 .fewer))
     size-line-requires
     (λ c. omega arith)
     (λ c. omega arith)

@@ -59,7 +59,8 @@ put-number-requires-2 c κs =
     (room-lined (a .sheet) (a .line) (if .if1 .left) (omega arith) (omega arith)))
 
 -- the room behind the number
-behind : (c : tie.After-put-number2) → Room (c .put-number2 .result) ((32 ∷ []) ++ place (c .before .before .before .before .before .before .before .before .before .args .line))
+behind : (c : tie.After-put-number2)
+    → Room (c .put-number2 .result) ((32 ∷ []) ++ place (c .before .before .before .before .before .before .before .before .before .args .line))
 behind c =
     let if = c .before .before in
     let word = if .before .before .before in
