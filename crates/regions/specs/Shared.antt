@@ -5,12 +5,11 @@ use Prim.Native.Nat.{ℕ, _-_}
 use lib.ListN.{length}
 use Rattle.text_fields.specs.Fields.{capitals}
 use Rattle.sheet_names.specs.Names.{nameAt, lookup}
-use Rattle.sheet_names.specs.declared.Found.{Found}
-use Rattle.sheet_names.specs.declared.Found.the-variants.{At, Absent}
 use Rattle.sheet.specs.Sheet.{Network}
 use Rattle.theory_regions.specs.Regions.{Region, firstSize, Given, given}
 use Rattle.theory_regions.specs.JoinedTree.{Border}
 use Rattle.theory_regions.specs.Sharing.{SharesOneLink, Sharing, sharingOf}
+use Rattle.region_links.specs.Partners.{siteFound}
 
 -- a network as a region, by the usable sizes of its links
 abbrev pub regionOf : Network → Region
@@ -21,11 +20,6 @@ regionOf net = record { links = net .links; sites = length (net .names); marks =
 -- the name of site x of the sheet s, a-z read as A-Z: two sites have one name where these are equal (02, Card 4)
 abbrev pub siteName : List ℕ → Network → ℕ → List ℕ
 siteName s net x = capitals (nameAt s (net .names) (x - 1))
-
--- the number of the site that a look-up found, 0 for none
-abbrev pub siteFound : Found → ℕ
-siteFound (At v) = v
-siteFound Absent = 0
 
 -- the site of the second sheet t that has the name of site x of the first sheet s, in either case; 0 where there is none
 unfoldable pub partner : List ℕ → Network → List ℕ → Network → ℕ → ℕ

@@ -24,7 +24,8 @@ use Rattle.theory_regions.specs.SharingLaws.{what-shares-one-link-is-neighbours
 use Rattle.theory_regions.specs.JoinedNames.{the-joined-tree-is-named}
 use Rattle.theory_regions.specs.TwoRegions.{Neighbours, OfTheJoinedTree, two-regions-have-what-every-joined-tree-has, the-joined-tree-of-two-regions}
 use Rattle.theory_regions.specs.Again.{trimmed-again-has-each-link}
-use Rattle.regions.specs.Shared.{regionOf, siteName, siteFound, partner, Share, sharingIn, shown, givenTo}
+use Rattle.region_links.specs.Partners.{siteFound}
+use Rattle.regions.specs.Shared.{regionOf, siteName, partner, Share, sharingIn, shown, givenTo}
 use Rattle.regions.specs.Causes.{BothRead, AcceptedPair}
 
 -- the network of a sheet is a named region
