@@ -10,6 +10,7 @@ use lib.ListN.{length}
 use Rattle.lists.specs.Sums.{cases}
 use Rattle.model.specs.Flows.{Site}
 use Rattle.model.specs.declared.Edition.{Edition}
+use Rattle.text_fields.specs.Fields.{capitals}
 use Rattle.sheet_names.specs.Names.{nameAt, lookup}
 use Rattle.sheet_names.specs.LookupLaws.{Says, lookup-says}
 use Rattle.sheet_names.specs.declared.Found.{Found}
@@ -43,19 +44,24 @@ the-network-is-named known s net e = named (an-accepted-sheet-is-a-tree (edition
 
 -- ---- names in common
 
-module _ (s : List ℕ) (net : Network) (t : List ℕ) (other : Network) where
-  found-or-not : (x : ℕ) (r : Found) → Says t (other .names) 1 (nameAt s (net .names) (x - 1)) r
-      → (Site (length (other .names)) (siteFound r) × (siteName s net x ≡ siteName t other (siteFound r)))
-      ⊎ ((siteFound r ≡ 0) × ((y : ℕ) → Site (length (other .names)) y → ¬ (siteName s net x ≡ siteName t other y)))
-  found-or-not x (At v) h =
-      let back : v - 1 ≡ h .0 = omega (arith, h .1) in
-      inl ((omega (arith, h .1), omega (arith, h .1, h .2)), sym (rw back (h .3)))
-  found-or-not x Absent h = inr (refl, λ y p e. h (y - 1) (omega arith) (sym e))
+-- what the look-up of a text among the names of a sheet comes to: the site that has it as its name, in either case; or 0, and no site has it
+found-or-not : (t : List ℕ) (other : Network) (f : List ℕ) (r : Found) → Says t (other .names) 1 f r
+    → (Site (length (other .names)) (siteFound r) × (capitals f ≡ siteName t other (siteFound r)))
+    ⊎ ((siteFound r ≡ 0) × ((y : ℕ) → Site (length (other .names)) y → ¬ (capitals f ≡ siteName t other y)))
+found-or-not t other f (At v) h =
+    let back : v - 1 ≡ h .0 = omega (arith, h .1) in
+    inl ((omega (arith, h .1), omega (arith, h .1, h .2)), sym (rw back (h .3)))
+found-or-not t other f Absent h = inr (refl, λ y p e. h (y - 1) (omega arith) (sym e))
 
-  look-ups-find-partners : Partners (length (net .names)) (length (other .names)) (siteName s net) (siteName t other) (partner s net t other)
-  unfolding partner
-  look-ups-find-partners x p =
-      let f = nameAt s (net .names) (x - 1) in found-or-not x (lookup t (other .names) f) (lookup-says t f (other .names) 1)
+pub a-look-up-finds-the-site-of-a-name : (t : List ℕ) (other : Network) (f : List ℕ) → let v = siteFound (lookup t (other .names) f) in
+    (Site (length (other .names)) v × (capitals f ≡ siteName t other v))
+    ⊎ ((v ≡ 0) × ((y : ℕ) → Site (length (other .names)) y → ¬ (capitals f ≡ siteName t other y)))
+a-look-up-finds-the-site-of-a-name t other f = found-or-not t other f (lookup t (other .names) f) (lookup-says t f (other .names) 1)
+
+look-ups-find-partners : (s : List ℕ) (net : Network) (t : List ℕ) (other : Network)
+    → Partners (length (net .names)) (length (other .names)) (siteName s net) (siteName t other) (partner s net t other)
+unfolding partner
+look-ups-find-partners s net t other x p = a-look-up-finds-the-site-of-a-name t other (nameAt s (net .names) (x - 1))
 
 -- ---- accepted sheets
 
