@@ -2,3 +2,5 @@ pub mod Outcome
 pub mod LinkLaws
 pub mod Causes
 pub mod SideLaws
+pub mod Told
+pub mod Agree
