@@ -1,5 +1,6 @@
 -- The link that two sites of a region may share: what is found joins them, and one of them may be far; and since two sites of a tree have at most one link
 -- between them, such a link is found.
+use mathlib.Core.List.{List, []}
 use mathlib.Core.Logic.{_≢_, _⊎_, inl, inr}
 use mathlib.Core.Path.{_≡_, refl, sym, _∙_}
 use Prim.Native.Nat.{ℕ, _*_, _≤_, _<_, max}
@@ -7,8 +8,8 @@ use native.Mathlib.Omega.{arith}
 use lib.ListN.{length}
 use Rattle.lists.specs.Numbers.{pick, differ}
 use Rattle.lists.specs.Sums.{same?, pick-same, pick-other, differ-same, differ-other, differ-le, product-one}
-use Rattle.model.specs.Flows.{Tree, at}
-use Rattle.theory_trees.specs.Trees.{at-le}
+use Rattle.model.specs.Flows.{Site, Tree, at}
+use Rattle.theory_trees.specs.Trees.{at-end, at-le}
 use Rattle.theory_walk.specs.Regions.{differ-one}
 use Rattle.theory_regions.specs.Regions.{Region, lone}
 use Rattle.theory_regions.specs.JoinedTree.{Between}
@@ -16,7 +17,10 @@ use Rattle.theory_regions.specs.Sharing.{firstFrom}
 use Rattle.theory_regions.specs.SharingLaws.{no-double-link, joins-both, first-found, one-is-found}
 use Rattle.theory_regions.specs.Meeting.{at-both, link-sites}
 use Rattle.theory_regions.specs.FarSites.{lone-le}
+use Rattle.tree.specs.Links.{length-links}
+use Rattle.tree.specs.Offer.{links}
 use Rattle.region_links.specs.Partners.{joining}
+use Rattle.region_sizes.specs.Offered.{regionBy, Sited}
 use Rattle.sides.specs.Outcome.{linkOf}
 
 module _ (a : Region) (x y : ℕ) where
@@ -78,6 +82,44 @@ module _ (a : Region) (x y : ℕ) where
       one-of-two-is-far d far ∙ elim (first-found (joining (a .links) x y) 0 (length (a .links))) [
         | inl f ↦ absurd (f .1 j (omega arith) (omega arith) (rw (here .0, here .1) (omega arith)))
         | inr f ↦
-          let both = product-one (at (a .links) x firstBetween) (at (a .links) y firstBetween) (at-le (a .links) x firstBetween) (f .1) in
-          no-double-link T firstBetween j x y (omega (arith, f .0)) l (joins-both (a .links) firstBetween x y d (both .0) (both .1)) b
+            let both = product-one (at (a .links) x firstBetween) (at (a .links) y firstBetween) (at-le (a .links) x firstBetween) (f .1) in
+            no-double-link T firstBetween j x y (omega (arith, f .0)) l (joins-both (a .links) firstBetween x y d (both .0) (both .1)) b
       ]
+
+-- ---- by lists, as the code tests it
+
+module _ {n : ℕ} {one two marks : List ℕ} (w : Sited n one two marks) (x y j : ℕ)
+    (e : j ≡ firstFrom (joining (links one two) x y) 0 (length one)) where
+  abbrev region : Region
+  region = regionBy n one two marks []
+
+  all : length (links one two) ≡ length one
+  all = length-links one two (sym (w .placed .seconds))
+
+  first-between : j ≡ firstBetween region x y
+  first-between = rw all e
+
+  pub no-link-is-told : length one ≤ j → length one ≡ linkOf region x y
+  no-link-is-told h = sym (no-link-is-between region x y (omega (arith, all, first-between)) ∙ all)
+
+  at-a-link : (v : ℕ) → j < length one → at (links one two) v j ≡ 1 → Site n v
+  at-a-link v h f =
+      let sites = w .ends j (omega (arith, all)) in
+      elim (at-end (links one two) j f) [ inl g ↦ rw g at (sites .0) | inr g ↦ rw g at (sites .1) ]
+
+  -- what is at a link is a site
+  pub both-are-sites : j < length one → Site n x × Site n y
+  both-are-sites h =
+      let found = one-is-found (joining (links one two) x y) (length one) (omega (arith, e)) in
+      let both = rw (← e) at (product-one _ _ (at-le (links one two) x _) found) in
+      (at-a-link x h (both .0), at-a-link y h (both .1))
+
+  pub the-link-is-told : x ≢ y → (lone region x ≡ 1) ⊎ (lone region y ≡ 1) → j ≡ linkOf region x y
+  the-link-is-told d far = first-between ∙ sym (one-of-two-is-far region x y d far)
+
+  pub none-is-far-is-told : lone region x ≢ 1 → lone region y ≢ 1 → length one ≡ linkOf region x y
+  none-is-far-is-told d f = sym (neither-is-far region x y d f ∙ all)
+
+pub one-site-is-told : {n : ℕ} {one two marks : List ℕ} → Sited n one two marks → (x y : ℕ) → x ≡ y → length one ≡ linkOf (regionBy n one two marks []) x y
+one-site-is-told {n} {one} {two} {marks} w x y e =
+    sym (one-site-has-no-link (regionBy n one two marks []) x y e ∙ length-links one two (sym (w .placed .seconds)))

@@ -8,7 +8,7 @@ use lib.ListN.{length, take, drop}
 use lib.Seq.{getD-take, length-take-le}
 use Rattle.lists.specs.Numbers.{look}
 use Rattle.lists.specs.Sums.{contradiction}
-use Rattle.model.specs.Limits.{SITES}
+use Rattle.model.specs.Limits.{LINKS, SITES}
 use Rattle.model.specs.Edition.{editions, largest}
 use Rattle.model.specs.Flows.{Links}
 use Rattle.tree.specs.Accepted.{MarkedTree}
@@ -81,6 +81,9 @@ module _ {s : List ℕ} {network : Lists} (r : Listed s network) where
   as-many : m ≡ length (r .net .links)
   unfolding lists
   as-many = rw (r .listed) refl
+
+  pub few-links : m ≤ LINKS
+  few-links = let net = an-accepted-sheet-is-within-the-largest s (r .net) (r .read) in omega (arith, as-many, net .tree .links, net .few)
 
   pub the-lists-are-a-tree : MarkedTree largest (network .sites) (take m (network .one)) (take m (network .two)) (take (network .sites) (network .mark))
       (take m (network .capacity))

@@ -55,9 +55,9 @@ module _ (s : List ℕ) (net : Network) (own : Named (regionOf net) (siteName s 
         let far = lone-iff (regionOf net) (p .far) .1 (M .single, M .plain) in
         elim (M .names) [
           | inl n ↦ rw (the-site-is-found name (p .near) (at .0) (n .0), the-site-is-found name′ (p .far) (at .1) (n .1))
-            (a-link-between-them-is-found (regionOf net) (p .near) (p .far) (own .tree) (p .shared) (M .link) (M .joins) (inr far))
+              (a-link-between-them-is-found (regionOf net) (p .near) (p .far) (own .tree) (p .shared) (M .link) (M .joins) (inr far))
           | inr n ↦ rw (the-site-is-found name (p .far) (at .1) (n .0), the-site-is-found name′ (p .near) (at .0) (n .1))
-            (a-link-between-them-is-found (regionOf net) (p .far) (p .near) (own .tree) (p .shared) (M .link) (⊎-swap (M .joins)) (inl far))
+              (a-link-between-them-is-found (regionOf net) (p .far) (p .near) (own .tree) (p .shared) (M .link) (⊎-swap (M .joins)) (inl far))
         ]
 
     -- the link that is found is meant
@@ -69,17 +69,15 @@ module _ (s : List ℕ) (net : Network) (own : Named (regionOf net) (siteName s 
         let second = what-is-found-has-the-name name′ (at .1 .0) in
         elim (found .1) [
           | inl f ↦
-            let far = lone-iff (regionOf net) x .0 f in
-            (
-              record { shared = linkNamed s net name name′; near = y; far = x },
-              record { names = inr (first, second); link = l; joins = ⊎-swap (found .0); single = far .0; plain = far .1 },
-            )
+              let far = lone-iff (regionOf net) x .0 f in (
+                record { shared = linkNamed s net name name′; near = y; far = x },
+                record { names = inr (first, second); link = l; joins = ⊎-swap (found .0); single = far .0; plain = far .1 },
+              )
           | inr f ↦
-            let far = lone-iff (regionOf net) y .0 f in
-            (
-              record { shared = linkNamed s net name name′; near = x; far = y },
-              record { names = inl (first, second); link = l; joins = found .0; single = far .0; plain = far .1 },
-            )
+              let far = lone-iff (regionOf net) y .0 f in (
+                record { shared = linkNamed s net name name′; near = x; far = y },
+                record { names = inl (first, second); link = l; joins = found .0; single = far .0; plain = far .1 },
+              )
         ]
 
     -- two names mean a link, or none

@@ -65,8 +65,8 @@ module _ (known : List Edition) (s name name′ : List ℕ) where
       by (refused k line) e = is-not-shown (of-the-sheet (a-sheet-is-refused-for-its-cause (editionOf known s) s k line .0 e))
       by (accepted net) e = elim (meant? s net (the-network-is-named known s net e) name name′) [
         | inl M ↦
-          let A : AcceptedSide known s net name name′ (M .0) = record { read = e; share = M .1 } in
-          size-shown A (rw (its-first-size-is-shown A) (record { number-told = refl; line-told = refl; size-told = refl }))
+            let A : AcceptedSide known s net name name′ (M .0) = record { read = e; share = M .1 } in
+            size-shown A (rw (its-first-size-is-shown A) (record { number-told = refl; line-told = refl; size-told = refl }))
         | inr none ↦ is-not-shown (no-such-link e none)
       ]
 
