@@ -10,7 +10,8 @@ answer-network-requires : tie.Need-answer-network-requires
 answer-network-requires c κs =
     let read = c .before .before .before in
     rw (← (read .read .ensures)) at
-    (accepted-is-listed (read .before .before .before .before .before .args .sheet .now) (sym (ap (λ x. x .answer) (read .read .ensures)) ∙ c .before .enum-told .given .1))
+    (accepted-is-listed (read .before .before .before .before .before .args .sheet .now)
+    (sym (ap (λ x. x .answer) (read .read .ensures)) ∙ c .before .enum-told .given .1))
 
 returns : tie.Need-returns
 returns c =

@@ -24,10 +24,14 @@ returns c =
     (sym (ap (λ o. o .outcome) e), sym (ap (λ o. o .list) e))
 
 mul-if2 : tie.Need-mul-if2
-mul-if2 c = let s = c .before .before .before .before .before .before .before .before .before .before .before .before .before .before .before in omega (arith, few-links (s .pre), c .if1 .left)
+mul-if2 c =
+    let s = c .before .before .before .before .before .before .before .before .before .before .before .before .before .before .before in
+    omega (arith, few-links (s .pre), c .if1 .left)
 
 element-copy-out-if2 : tie.Need-element-copy-out-if2
-element-copy-out-if2 c = let s = c .before .before .before .before .before .before .before .before .before .before .before .before .before .before .before in omega (arith, few-links (s .pre), c .if1 .left)
+element-copy-out-if2 c =
+    let s = c .before .before .before .before .before .before .before .before .before .before .before .before .before .before .before in
+    omega (arith, few-links (s .pre), c .if1 .left)
 
 returns-2 : tie.Need-returns-2
 returns-2 c =

@@ -32,7 +32,8 @@ give-in-spec =
     (λ c. let s = c .before .before .before .before .before .before in sym (length-take-le (s .args .m) (s .args .one .now) (s .pre .2)))
     (λ c. let s = c .before .before .before .before .before .before .before in sym (length-take-le (s .args .m) (s .args .two .now) (s .pre .3)))
     (λ c. let s = c .before .before .before .before .before .before .before .before in sym (length-take-le (s .args .n) (s .args .mark .now) (s .pre .5)))
-    (λ c. let s = c .before .before .before .before .before .before .before .before .before in sym (length-take-le (s .args .m) (s .args .capacity .now) (s .pre .4)))
+    (λ c. let s = c .before .before .before .before .before .before .before .before .before in
+    sym (length-take-le (s .args .m) (s .args .capacity .now) (s .pre .4)))
     give-requires
     (λ c. search needs)
     returns)

@@ -14,7 +14,8 @@ returns c =
     let a = c .before .before .before .before .before .before .before .before .before .before .before .before .before .before .args in
     c .link-of .ensures
     ∙ ap₂ (linkOf (regionBy (a .n) (a .one .now) (a .two .now) (a .marks .now) []))
-    (c .before .before .site-found .ensures ∙ ap siteFound (found2 .before .before .find .ensures)) (c .before .site-found2 .ensures ∙ ap siteFound (found2 .find2 .ensures))
+    (c .before .before .site-found .ensures ∙ ap siteFound (found2 .before .before .find .ensures))
+    (c .before .site-found2 .ensures ∙ ap siteFound (found2 .find2 .ensures))
 
 pub named-link-spec : {M : Type 1} → statement M
 named-link-spec =

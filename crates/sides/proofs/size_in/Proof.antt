@@ -13,5 +13,6 @@ size-in-spec =
     (λ c. let s = c .before .before .before .before .before .before in sym (length-take-le (s .args .m) (s .args .two .now) (s .pre .3)))
     (λ c. let s = c .before .before .before .before .before .before .before in sym (length-take-le (s .args .n) (s .args .mark .now) (s .pre .5)))
     (λ c. let s = c .before .before .before .before .before .before .before .before in sym (length-take-le (s .args .m) (s .args .capacity .now) (s .pre .4)))
-    (λ c κs. let s = c .before .before .before .before .before .before .before .before in (s .pre .0, omega (arith, length-take-le (s .args .m) (s .args .one .now) (s .pre .2), s .pre .1)))
+    (λ c κs. let s = c .before .before .before .before .before .before .before .before in
+    (s .pre .0, omega (arith, length-take-le (s .args .m) (s .args .one .now) (s .pre .2), s .pre .1)))
     (λ c. c .first-size .ensures))
