@@ -14,12 +14,12 @@ use Rattle.theory_regions.specs.Regions.{firstSize, given}
 use Rattle.theory_regions.specs.JoinedTree.{Border}
 use Rattle.theory_regions.specs.Meeting.{link-sites}
 use Rattle.theory_regions.specs.Again.{trimmed-is-greatest}
-use Rattle.regions.specs.Shared.{regionOf, shown}
-use Rattle.regions.specs.Causes.{AcceptedPair}
-use Rattle.regions.specs.SharedLaws.{the-network-is-named, a-pair-is-neighbours, firstGiven}
-use Rattle.regions.specs.Outcome.{firstOf, secondOf, Exchanged, exchanged}
-use Rattle.regions.specs.Told.{Room, both-are-answered}
-use Rattle.regions.specs.declared.Answer.{Answer}
+use Rattle.exchanges.specs.Shared.{regionOf, shown}
+use Rattle.exchanges.specs.Causes.{AcceptedPair}
+use Rattle.exchanges.specs.SharedLaws.{the-network-is-named, a-pair-is-neighbours, firstGiven}
+use Rattle.exchanges.specs.Outcome.{firstOf, secondOf, Exchanged, exchanged}
+use Rattle.exchanges.specs.Told.{Room, both-are-answered}
+use Rattle.exchanges.specs.declared.Answer.{Answer}
 use Rattle.sides.specs.Outcome.{firstShown, Side, delivered, answered}
 use Rattle.sides.specs.Causes.{NamesOf, AcceptedSide}
 use Rattle.sides.specs.SideLaws.{its-first-size-is-shown, its-answer-is-delivered}

@@ -12,7 +12,7 @@ use Rattle.text_fields.specs.Fields.{capitals}
 use Rattle.sheet.specs.Sheet.{Network, accepted, readSheet, editionOf}
 use Rattle.sheet.specs.Causes.{Refusal}
 use Rattle.theory_regions.specs.JoinedTree.{Between, Border}
-use Rattle.regions.specs.Shared.{siteName}
+use Rattle.exchanges.specs.Shared.{siteName}
 
 -- the two names are those of the sites x and y, in either order, a-z read as A-Z
 abbrev pub NamesOf : List ℕ → Network → List ℕ → List ℕ → ℕ → ℕ → Type 0

@@ -12,7 +12,7 @@ use Rattle.sheet.specs.Sheet.{Network, Read, refused, accepted, readSheet}
 use Rattle.theory_regions.specs.Regions.{Region, firstSize, lone, Given, given}
 use Rattle.theory_regions.specs.Sharing.{firstFrom}
 use Rattle.region_links.specs.Partners.{siteFound, joining}
-use Rattle.regions.specs.Shared.{regionOf}
+use Rattle.exchanges.specs.Shared.{regionOf}
 use Rattle.sides.specs.declared.First.{First}
 use Rattle.sides.specs.declared.First.the-variants as first
 use Rattle.sides.specs.declared.Outcome.{Outcome}

@@ -25,7 +25,7 @@ use Rattle.planner.specs.Taken.{the-network-is-a-marked-tree}
 use Rattle.region_links.specs.Partners.{siteFound}
 use Rattle.region_sizes.specs.Laws.{trimmed-again-for-each-link}
 use Rattle.region_sizes.specs.Offered.{regionBy}
-use Rattle.regions.specs.Shared.{regionOf}
+use Rattle.exchanges.specs.Shared.{regionOf}
 use Rattle.sides.specs.Outcome.{linkOf, linkNamed, showOver, showRead, firstShown, refusal, answerOver, answerRead, answered}
 use Rattle.sides.specs.declared.First.the-variants.{Shown}
 use Rattle.sides.specs.declared.First.the-variants as first

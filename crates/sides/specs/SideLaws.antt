@@ -20,8 +20,8 @@ use Rattle.theory_regions.specs.Sharing.{Named}
 use Rattle.theory_regions.specs.Meeting.{link-sites}
 use Rattle.theory_regions.specs.FarSites.{lone-iff}
 use Rattle.theory_regions.specs.Again.{trimmed-again-has-each-link}
-use Rattle.regions.specs.Shared.{regionOf, siteName}
-use Rattle.regions.specs.SharedLaws.{the-network-is-named, a-look-up-finds-the-site-of-a-name}
+use Rattle.exchanges.specs.Shared.{regionOf, siteName}
+use Rattle.exchanges.specs.SharedLaws.{the-network-is-named, a-look-up-finds-the-site-of-a-name}
 use Rattle.sides.specs.Outcome.{siteOf, linkNamed, showOver, showRead, firstShown, refusal, delivered, answerOver, answerRead, answered}
 use Rattle.sides.specs.Causes.{MayShare, AcceptedSide}
 use Rattle.sides.specs.LinkLaws.{a-link-that-is-found-joins-them, a-link-between-them-is-found}

@@ -16,8 +16,8 @@ use Rattle.sheet.specs.Answers.{refusals-have-sheet-numbers}
 use Rattle.sheet.specs.SheetTheorem.{a-sheet-is-refused-for-its-cause}
 use Rattle.theory_regions.specs.Regions.{Given, firstSize, given}
 use Rattle.theory_regions.specs.JoinedTree.{Border}
-use Rattle.regions.specs.Shared.{regionOf}
-use Rattle.regions.specs.SharedLaws.{the-network-is-named}
+use Rattle.exchanges.specs.Shared.{regionOf}
+use Rattle.exchanges.specs.SharedLaws.{the-network-is-named}
 use Rattle.sides.specs.Outcome.{firstNumber, firstLine, sizeOf, firstShown, number, lineOf, countOf, sumOf, Side, refusal, delivered, answered}
 use Rattle.sides.specs.Causes.{AcceptedSide, FirstCause, of-the-sheet, no-such-link, Cause, of-the-first-step, number-too-large, list-too-short}
 use Rattle.sides.specs.SideLaws.{meant?, a-sheet-refused-shows-nothing, a-sheet-refused-is-given-nothing}

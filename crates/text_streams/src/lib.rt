@@ -121,3 +121,13 @@ pub fn refuse_text(text: u64, number: u64, line: usize) {
         io::write_all(STDERR_FILENO, &buf[..told]);
     }
 }
+
+// Writes the line of a refusal of two sheets (0 means both) to standard output, and then what it means to standard error.
+pub fn refuse_sheets(sheet: u64, number: u64, line: usize) {
+    let mut buf = io::buffer();
+    let length = report_words::write_refusal_of(sheet, number, line, &mut buf);
+    if write(&buf[..length]) {
+        let told = report_words::write_words_of_sheets(sheet, number, line, &mut buf);
+        io::write_all(STDERR_FILENO, &buf[..told]);
+    }
+}

@@ -10,10 +10,10 @@ use Rattle.model.specs.declared.Edition.{Edition}
 use Rattle.sheet.specs.Sheet.{Network, Read, refused, accepted, readSheet}
 use Rattle.theory_regions.specs.Regions.{Given}
 use Rattle.theory_regions.specs.Sharing.{Sharing, apart, sharing}
-use Rattle.regions.specs.Shared.{sharingIn, shown, givenTo}
-use Rattle.regions.specs.declared.Answer.{Answer}
-use Rattle.regions.specs.declared.Outcome.{Outcome}
-use Rattle.regions.specs.declared.Outcome.the-variants.{Answered, Refused}
+use Rattle.exchanges.specs.Shared.{sharingIn, shown, givenTo}
+use Rattle.exchanges.specs.declared.Answer.{Answer}
+use Rattle.exchanges.specs.declared.Outcome.{Outcome}
+use Rattle.exchanges.specs.declared.Outcome.the-variants.{Answered, Refused}
 
 -- the papers' sheet, number and line for each outcome: success is sheet 0, number 0 and line 0; 18 names sheet 0
 abbrev pub sheetOf : Outcome → ℕ

@@ -17,14 +17,14 @@ use Rattle.theory_regions.specs.Regions.{Given}
 use Rattle.theory_regions.specs.JoinedTree.{Border}
 use Rattle.theory_regions.specs.Sharing.{Sharing, apart, sharing}
 use Rattle.theory_regions.specs.SharingLaws.{Tells, tells-none, tells-some}
-use Rattle.regions.specs.Shared.{regionOf, siteName, sharingIn}
-use Rattle.regions.specs.Outcome.{sheetOf, number, lineOf, none, firstOf, secondOf, Exchanged, refusal, told, filled, deliver}
-use Rattle.regions.specs.Outcome.{exchangeOver, exchangeRead, exchanged}
-use Rattle.regions.specs.Causes.{BothRead, AcceptedPair, Cause, of-the-first, of-the-second, no-shared-link}
-use Rattle.regions.specs.Causes.{first-list-too-short, second-list-too-short}
-use Rattle.regions.specs.SharedLaws.{apart-exactly-unless-they-share, the-sharing-is-told, the-shared-link-is-one}
-use Rattle.regions.specs.SharedLaws.{a-size-for-each-link, firstGiven, secondGiven}
-use Rattle.regions.specs.declared.Outcome.the-variants.{Answered, Refused}
+use Rattle.exchanges.specs.Shared.{regionOf, siteName, sharingIn}
+use Rattle.exchanges.specs.Outcome.{sheetOf, number, lineOf, none, firstOf, secondOf, Exchanged, refusal, told, filled, deliver}
+use Rattle.exchanges.specs.Outcome.{exchangeOver, exchangeRead, exchanged}
+use Rattle.exchanges.specs.Causes.{BothRead, AcceptedPair, Cause, of-the-first, of-the-second, no-shared-link}
+use Rattle.exchanges.specs.Causes.{first-list-too-short, second-list-too-short}
+use Rattle.exchanges.specs.SharedLaws.{apart-exactly-unless-they-share, the-sharing-is-told, the-shared-link-is-one}
+use Rattle.exchanges.specs.SharedLaws.{a-size-for-each-link, firstGiven, secondGiven}
+use Rattle.exchanges.specs.declared.Outcome.the-variants.{Answered, Refused}
 
 -- refused with a sheet, a number and a line: the counts and the sums are 0, and both lists keep their values
 pub record IsRefused (x k line : ℕ) (l m : List ℕ) (o : Exchanged) : Type 0 where
@@ -61,16 +61,16 @@ pub data ExchangeTold (known : List Edition) (s t l m : List ℕ) : Type 0 where
 -- ---- case by case
 
 module _ (known : List Edition) (s t l m : List ℕ) where
-  first-refused : (k line : ℕ) → readSheet known s ≡ refused k line → exchanged known s t l m ≡ refusal 1 k line l m
+  pub first-refused : (k line : ℕ) → readSheet known s ≡ refused k line → exchanged known s t l m ≡ refusal 1 k line l m
   unfolding exchanged exchangeRead
   first-refused k line e = rw e refl
 
-  second-refused : (net : Network) (k line : ℕ) → readSheet known s ≡ accepted net → readSheet known t ≡ refused k line
+  pub second-refused : (net : Network) (k line : ℕ) → readSheet known s ≡ accepted net → readSheet known t ≡ refused k line
       → exchanged known s t l m ≡ refusal 2 k line l m
   unfolding exchanged exchangeRead
   second-refused net k line e f = rw (e, f) refl
 
-  by-sharing : {net other : Network} → BothRead known s net t other → exchanged known s t l m ≡ exchangeOver net other l m (sharingIn s net t other)
+  pub by-sharing : {net other : Network} → BothRead known s net t other → exchanged known s t l m ≡ exchangeOver net other l m (sharingIn s net t other)
   unfolding exchanged exchangeRead
   by-sharing R = rw (R .first, R .second) refl
 

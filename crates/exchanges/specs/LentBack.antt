@@ -12,12 +12,12 @@ use Rattle.sheet.specs.Sheet.{Network}
 use Rattle.theory_regions.specs.Regions.{Region, trimmed, Given}
 use Rattle.theory_regions.specs.JoinedTree.{Border, Joins, position, joinedTree}
 use Rattle.theory_regions.specs.TwoRegions.{Largest, planOf, OfTheJoinedTree}
-use Rattle.regions.specs.Shared.{regionOf, shown}
-use Rattle.regions.specs.Outcome.{firstOf, secondOf, Exchanged, filled, exchanged}
-use Rattle.regions.specs.Causes.{AcceptedPair}
-use Rattle.regions.specs.SharedLaws.{a-size-for-each-link, firstGiven, secondGiven, the-regions-have-what-the-joined-tree-has}
-use Rattle.regions.specs.SharedLaws.{and-what-every-joined-tree-has}
-use Rattle.regions.specs.Told.{Room, both-are-answered}
+use Rattle.exchanges.specs.Shared.{regionOf, shown}
+use Rattle.exchanges.specs.Outcome.{firstOf, secondOf, Exchanged, filled, exchanged}
+use Rattle.exchanges.specs.Causes.{AcceptedPair}
+use Rattle.exchanges.specs.SharedLaws.{a-size-for-each-link, firstGiven, secondGiven, the-regions-have-what-the-joined-tree-has}
+use Rattle.exchanges.specs.SharedLaws.{and-what-every-joined-tree-has}
+use Rattle.exchanges.specs.Told.{Room, both-are-answered}
 
 -- what the exchange o tells and leaves is what the tree t has, in which the links of the two sheets have the numbers link₁ and link₂
 pub record OfTheWhole (net other : Network) (t : Region) (link₁ link₂ : ℕ → ℕ) (o : Exchanged) : Type 0 where

@@ -8,7 +8,7 @@ use Rattle.model.specs.declared.Edition.{Edition}
 use Rattle.sheet.specs.Sheet.{Network, accepted, readSheet, editionOf}
 use Rattle.sheet.specs.Causes.{Refusal}
 use Rattle.theory_regions.specs.JoinedTree.{Border}
-use Rattle.regions.specs.Shared.{Share}
+use Rattle.exchanges.specs.Shared.{Share}
 
 -- two sheets that are refused for no cause of their own, and their networks
 pub record BothRead (known : List Edition) (s : List ℕ) (net : Network) (t : List ℕ) (other : Network) : Type 0 where

@@ -15,9 +15,9 @@ use Rattle.sheet.specs.Sheet.{capitals, lookupFrom, siteStep, linkStep, heading
 use Rattle.sheet.specs.Sheet.{finish, readAs, editionOf}
 use Rattle.theory_regions.specs.Regions.{firstSize, trimmedAgain, lone, farSite, own, ownSum, given}
 use Rattle.theory_regions.specs.Sharing.{firstFrom, commons, sharedFirst, sharedSecond, mayBeFar, chosen, sharedAt, sharingOf}
-use Rattle.regions.specs.Shared.{partner}
-use Rattle.regions.specs.Outcome.{Exchanged, refusal, deliver, exchangeOver, exchangeRead, exchanged}
-use Rattle.regions.specs.declared.Outcome.the-variants.{Answered}
+use Rattle.exchanges.specs.Shared.{partner}
+use Rattle.exchanges.specs.Outcome.{Exchanged, refusal, deliver, exchangeOver, exchangeRead, exchanged}
+use Rattle.exchanges.specs.declared.Outcome.the-variants.{Answered}
 
 -- `hill` joined to `dale`, over the shared link, and to a and b
 abbrev hill : List ℕ

@@ -26,8 +26,8 @@ use Rattle.theory_regions.specs.JoinedNames.{the-joined-tree-is-named}
 use Rattle.theory_regions.specs.TwoRegions.{Neighbours, OfTheJoinedTree, two-regions-have-what-every-joined-tree-has, the-joined-tree-of-two-regions}
 use Rattle.theory_regions.specs.Again.{trimmed-again-has-each-link}
 use Rattle.region_links.specs.Partners.{siteFound}
-use Rattle.regions.specs.Shared.{regionOf, siteName, partner, Share, sharingIn, shown, givenTo}
-use Rattle.regions.specs.Causes.{BothRead, AcceptedPair}
+use Rattle.exchanges.specs.Shared.{regionOf, siteName, partner, Share, sharingIn, shown, givenTo}
+use Rattle.exchanges.specs.Causes.{BothRead, AcceptedPair}
 
 -- the network of a sheet is a named region
 named : {ed : Edition} {s : List ℕ} {net : Network} → IsNetwork ed s net → Named (regionOf net) (siteName s net)
@@ -58,7 +58,7 @@ pub a-look-up-finds-the-site-of-a-name : (t : List ℕ) (other : Network) (f : L
     ⊎ ((v ≡ 0) × ((y : ℕ) → Site (length (other .names)) y → ¬ (capitals f ≡ siteName t other y)))
 a-look-up-finds-the-site-of-a-name t other f = found-or-not t other f (lookup t (other .names) f) (lookup-says t f (other .names) 1)
 
-look-ups-find-partners : (s : List ℕ) (net : Network) (t : List ℕ) (other : Network)
+pub look-ups-find-partners : (s : List ℕ) (net : Network) (t : List ℕ) (other : Network)
     → Partners (length (net .names)) (length (other .names)) (siteName s net) (siteName t other) (partner s net t other)
 unfolding partner
 look-ups-find-partners s net t other x p = a-look-up-finds-the-site-of-a-name t other (nameAt s (net .names) (x - 1))
