@@ -5,3 +5,4 @@ pub mod SideLaws
 pub mod Told
 pub mod Agree
 pub mod OverNetwork
+pub mod Small

@@ -44,7 +44,7 @@ pub record SizeShown (size : ℕ) (o : First) : Type 0 where
 
 -- what the first step comes to: refused for a cause, with its number and line; or the first trimmed size of the link that the names mean is shown
 pub data FirstTold (known : List Edition) (s name name′ : List ℕ) : Type 0 where
-  for-its-cause : {k line : ℕ} → FirstCause known s name name′ k line → FirstRefused k line (firstShown known s name name′) → FirstTold known s name name′
+  nothing-shown : {k line : ℕ} → FirstCause known s name name′ k line → FirstRefused k line (firstShown known s name name′) → FirstTold known s name name′
   size-shown : {net : Network} {p : Border} → AcceptedSide known s net name name′ p
       → SizeShown (firstSize (regionOf net) (p .shared)) (firstShown known s name name′) → FirstTold known s name name′
 
@@ -55,7 +55,7 @@ module _ (known : List Edition) (s name name′ : List ℕ) where
   a-cause-shows-nothing (no-such-link {net} e none) = without-a-link-nothing-is-shown known s name name′ net e none
 
   is-not-shown : {k line : ℕ} → FirstCause known s name name′ k line → FirstTold known s name name′
-  is-not-shown c = for-its-cause c (rw (a-cause-shows-nothing c) (record { number-told = refl; line-told = refl; size-told = refl }))
+  is-not-shown c = nothing-shown c (rw (a-cause-shows-nothing c) (record { number-told = refl; line-told = refl; size-told = refl }))
 
   -- every first step is refused for its cause, or a size is shown
   pub the-first-size-is-told-or-its-cause : FirstTold known s name name′
@@ -75,7 +75,7 @@ module _ (known : List Edition) (s name name′ : List ℕ) where
   a-first-step-is-refused-for-its-cause n at = (by the-first-size-is-told-or-its-cause, a-cause-shows-nothing)
     where
       by : FirstTold known s name name′ → firstShown known s name name′ ≡ first.Refused n at → FirstCause known s name name′ n at
-      by (for-its-cause {k} {line} c h) e =
+      by (nothing-shown {k} {line} c h) e =
           let same : first.Refused k line ≡ first.Refused n at = sym (a-cause-shows-nothing c) ∙ e in
           let p : k ≡ n = ap firstNumber same in
           let q : line ≡ at = ap firstLine same in
