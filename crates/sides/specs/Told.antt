@@ -170,6 +170,13 @@ module _ (known : List Edition) (s name name′ : List ℕ) (told : ℕ) (l : Li
   pub eighteen-is-no-number-of-a-sheet : {line : ℕ} → ¬ (Refusal (editionOf known s) s 18 line)
   eighteen-is-no-number-of-a-sheet c = omega (arith, refusals-have-sheet-numbers (editionOf known s) s c .known)
 
+  -- 0 is success alone
+  pub a-refusal-has-a-number : {k line : ℕ} → Cause known s name name′ told l k line → 1 ≤ k
+  a-refusal-has-a-number (of-the-first-step (of-the-sheet c)) = refusals-have-sheet-numbers (editionOf known s) s c .some
+  a-refusal-has-a-number (of-the-first-step (no-such-link e none)) = omega arith
+  a-refusal-has-a-number (number-too-large A h) = omega arith
+  a-refusal-has-a-number (list-too-short A h short) = omega arith
+
   -- 9 is told for a list that is too short alone, at line 0
   pub nine-is-told-for-a-list-alone : {line : ℕ} → Cause known s name name′ told l 9 line
       → (net : Network) × (p : Border) × AcceptedSide known s net name name′ p × (line ≡ 0) × (length l < length (net .links))

@@ -1,3 +1,5 @@
 pub mod Packed
 pub mod Unpacked
 pub mod Replayed
+pub mod PackedSides
+pub mod Sides

@@ -1,11 +1,14 @@
 // The planner as a library for other languages.
 use planner::Outcome;
+use sides::First;
 ghost use mathlib.Core.Path.{_≡_};
 ghost use Rattle.model.specs.Edition.{editions};
 ghost use Rattle.planner.specs.Outcome.{planned, plannedWhole};
 ghost use Rattle.orders.specs.Outcome.{orderOf};
 ghost use Rattle.logs.specs.Outcome.{replayed};
+ghost use Rattle.sides.specs.Outcome.{firstShown, answered};
 ghost use Rattle.waderarmoire.specs.Packed.{packed, asOutcome, packedReplay};
+ghost use Rattle.waderarmoire.specs.PackedSides.{packedFirst, packedSide};
 
 // An outcome as one number: the refusal's number times 2^40, its line times 2^20, and the report's length.
 fn pack(outcome: Outcome) -> u64
@@ -74,4 +77,54 @@ pub extern "C" fn waderarmoire_replay(sheet: &[u8], log: &[u8], answers: &mut [u
     ensures left { λ r. ⌜ now (answers .exit) ≡ replayed editions (now (sheet .entry)) (now (log .entry)) (now (answers .entry)) .list ⌝ }
 {
     pack_replay(logs::replay(sheet, log, answers))
+}
+
+// What the first step of a region comes to as one number: the refusal's number times 2^40, its line times 2^20, and the size that is shown.
+fn pack_first(first: First) -> u64
+    ensures { λ r. ⌜ r ≡ packedFirst first ⌝ }
+{
+    match first {
+        First::Shown { size } => size % 1048576,
+        First::Refused { number, line } => number % 4096 * 1099511627776
+            + line as u64 % 1048576 * 1048576,
+    }
+}
+
+// Tells a region's first trimmed size of the link that two names mean, as sides::first_size does, as one number.
+#[no_mangle]
+pub extern "C" fn waderarmoire_region_first(sheet: &[u8], name: &[u8], name2: &[u8]) -> u64
+    ensures { λ r. ⌜ r ≡ packedFirst (firstShown editions (now (sheet .entry)) (now (name .entry)) (now (name2 .entry))) ⌝ }
+{
+    pack_first(sides::first_size(sheet, name, name2))
+}
+
+// What the second step of a region comes to as one number: the refusal's number times 2^40 and its line times 2^20; or the number of trimmed sizes times
+// 2^30, and their sum.
+fn pack_side(outcome: sides::Outcome) -> u64
+    ensures { λ r. ⌜ r ≡ packedSide outcome ⌝ }
+{
+    match outcome {
+        sides::Outcome::Answered { count, sum } => count as u64 % 1024 * 1073741824
+            + sum % 1073741824,
+        sides::Outcome::Refused { number, line } => number % 4096 * 1099511627776
+            + line as u64 % 1048576 * 1048576,
+    }
+}
+
+// Writes the trimmed sizes that a region is given for its neighbour's number into the caller's list, as sides::answer does, and tells the outcome as one
+// number.
+#[no_mangle]
+pub extern "C" fn waderarmoire_region_answer(
+    sheet: &[u8],
+    name: &[u8],
+    name2: &[u8],
+    number: u64,
+    sizes: &mut [u64],
+) -> u64
+    ensures told { λ r. ⌜ r ≡ packedSide (answered editions (now (sheet .entry)) (now (name .entry)) (now (name2 .entry)) number
+        (now (sizes .entry)) .outcome) ⌝ }
+    ensures left { λ r. ⌜ now (sizes .exit)
+        ≡ answered editions (now (sheet .entry)) (now (name .entry)) (now (name2 .entry)) number (now (sizes .entry)) .list ⌝ }
+{
+    pack_side(sides::answer(sheet, name, name2, number, sizes))
 }
