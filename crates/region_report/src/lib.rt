@@ -10,6 +10,7 @@ ghost use Rattle.text_writers.specs.Wrote.{Wrote};
 ghost use Rattle.tree.specs.Offer.{links};
 ghost use Rattle.region_report.specs.Lines.{linkLines, spelt, linksText};
 ghost use Rattle.region_report.specs.TwoRegions.{regionText};
+ghost use Rattle.region_report.specs.OneRegion.{firstText, answerText};
 ghost use Rattle.region_report.specs.Laws.{sizeLine, Linked};
 use model::SITES;
 use sheet::Answer;
@@ -147,5 +148,23 @@ pub fn write_region(
 {
     let word = put_bytes(buf, 0, b"region", 9);
     let at = put_numbers(buf, word, number, sum);
+    write_links(sheet, sizes, buf, at)
+}
+
+// What is printed for one region in its first step, from the start of the buffer, and its length.
+pub fn write_first(size: u64, buf: &mut [u8]) -> usize
+    ensures { λ r. ⌜ Wrote (now (buf .entry)) 0 (firstText size) (now (buf .exit)) r × (r ≤ 256) ⌝ }
+{
+    let word = put_bytes(buf, 0, b"first", 9);
+    put_number(buf, word, size, 10)
+}
+
+// What is printed for one region in its second step, from the start of the buffer, and its length.
+pub fn write_answer(sum: u64, sheet: &[u8], sizes: &[u64; SITES], buf: &mut [u8]) -> usize
+    ensures { λ r. ⌜ Wrote (now (buf .entry)) 0 (answerText editions sum (now (sheet .entry)) (now (sizes .entry))) (now (buf .exit)) r
+        × (r ≤ REPORT) ⌝ }
+{
+    let word = put_bytes(buf, 0, b"region", 9);
+    let at = put_number(buf, word, sum, 10);
     write_links(sheet, sizes, buf, at)
 }
