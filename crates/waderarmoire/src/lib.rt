@@ -6,8 +6,9 @@ ghost use Rattle.model.specs.Edition.{editions};
 ghost use Rattle.planner.specs.Outcome.{planned, plannedWhole};
 ghost use Rattle.orders.specs.Outcome.{orderOf};
 ghost use Rattle.logs.specs.Outcome.{replayed};
+ghost use Rattle.exchanges.specs.Outcome.{exchanged};
 ghost use Rattle.sides.specs.Outcome.{firstShown, answered};
-ghost use Rattle.waderarmoire.specs.Packed.{packed, asOutcome, packedReplay};
+ghost use Rattle.waderarmoire.specs.Packed.{packed, asOutcome, packedReplay, packedRegions, sumsAfter};
 ghost use Rattle.waderarmoire.specs.PackedSides.{packedFirst, packedSide};
 
 // An outcome as one number: the refusal's number times 2^40, its line times 2^20, and the report's length.
@@ -77,6 +78,56 @@ pub extern "C" fn waderarmoire_replay(sheet: &[u8], log: &[u8], answers: &mut [u
     ensures left { λ r. ⌜ now (answers .exit) ≡ replayed editions (now (sheet .entry)) (now (log .entry)) (now (answers .entry)) .list ⌝ }
 {
     pack_replay(logs::replay(sheet, log, answers))
+}
+
+// What an exchange comes to as one number: the counts of both regions, the first times 2^20; or the sheet times 2^52, the refusal's number times 2^40 and its
+// line times 2^20.
+fn pack_regions(outcome: exchanges::Outcome) -> u64
+    ensures { λ r. ⌜ r ≡ packedRegions outcome ⌝ }
+{
+    match outcome {
+        exchanges::Outcome::Answered { first, second } => first.count as u64 % 1048576 * 1048576
+            + second.count as u64 % 1048576,
+        exchanges::Outcome::Refused {
+            sheet,
+            number,
+            line,
+        } => sheet % 4096 * 4503599627370496
+            + number % 4096 * 1099511627776
+            + line as u64 % 1048576 * 1048576,
+    }
+}
+
+// The sums of both regions into the caller's two places, which keep their values on a refusal.
+fn store_sums(outcome: exchanges::Outcome, sums: &mut [u64; 2])
+    ensures { λ _. ⌜ now (sums .exit) ≡ sumsAfter outcome (now (sums .entry)) ⌝ }
+{
+    if let exchanges::Outcome::Answered { first, second } = outcome {
+        sums[0] = first.sum;
+        sums[1] = second.sum;
+    }
+}
+
+// Exchanges between two regions into the caller's lists, as exchanges::exchange does, writes their sums and tells the outcome as one number.
+#[no_mangle]
+pub extern "C" fn waderarmoire_regions(
+    first: &[u8],
+    second: &[u8],
+    sizes: &mut [u64],
+    sizes2: &mut [u64],
+    sums: &mut [u64; 2],
+) -> u64
+    ensures told { λ r. ⌜ r ≡ packedRegions (exchanged editions (now (first .entry)) (now (second .entry)) (now (sizes .entry)) (now (sizes2 .entry)) .outcome) ⌝ }
+    ensures left { λ r. ⌜ now (sizes .exit)
+        ≡ exchanged editions (now (first .entry)) (now (second .entry)) (now (sizes .entry)) (now (sizes2 .entry)) .first ⌝ }
+    ensures left2 { λ r. ⌜ now (sizes2 .exit)
+        ≡ exchanged editions (now (first .entry)) (now (second .entry)) (now (sizes .entry)) (now (sizes2 .entry)) .second ⌝ }
+    ensures summed { λ r. ⌜ now (sums .exit)
+        ≡ sumsAfter (exchanged editions (now (first .entry)) (now (second .entry)) (now (sizes .entry)) (now (sizes2 .entry)) .outcome) (now (sums .entry)) ⌝ }
+{
+    let outcome = exchanges::exchange(first, second, sizes, sizes2);
+    store_sums(outcome, sums);
+    pack_regions(outcome)
 }
 
 // What the first step of a region comes to as one number: the refusal's number times 2^40, its line times 2^20, and the size that is shown.
