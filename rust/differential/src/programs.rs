@@ -3,9 +3,10 @@
 use crate::{Failure, damage};
 use second::{Outcome, REPORT_BYTES};
 use sheets::{Edition, Layout, Network, Random, SITES, tried};
+use std::ffi::OsStr;
 use std::io::{ErrorKind, Write};
 use std::path::{Path, PathBuf};
-use std::process::{Command, Stdio};
+use std::process::{Command, Output, Stdio};
 use waderarmoire::Refusal;
 
 /// The programs that are run.
@@ -163,22 +164,72 @@ fn run(program: &Path, word: Option<&str>, sheet: &[u8], due: &Expected) -> Resu
     let output = child
         .wait_with_output()
         .map_err(|error| told(&error.to_string()))?;
-    if output.status.code().is_none() {
-        return Err(told(&output.status.to_string()));
-    }
-    if output.stdout != due.printed {
-        let start = |text: &[u8]| String::from_utf8_lossy(&text[..text.len().min(60)]).into_owned();
-        return Err(told(&format!(
-            "prints {} bytes, {:?}…, and not {} bytes, {:?}…",
-            output.stdout.len(),
-            start(&output.stdout),
-            due.printed.len(),
-            start(&due.printed)
-        )));
-    }
+    check_printed(&output, &due.printed).map_err(|what| told(&what))?;
     if output.stderr != due.words.as_bytes() {
         let said = String::from_utf8_lossy(&output.stderr);
         return Err(told(&format!("says {said:?}, and not {:?}", due.words)));
+    }
+    Ok(())
+}
+
+/// Two files for texts that programs are given, taken away in the end.
+pub struct Files([PathBuf; 2]);
+
+impl Files {
+    /// Files of this process whose names tell what they are for.
+    pub fn new(name: &str) -> Self {
+        let folder = std::env::temp_dir();
+        let file = |number| folder.join(format!("{name}-{}.{number}", std::process::id()));
+        Files([file(1), file(2)])
+    }
+
+    /// Puts the texts into the files, and returns the names of these.
+    pub fn put(&self, texts: [&[u8]; 2]) -> Result<[&OsStr; 2], String> {
+        for (file, text) in self.0.iter().zip(texts) {
+            std::fs::write(file, text).map_err(|error| format!("{}: {error}", file.display()))?;
+        }
+        Ok(self.0.each_ref().map(|file| file.as_os_str()))
+    }
+}
+
+impl Drop for Files {
+    fn drop(&mut self) {
+        for file in &self.0 {
+            _ = std::fs::remove_file(file);
+        }
+    }
+}
+
+/// Runs a program with words behind its name and compares what it prints, and how many lines it says on standard
+/// error.
+pub fn run_words(program: &Path, words: &[&OsStr], due: &[u8], said: usize) -> Result<(), String> {
+    let told = |what: &str| format!("{}: {what}", program.display());
+    let output = Command::new(program)
+        .args(words)
+        .output()
+        .map_err(|error| told(&error.to_string()))?;
+    check_printed(&output, due).map_err(|what| told(&what))?;
+    let words = String::from_utf8_lossy(&output.stderr);
+    if words.lines().count() != said || words.ends_with('\n') != (said > 0) {
+        return Err(told(&format!("says {words:?}")));
+    }
+    Ok(())
+}
+
+/// Compares what a program prints, if it came to its end.
+fn check_printed(output: &Output, due: &[u8]) -> Result<(), String> {
+    if output.status.code().is_none() {
+        return Err(output.status.to_string());
+    }
+    if output.stdout != due {
+        let start = |text: &[u8]| String::from_utf8_lossy(&text[..text.len().min(60)]).into_owned();
+        return Err(format!(
+            "prints {} bytes, {:?}…, and not {} bytes, {:?}…",
+            output.stdout.len(),
+            start(&output.stdout),
+            due.len(),
+            start(due)
+        ));
     }
     Ok(())
 }

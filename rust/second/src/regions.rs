@@ -81,6 +81,29 @@ pub fn regions_text(sheets: [&[u8]; 2]) -> Vec<u8> {
     }
 }
 
+/// What is written about one region in a step without its neighbour's sheet: in the first `first` and its first
+/// trimmed size of the link between the two names; in the second, which has the neighbour's number, `region`, its
+/// sum, and a line for each of its links; or the line `refused`, number, line.
+#[must_use]
+pub fn region_text(sheet: &[u8], names: [&[u8]; 2], neighbours: Option<u64>) -> Vec<u8> {
+    let mut sizes = [0; SITES];
+    let told = match neighbours {
+        None => first_step(sheet, names).map(|size| format!("first\t{size}\n")),
+        Some(number) => second_step(sheet, names, number, &mut sizes)
+            .map(|answer| format!("region\t{}\n", answer.sum)),
+    };
+    match told {
+        Ok(told) => {
+            let mut text = told.into_bytes();
+            if neighbours.is_some() {
+                push_links(&mut text, sheet, &sizes);
+            }
+            text
+        }
+        Err(Refusal { number, line }) => format!("refused\t{number}\t{line}\n").into_bytes(),
+    }
+}
+
 /// Writes the lines of the links of an accepted sheet with their trimmed sizes.
 fn push_links(text: &mut Vec<u8>, sheet: &[u8], sizes: &[u64]) {
     let mut network = Network::new(sheet);
