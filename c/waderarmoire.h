@@ -179,7 +179,7 @@ uint64_t waderarmoire_region_answer(const uint8_t *sheet, size_t sheet_len, cons
  *  12  a number is not written in decimal without a leading zero
  *  13  reserve above the size
  *  17  name of digits only
- *  18  the two regions do not share one link
+ *  18  the two sheets do not share one link
  * A sheet whose line 1 is no heading is measured by edition 1. The lowest line with a fault
  * decides; within a line the order is 2, 10, 11, 17, then 4, 5 for a site and 12, 3, 13, 6, 7 for
  * a link.

@@ -6,7 +6,7 @@
 
 use crate::damage;
 use crate::indexed::{self, Different};
-use crate::programs::{Files, run_words};
+use crate::programs::{Expected, Files, Words, run_words};
 use second::{LOG_LINES, REPORT_BYTES, Replayed};
 use sheets::bare;
 use sheets::ledger::{self, Seen, is_too_long};
@@ -389,26 +389,28 @@ impl Programs {
     }
 
     fn compare_one(&self, case: &Case, files: &Files, examples: &[PathBuf]) -> Result<(), String> {
-        let words = files.put([&case.sheet, &case.log])?;
+        let [sheet, log] = files.put([&case.sheet, &case.log])?;
         let mut answers = [0; LOG_LINES];
         let outcome = second::replay(&case.sheet, &case.log, &mut answers);
-        let due = match outcome {
+        let (text, words) = match outcome {
             Replayed::Answered { count } => {
                 let mut lines: Vec<_> = answers[..count].iter().map(u64::to_string).collect();
                 lines.push(String::new());
-                lines.join("\n")
+                (lines.join("\n"), Words::None)
             }
             Replayed::Refused { text, number, line } => {
-                format!("refused\t{text}\t{number}\t{line}\n")
+                let text = format!("refused\t{text}\t{number}\t{line}\n");
+                (text, Words::OneLine)
             }
         };
-        let said = usize::from(matches!(outcome, Replayed::Refused { .. }));
-        run_words(&self.proved, &words, due.as_bytes(), said)?;
-        run_words(&self.second, &words, due.as_bytes(), 0)?;
-        let [sheet, log] = words;
+        let due = Expected {
+            printed: text.into_bytes(),
+            words,
+        };
+        run_words(&self.proved, &[sheet, log], &due)?;
+        run_words(&self.second, &[sheet, log], &due.silent())?;
         for example in examples {
-            let words = ["replay".as_ref(), sheet, log];
-            run_words(example, &words, due.as_bytes(), 0)?;
+            run_words(example, &["replay".as_ref(), sheet, log], &due.silent())?;
         }
         Ok(())
     }

@@ -42,6 +42,7 @@ mod marks;
 mod printed;
 mod programs;
 mod random;
+mod region_programs;
 mod regions;
 mod search;
 mod small;
@@ -69,7 +70,7 @@ struct Options {
     log_programs: logs::Programs,
     pairs: u64,
     only_pair: Option<u64>,
-    region_programs: regions::Programs,
+    region_programs: region_programs::Programs,
 }
 
 /// A sheet on which something is wrong.
@@ -110,7 +111,7 @@ fn options() -> Result<Options, String> {
         },
         pairs: 30_000,
         only_pair: None,
-        region_programs: regions::Programs {
+        region_programs: region_programs::Programs {
             proved: ["target/bin/regions", "target/bin/region"].map(PathBuf::from),
             second: ["second-regions", "second-region"].map(beside_this_program),
         },

@@ -20,11 +20,19 @@ pub struct Programs {
     pub examples: Vec<PathBuf>,
 }
 
-/// What a program must print for a sheet, and what it may say on standard error.
+/// What a program must print, and say on standard error.
 #[derive(Clone)]
-struct Expected {
-    printed: Vec<u8>,
-    words: String,
+pub struct Expected {
+    pub printed: Vec<u8>,
+    pub words: Words,
+}
+
+/// What a program says on standard error.
+#[derive(Clone, Debug, PartialEq, Eq)]
+pub enum Words {
+    None,
+    These(String),
+    OneLine,
 }
 
 impl Expected {
@@ -36,12 +44,12 @@ impl Expected {
                 buffer.truncate(length);
                 Expected {
                     printed: buffer,
-                    words: String::new(),
+                    words: Words::None,
                 }
             }
             Outcome::Refused { number, line } => Expected {
                 printed: format!("refused\t{number}\t{line}\n").into_bytes(),
-                words: format!("{}\n", Refusal { number, line }),
+                words: Words::These(format!("{}\n", Refusal { number, line })),
             },
         }
     }
@@ -49,7 +57,7 @@ impl Expected {
     /// The same of a program that says nothing and prints the first field of each line of an order.
     fn first_fields(&self) -> Self {
         let mut due = self.silent();
-        if self.words.is_empty() {
+        if self.words == Words::None {
             let lines = self.printed.split_inclusive(|&byte| byte == b'\n');
             let first = |line: &[u8]| line.split(|&byte| byte == b'\t').next().map(<[u8]>::to_vec);
             let mut first = lines.filter_map(first).collect::<Vec<_>>();
@@ -60,10 +68,40 @@ impl Expected {
     }
 
     /// The same of a program that says nothing.
-    fn silent(&self) -> Self {
+    pub fn silent(&self) -> Self {
         Expected {
             printed: self.printed.clone(),
-            words: String::new(),
+            words: Words::None,
+        }
+    }
+
+    /// Compares what a program prints, if it came to its end, and what it says.
+    fn check(&self, program: &Path, output: &Output) -> Result<(), String> {
+        let told = |what: &str| format!("{}: {what}", program.display());
+        if output.status.code().is_none() {
+            return Err(told(&output.status.to_string()));
+        }
+        if output.stdout != self.printed {
+            let start =
+                |text: &[u8]| String::from_utf8_lossy(&text[..text.len().min(60)]).into_owned();
+            return Err(told(&format!(
+                "prints {} bytes, {:?}…, and not {} bytes, {:?}…",
+                output.stdout.len(),
+                start(&output.stdout),
+                self.printed.len(),
+                start(&self.printed)
+            )));
+        }
+        let said = String::from_utf8_lossy(&output.stderr);
+        let is_due = match &self.words {
+            Words::None => said.is_empty(),
+            Words::These(words) => said == *words,
+            Words::OneLine => said.lines().count() == 1 && said.ends_with('\n'),
+        };
+        if is_due {
+            Ok(())
+        } else {
+            Err(told(&format!("says {said:?}, and not {:?}", self.words)))
         }
     }
 }
@@ -164,12 +202,7 @@ fn run(program: &Path, word: Option<&str>, sheet: &[u8], due: &Expected) -> Resu
     let output = child
         .wait_with_output()
         .map_err(|error| told(&error.to_string()))?;
-    check_printed(&output, &due.printed).map_err(|what| told(&what))?;
-    if output.stderr != due.words.as_bytes() {
-        let said = String::from_utf8_lossy(&output.stderr);
-        return Err(told(&format!("says {said:?}, and not {:?}", due.words)));
-    }
-    Ok(())
+    due.check(program, &output)
 }
 
 /// Two files for texts that programs are given, taken away in the end.
@@ -200,38 +233,11 @@ impl Drop for Files {
     }
 }
 
-/// Runs a program with words behind its name and compares what it prints, and how many lines it says on standard
-/// error.
-pub fn run_words(program: &Path, words: &[&OsStr], due: &[u8], said: usize) -> Result<(), String> {
-    let told = |what: &str| format!("{}: {what}", program.display());
-    let output = Command::new(program)
-        .args(words)
-        .output()
-        .map_err(|error| told(&error.to_string()))?;
-    check_printed(&output, due).map_err(|what| told(&what))?;
-    let words = String::from_utf8_lossy(&output.stderr);
-    if words.lines().count() != said || words.ends_with('\n') != (said > 0) {
-        return Err(told(&format!("says {words:?}")));
-    }
-    Ok(())
-}
-
-/// Compares what a program prints, if it came to its end.
-fn check_printed(output: &Output, due: &[u8]) -> Result<(), String> {
-    if output.status.code().is_none() {
-        return Err(output.status.to_string());
-    }
-    if output.stdout != due {
-        let start = |text: &[u8]| String::from_utf8_lossy(&text[..text.len().min(60)]).into_owned();
-        return Err(format!(
-            "prints {} bytes, {:?}…, and not {} bytes, {:?}…",
-            output.stdout.len(),
-            start(&output.stdout),
-            due.len(),
-            start(due)
-        ));
-    }
-    Ok(())
+/// Runs a program with words behind its name and compares what it prints, and says on standard error.
+pub fn run_words(program: &Path, words: &[&OsStr], due: &Expected) -> Result<(), String> {
+    let output = Command::new(program).args(words).output();
+    let output = output.map_err(|error| format!("{}: {error}", program.display()))?;
+    due.check(program, &output)
 }
 
 /// A program built along with this one.

@@ -4,7 +4,6 @@
 //! larger than a sheet may be, is planned by the proved planner too.
 
 use crate::indexed::{self, Different};
-use crate::programs::{Files, run_words};
 use crate::steps;
 use second::{Answer, Exchanged, REPORT_BYTES, SITES};
 use sheets::joined::{Due, joined};
@@ -12,10 +11,8 @@ use sheets::neighbours::{Broken, Case, Kind, case, every_small_pair};
 use sheets::regions::TRIED;
 use sheets::tried::{Refused, refused};
 use sheets::{Edition, Layout, Random};
-use std::ffi::OsStr;
-use std::os::unix::ffi::OsStrExt;
-use std::path::PathBuf;
 use std::time::Instant;
+use waderarmoire::RegionsRefusal;
 
 /// The length of the lists, above that of any answer.
 pub const LIST_PLACES: usize = SITES + 64;
@@ -78,7 +75,7 @@ fn lent([one, other]: &mut [Vec<u64>; 2], places: [usize; 2]) -> [&mut [u64]; 2]
 fn proved(sheets: [&[u8]; 2], lists: [&mut [u64]; 2]) -> Exchanged {
     match waderarmoire::regions(sheets, lists) {
         Ok(regions) => Exchanged::Answered(regions.map(answer)),
-        Err(waderarmoire::RegionsRefusal {
+        Err(RegionsRefusal {
             sheet,
             number,
             line,
@@ -292,7 +289,7 @@ impl Kept {
     }
 }
 
-fn different([one, other]: &[Vec<u8>; 2], what: String) -> Different {
+pub fn different([one, other]: &[Vec<u8>; 2], what: String) -> Different {
     Different {
         sheet: one.clone(),
         other: ("sheet2", other.clone()),
@@ -383,88 +380,4 @@ pub fn compare_all(seed: u64, count: u64) -> Result<(), Different> {
         return Err(different(&[Vec::new(), Vec::new()], what));
     }
     Ok(())
-}
-
-/// The programs for regions: those for both sheets, and those for one step of a region by itself.
-pub struct Programs {
-    pub proved: [PathBuf; 2],
-    pub second: [PathBuf; 2],
-}
-
-impl Programs {
-    /// Compares what the programs print on `count` pairs, and the examples on some.
-    pub fn compare(&self, seed: u64, count: u64, examples: &[PathBuf]) -> Result<(), Different> {
-        let files = Files::new("region");
-        let refused = refused();
-        for index in 0..count {
-            let case = case(seed, index, &refused);
-            let mut random = Random::new(index);
-            let examples = if index % 5 == 0 { examples } else { &[] };
-            self.compare_one(&case, &mut random, &files, examples)
-                .map_err(|what| different(&case.sheets, what))?;
-        }
-        println!(
-            "programs: {count} pairs of regions, {} of them with {} examples",
-            count.div_ceil(5),
-            examples.len()
-        );
-        Ok(())
-    }
-
-    fn compare_one(
-        &self,
-        case: &Case,
-        random: &mut Random,
-        files: &Files,
-        examples: &[PathBuf],
-    ) -> Result<(), String> {
-        let [one, other] = &case.sheets;
-        let words = files.put([one, other])?;
-        let due = second::regions_text([one, other]);
-        self.run(0, "regions", &words, &due, examples)?;
-        for (sheet, file) in case.sheets.iter().zip(words) {
-            let (names, number) = steps::any(case, random);
-            let [name, name2] = names.each_ref().map(|name| OsStr::from_bytes(name));
-            let names = names.each_ref().map(|name| &name[..]);
-            let due = second::region_text(sheet, names, None);
-            self.run(1, "region", &[file, name, name2], &due, examples)?;
-            let due = second::region_text(sheet, names, Some(number));
-            let number = number.to_string();
-            let words = [file, name, name2, number.as_ref()];
-            self.run(1, "region", &words, &due, examples)?;
-        }
-        Ok(())
-    }
-
-    /// Runs the programs of one kind and the examples, whose word is the name of the program.
-    fn run(
-        &self,
-        kind: usize,
-        name: &str,
-        words: &[&OsStr],
-        due: &[u8],
-        examples: &[PathBuf],
-    ) -> Result<(), String> {
-        let said = usize::from(due.starts_with(b"refused"));
-        run_words(&self.proved[kind], words, due, said)?;
-        run_words(&self.second[kind], words, due, 0)?;
-        let words = [&[name.as_ref()], words].concat();
-        for example in examples {
-            run_words(example, &words, &sizes_alone(due), 0)?;
-        }
-        Ok(())
-    }
-}
-
-/// The same with sizes alone on the lines of links, as the examples print it.
-fn sizes_alone(text: &[u8]) -> Vec<u8> {
-    let lines = text.split_inclusive(|&byte| byte == b'\n');
-    let line = |line: &[u8]| match line.strip_prefix(b"L\t") {
-        Some(fields) => fields
-            .rsplit(|&byte| byte == b'\t')
-            .next()
-            .map(<[u8]>::to_vec),
-        None => Some(line.to_vec()),
-    };
-    lines.filter_map(line).collect::<Vec<_>>().concat()
 }

@@ -228,7 +228,7 @@ impl Refusal {
             12 => "a number is not written in decimal without a leading zero",
             13 => "reserve above the size",
             17 => "name of digits only",
-            18 => "the two regions do not share one link",
+            18 => "the two sheets do not share one link",
             _ => "a cause without words",
         }
     }

@@ -59,7 +59,7 @@ pub struct RegionsRefusal {
     pub sheet: u8,
     /// The number of the cause: of a sheet as in [`Refusal`], and
     ///
-    /// - 18: the two regions do not share one link, after all causes of the two; of sheet 0
+    /// - 18: the two sheets do not share one link, after all causes of the two; of sheet 0
     /// - 9: more links than places in the list of the region
     pub number: u8,
     /// The line of the sheet at fault, counted from 1, or 0 when no line is.
@@ -77,11 +77,12 @@ impl RegionsRefusal {
     }
 }
 
-/// Which sheet, if it is one, which line if there is one, and the cause in words.
+/// The line that the program writes to standard error, without its line feed: which sheet, if it is one, which line
+/// if there is one, and the cause in words.
 impl fmt::Display for RegionsRefusal {
     fn fmt(&self, out: &mut fmt::Formatter<'_>) -> fmt::Result {
         match (self.sheet, self.line) {
-            (0, _) => write!(out, "the two sheets: {}", self.cause()),
+            (0, _) => write!(out, "{}", self.cause()),
             (sheet, 0) => write!(out, "sheet {sheet}: {}", self.cause()),
             (sheet, line) => write!(out, "sheet {sheet}, line {line}: {}", self.cause()),
         }

@@ -175,8 +175,5 @@ fn words() {
         "sheet 2, line 3: name already given to a site"
     );
     assert_eq!(words(1, 9, 0), "sheet 1: more links than places for sizes");
-    assert_eq!(
-        words(0, 18, 0),
-        "the two sheets: the two regions do not share one link"
-    );
+    assert_eq!(words(0, 18, 0), "the two sheets do not share one link");
 }
