@@ -155,8 +155,9 @@ uint64_t waderarmoire_region_first(const uint8_t *sheet, size_t sheet_len, const
  * the places after the sizes keep their values, and on a refusal the whole list does.
  *
  * The answer of the call holds the count of sizes and their sum, waderarmoire_region_count and
- * waderarmoire_region_sum, or a refusal: those of the first step, and then 9 at line 0 for more
- * links than places.
+ * waderarmoire_region_sum, or a refusal: those of the first step, also 18 for a number above the
+ * usable size of the link, as no neighbour has it that gives the link the same; and then 9 at line 0
+ * for more links than places.
  */
 uint64_t waderarmoire_region_answer(const uint8_t *sheet, size_t sheet_len, const uint8_t *name,
                                     size_t name_len, const uint8_t *name2, size_t name2_len,

@@ -5,13 +5,27 @@ use crate::programs::{Expected, Files, Words, run_words};
 use crate::regions::different;
 use crate::steps;
 use second::{Exchanged, SITES};
-use sheets::Random;
 use sheets::neighbours::{Case, case};
 use sheets::tried::refused;
+use sheets::{Random, SIZE};
 use std::ffi::OsStr;
 use std::os::unix::ffi::OsStrExt;
 use std::path::PathBuf;
 use waderarmoire::RegionsRefusal;
+
+/// Texts in the place of a neighbour's number: badly written, or around the largest size.
+const NUMBERS: [&str; 10] = [
+    "",
+    "07",
+    "x",
+    "-1",
+    "1 ",
+    "0",
+    "1000000",
+    "1000001",
+    "99999999999999999999",
+    "00",
+];
 
 /// The programs for regions: those for both sheets, and those for one step of a region by itself.
 pub struct Programs {
@@ -76,9 +90,15 @@ impl Programs {
             let names = names.each_ref().map(|name| &name[..]);
             let due = step_due(second::region_text(sheet, names, None));
             self.run(1, &[file, name, name2], &due, examples)?;
-            let due = step_due(second::region_text(sheet, names, Some(number)));
-            let number = number.to_string();
-            self.run(1, &[file, name, name2, number.as_ref()], &due, examples)?;
+            // The examples do not look at how the number is written.
+            let (text, examples) = if random.once_in(4) {
+                (*random.pick(&NUMBERS), &[][..])
+            } else {
+                let number = number.min(SIZE.into());
+                (&*number.to_string(), examples)
+            };
+            let due = step_due(second::region_text(sheet, names, Some(text.as_bytes())));
+            self.run(1, &[file, name, name2, text.as_ref()], &due, examples)?;
         }
         Ok(())
     }

@@ -3,9 +3,15 @@
 use crate::regions::{LIST_PLACES, Lists, answer};
 use second::{Answer, Refusal};
 use sheets::cases::in_either_case;
-use sheets::joined::{Due, answer_due, far_sites, first_due};
+use sheets::joined::{self, Due, answer_due, far_sites, first_due, shared_alone};
 use sheets::neighbours::{Case, Kind};
 use sheets::{Network, Random, SIZE};
+
+/// What is told of names between which no link can be shared.
+const NO_SHARED_LINK: Refusal = Refusal {
+    number: 18,
+    line: 0,
+};
 
 /// Two names, and a number of the neighbour.
 type Told = ([Vec<u8>; 2], u64);
@@ -33,31 +39,33 @@ pub fn compare(lists: &mut Lists, case: &Case, random: &mut Random) -> Result<[u
     Ok(counts)
 }
 
-/// What is due of the steps of one region: the first number and the answer, none of these for 18; or the refusal of the
-/// sheet. It is not known of a second sheet where the first is refused.
-fn due(
-    case: &Case,
-    region: usize,
-    names: [&[u8]; 2],
-    number: u64,
-) -> Option<Result<(u64, sheets::joined::Answer), Refusal>> {
+/// What is due of the two steps of a region.
+struct StepsDue {
+    first: Result<u64, Refusal>,
+    answer: Result<joined::Answer, Refusal>,
+}
+
+/// What is due of the steps of one region. It is not known of a second sheet where the first is refused.
+fn due(case: &Case, region: usize, names: [&[u8]; 2], number: u64) -> Option<StepsDue> {
     if case.kind == Kind::Refused {
         return match case.due {
             Due::Refused(sheet, number, line) if usize::from(sheet) == region + 1 => {
-                Some(Err(Refusal { number, line }))
+                Some(StepsDue {
+                    first: Err(Refusal { number, line }),
+                    answer: Err(Refusal { number, line }),
+                })
             }
             _ => None,
         };
     }
     let network = &case.networks[region];
-    let both = first_due(network, names).zip(answer_due(network, names, number));
-    Some(both.ok_or(Refusal {
-        number: 18,
-        line: 0,
-    }))
+    Some(StepsDue {
+        first: first_due(network, names).ok_or(NO_SHARED_LINK),
+        answer: answer_due(network, names, number).ok_or(NO_SHARED_LINK),
+    })
 }
 
-/// Compares the planners on both steps of a region; whether the sheet alone shows nothing to be wrong.
+/// Compares the planners on both steps of a region; whether neither gets 18.
 fn compare_one(
     lists: &mut Lists,
     case: &Case,
@@ -75,20 +83,21 @@ fn compare_one(
             "first step: the proved planner answers {first:?}, the second {by_second:?}"
         ));
     }
-    let is_due =
-        |due: &Result<(u64, _), Refusal>| first == due.as_ref().map(|due| due.0).map_err(|it| *it);
-    if !due.as_ref().is_none_or(is_due) {
+    if let Some(StepsDue { first: due, .. }) = due
+        && first != due
+    {
         return Err(format!(
             "first step: both planners answer {first:?} where {due:?} is due"
         ));
     }
+    let due = due.map(|due| due.answer);
     let links = case.links()[region];
     let longer = random.between(links, LIST_PLACES);
     for places in [links, longer, links - 1, random.below(links)] {
         second_step(lists, sheet, names, number, places, due.as_ref())
             .map_err(|what| format!("second step, list of {places}: {what}"))?;
     }
-    Ok(!matches!(first, Err(Refusal { number: 18, .. })))
+    Ok(first != Err(NO_SHARED_LINK) && due != Some(Err(NO_SHARED_LINK)))
 }
 
 /// Compares the planners on the second step with a list of so many places.
@@ -98,7 +107,7 @@ fn second_step(
     names: [&[u8]; 2],
     number: u64,
     places: usize,
-    due: Option<&Result<(u64, sheets::joined::Answer), Refusal>>,
+    due: Option<&Result<joined::Answer, Refusal>>,
 ) -> Result<(), String> {
     let [list, other_list] = lists.lend(places);
     let region = waderarmoire::region_answer(sheet, names, number, list);
@@ -119,10 +128,8 @@ fn second_step(
         return lists.check([&sizes, &[]]);
     };
     let (outcome, sizes) = match due {
-        Ok((_, answer)) if answer.sizes.len() > places => {
-            (Err(Refusal { number: 9, line: 0 }), &[][..])
-        }
-        Ok((_, answer)) => {
+        Ok(answer) if answer.sizes.len() > places => (Err(Refusal { number: 9, line: 0 }), &[][..]),
+        Ok(answer) => {
             let told = Answer {
                 count: answer.sizes.len(),
                 sum: answer.sum,
@@ -195,16 +202,21 @@ pub fn any(case: &Case, random: &mut Random) -> Told {
         let other = random.pick(&texts).to_vec();
         names[random.below(2)] = if random.once_in(2) { site } else { other };
     }
-    let large = random.below(SIZE as usize + 1) as u64;
+    let link = shared_alone(&network, names.each_ref().map(|name| &name[..]));
+    let usable = link.map_or(SIZE, |(link, _)| network.usable_sizes()[link]);
+    let within = random.between(0, usable as usize) as u64;
+    let usable = u64::from(usable);
+    let largest = u64::from(SIZE);
     let numbers = [
         0,
         1,
-        2,
-        5,
-        100,
-        large,
-        u64::from(SIZE),
-        u64::from(SIZE) + 1,
+        within,
+        within,
+        within,
+        usable,
+        usable + 1,
+        largest,
+        largest + 1,
         u64::MAX,
     ];
     (names, *random.pick(&numbers))

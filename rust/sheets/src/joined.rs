@@ -120,10 +120,14 @@ pub fn first_due(network: &Network, names: [&[u8]; 2]) -> Option<u64> {
     Some(trimmed(network)[link])
 }
 
-/// What the second step gives, for the neighbour's number; none where 18 is due.
+/// What the second step gives, for the neighbour's number; none where 18 is due: also for a number above the usable
+/// size of the link, which no neighbour can tell that has the link at the same.
 #[must_use]
 pub fn answer_due(network: &Network, names: [&[u8]; 2], number: u64) -> Option<Answer> {
     let (link, far) = shared_alone(network, names)?;
+    if number > network.usable_sizes()[link].into() {
+        return None;
+    }
     let mut region = network.clone();
     region.sizes[link] = trimmed(network)[link].min(number) as u32;
     region.reserves[link] = None;

@@ -199,7 +199,8 @@ pub struct Refusal {
     /// - 12: a number is not written in decimal without a leading zero
     /// - 13: reserve above the size
     /// - 17: name of digits only
-    /// - 18: of [`region_first`] and [`region_answer`], the two names are not those of a link that can be shared
+    /// - 18: of [`region_first`] and [`region_answer`], the two names are not those of a link that can be shared, or
+    ///   the number passes its usable size
     ///
     /// A sheet whose line 1 is no heading is measured by edition 1. Names are read in either case for 5, 6 and
     /// 7. The lowest line with a fault decides; within a line the order is 2, 10, 11, 17, then 4, 5 for a site

@@ -204,8 +204,9 @@ pub fn region_first(sheet: &[u8], names: [&[u8]; 2]) -> Result<u64, Refusal> {
 ///
 /// # Errors
 ///
-/// As the first step; and then 9 at line 0 if the list has fewer places than there are links. The whole list then
-/// keeps its values.
+/// As the first step; also 18 if the number passes the usable size of the link, as no first trimmed size does of a
+/// neighbour that has the link at the same; and then 9 at line 0 if the list has fewer places than there are links.
+/// The whole list then keeps its values.
 pub fn region_answer<'list>(
     sheet: &[u8],
     names: [&[u8]; 2],

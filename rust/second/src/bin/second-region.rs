@@ -12,19 +12,15 @@ fn main() -> Result<()> {
     let (sheet, names, number) = match &words[..] {
         [sheet, one, other] => (sheet, [one, other], None),
         [sheet, one, other, number] => (sheet, [one, other], Some(number)),
-        _ => return Err(wrong("a sheet, two names and perhaps a number are due")),
+        _ => {
+            let due = "a sheet, two names and perhaps a number are due";
+            return Err(Error::new(ErrorKind::InvalidInput, due));
+        }
     };
-    let number = number.map(|number| {
-        let number = number.to_str().and_then(|number| number.parse().ok());
-        number.ok_or_else(|| wrong("the number is badly written"))
-    });
     let sheet = std::fs::read(sheet)?;
     let names = names.map(|name| name.as_bytes());
     let mut out = stdout().lock();
-    out.write_all(&second::region_text(&sheet, names, number.transpose()?))?;
+    let number = number.map(|number| number.as_bytes());
+    out.write_all(&second::region_text(&sheet, names, number))?;
     out.flush()
-}
-
-fn wrong(what: &str) -> Error {
-    Error::new(ErrorKind::InvalidInput, what)
 }
