@@ -3,11 +3,19 @@
  * tab, line. With the word "whole" behind its name it plans in whole circuits; with the word
  * "order" it writes the numbers of the sites in the order of work, one a line. With the word
  * "replay" and two file names, a sheet and a booking log, it writes the answer to each line of the
- * log, or "refused", tab, text, tab, number, tab, line. Build, from the root of the repository:
+ * log, or "refused", tab, text, tab, number, tab, line.
+ *
+ * With the word "regions" and two file names, the sheets of two regions that share one link, it
+ * writes of each "region", tab, its number, tab, its sum, and its trimmed sizes, one a line; or
+ * "refused", tab, sheet, tab, number, tab, line. With the word "region", the file name of a sheet
+ * and the two shared names it writes "first", tab, its first trimmed size of the shared link; with
+ * the neighbour's number behind them its own part of the answer, headed "region", tab, its sum.
+ * Build, from the root of the repository:
  *
  *   gcc -O2 -Ic c/example.c target/staticlib/libwaderarmoire.a -o example
  */
 #include <stdio.h>
+#include <stdlib.h>
 #include <string.h>
 
 #include "waderarmoire.h"
@@ -18,6 +26,9 @@ static uint8_t report[WADERARMOIRE_REPORT_BYTES];
 static size_t list[WADERARMOIRE_SITES];
 static uint8_t log_text[WADERARMOIRE_LOG_BYTES + 1];
 static uint64_t answers[WADERARMOIRE_LOG_LINES];
+static uint8_t sheet2[WADERARMOIRE_SHEET_BYTES + 1];
+static uint64_t sizes[WADERARMOIRE_LINKS];
+static uint64_t sizes2[WADERARMOIRE_LINKS];
 
 /* Whether all that was printed is written. */
 static int end_output(void)
@@ -45,6 +56,13 @@ static int read_file(const char *name, uint8_t *text, size_t places, size_t *len
     return failed != 0;
 }
 
+/* Writes numbers, one a line. */
+static void print_numbers(const uint64_t *numbers, size_t count)
+{
+    for (size_t place = 0; place < count; place++)
+        printf("%llu\n", (unsigned long long)numbers[place]);
+}
+
 /* Replays a log over a sheet, both files. */
 static int replay(const char *sheet_name, const char *log_name)
 {
@@ -57,8 +75,53 @@ static int replay(const char *sheet_name, const char *log_name)
     if (waderarmoire_number(answer) != 0)
         printf("refused\t%u\t%u\t%u\n", waderarmoire_text(answer), waderarmoire_number(answer),
                waderarmoire_line(answer));
-    for (size_t line = 0; line < waderarmoire_length(answer); line++)
-        printf("%llu\n", (unsigned long long)answers[line]);
+    print_numbers(answers, waderarmoire_length(answer));
+    return end_output();
+}
+
+/* Trims two regions, both files. */
+static int regions(const char *name, const char *name2)
+{
+    size_t length, length2;
+    if (read_file(name, sheet, sizeof sheet, &length) != 0
+        || read_file(name2, sheet2, sizeof sheet2, &length2) != 0)
+        return 1;
+    uint64_t sums[2];
+    uint64_t answer = waderarmoire_regions(sheet, length, sheet2, length2, sizes, WADERARMOIRE_LINKS,
+                                           sizes2, WADERARMOIRE_LINKS, sums);
+    if (waderarmoire_number(answer) != 0) {
+        printf("refused\t%u\t%u\t%u\n", waderarmoire_text(answer), waderarmoire_number(answer),
+               waderarmoire_line(answer));
+        return end_output();
+    }
+    printf("region\t1\t%llu\n", (unsigned long long)sums[0]);
+    print_numbers(sizes, waderarmoire_count(answer));
+    printf("region\t2\t%llu\n", (unsigned long long)sums[1]);
+    print_numbers(sizes2, waderarmoire_count2(answer));
+    return end_output();
+}
+
+/* One of the two steps of a region: the second with the neighbour's number, the first without. */
+static int region(const char *file, const char *one, const char *other, const char *number)
+{
+    size_t length;
+    if (read_file(file, sheet, sizeof sheet, &length) != 0)
+        return 1;
+    const uint8_t *name = (const uint8_t *)one, *name2 = (const uint8_t *)other;
+    uint64_t answer;
+    if (number == NULL)
+        answer = waderarmoire_region_first(sheet, length, name, strlen(one), name2, strlen(other));
+    else
+        answer = waderarmoire_region_answer(sheet, length, name, strlen(one), name2, strlen(other),
+                                            strtoull(number, NULL, 10), sizes, WADERARMOIRE_LINKS);
+    if (waderarmoire_number(answer) != 0) {
+        printf("refused\t%u\t%u\n", waderarmoire_number(answer), waderarmoire_line(answer));
+    } else if (number == NULL) {
+        printf("first\t%zu\n", waderarmoire_length(answer));
+    } else {
+        printf("region\t%llu\n", (unsigned long long)waderarmoire_region_sum(answer));
+        print_numbers(sizes, waderarmoire_region_count(answer));
+    }
     return end_output();
 }
 
@@ -66,6 +129,10 @@ int main(int count, char **words)
 {
     if (count == 4 && strcmp(words[1], "replay") == 0)
         return replay(words[2], words[3]);
+    if (count == 4 && strcmp(words[1], "regions") == 0)
+        return regions(words[2], words[3]);
+    if ((count == 5 || count == 6) && strcmp(words[1], "region") == 0)
+        return region(words[2], words[3], words[4], count == 6 ? words[5] : NULL);
 
     size_t sheet_len = fread(sheet, 1, sizeof sheet, stdin);
     if (ferror(stdin)) {

@@ -3,8 +3,8 @@
  *
  * One call reads a network sheet and writes the report of its plan, in halves of a circuit or in
  * whole circuits, or lists its sites in the order of work, or replays a booking log over it, or
- * tells why the sheet or the log is refused. Link with libwaderarmoire.a, which is built for x86-64
- * Linux.
+ * trims it with the sheet of a neighbouring region, or tells why a sheet or the log is refused. Link
+ * with libwaderarmoire.a, which is built for x86-64 Linux.
  *
  * The library allocates nothing, keeps nothing between calls, has no global state and calls
  * nothing but memcpy and memset: any number of threads may call it at once, each with a buffer
@@ -39,6 +39,9 @@ extern "C" {
  * many sites at most. Of edition 1 it has 256.
  */
 #define WADERARMOIRE_SITES 384
+
+/* A list of this length is enough for the trimmed sizes of every accepted sheet. */
+#define WADERARMOIRE_LINKS 383
 
 /* The largest log that is replayed, in bytes and in lines; a list of so many answers is enough. */
 #define WADERARMOIRE_LOG_BYTES 65536
@@ -111,6 +114,56 @@ uint64_t waderarmoire_replay(const uint8_t *sheet, size_t sheet_len, const uint8
                              size_t log_len, uint64_t *answers, size_t answers_len);
 
 /*
+ * Trims two neighbouring regions that share one link, each with a sheet of its own, and writes the
+ * trimmed sizes of each, in the order of its links' lines, into its list: sizes for the first,
+ * sizes2 for the second. Into sums, which has two places, go their sums over the links of each
+ * region's own ends, a marked end counting each of its links; the far site, which stands for the
+ * other side of the shared link, counts for the other region. The trimmed sizes are those of the
+ * joined tree, and the two sums add up to its total in halves.
+ *
+ * The caller owes the same for the two sheets, the two lists and sums, the last three of which are
+ * written and overlap nothing. On success the places after the sizes keep their values; on a refusal
+ * both lists and sums keep theirs.
+ *
+ * The answer of the call holds the counts of sizes, waderarmoire_count and waderarmoire_count2, or
+ * a refusal with its sheet, which stands in the place of the text: 1 or 2, the faults of the first
+ * coming first; then 18, of sheet 0 at line 0, unless the sheets have in common exactly two names,
+ * these joined by a link in both, of equal usable size, one having a single link and no mark in the
+ * first sheet, the other so in the second; then 9 at line 0, of the first region that has more
+ * links than places.
+ */
+uint64_t waderarmoire_regions(const uint8_t *first, size_t first_len, const uint8_t *second,
+                              size_t second_len, uint64_t *sizes, size_t sizes_len,
+                              uint64_t *sizes2, size_t sizes2_len, uint64_t *sums);
+
+/*
+ * The first step of a region without its neighbour's sheet: tells its first trimmed size of the
+ * link between two names, in either order and in either case. This number is all that the neighbour
+ * needs to know. The caller owes the same for the sheet and the two names.
+ *
+ * The answer is of the same form as that of waderarmoire_plan, with the trimmed size in the place of
+ * the length. After the faults of the sheet comes 18, at line 0, for what this sheet alone shows to
+ * be wrong: it does not have the two names, no link joins them, or neither has a single link and no
+ * mark.
+ */
+uint64_t waderarmoire_region_first(const uint8_t *sheet, size_t sheet_len, const uint8_t *name,
+                                   size_t name_len, const uint8_t *name2, size_t name2_len);
+
+/*
+ * The second step: given the number that the neighbour's first step tells, writes the region's own
+ * part of what waderarmoire_regions answers. The caller owes the same, with a list that is written;
+ * the places after the sizes keep their values, and on a refusal the whole list does.
+ *
+ * The answer of the call holds the count of sizes and their sum, waderarmoire_region_count and
+ * waderarmoire_region_sum, or a refusal: those of the first step, also 18 for a number above the
+ * usable size of the link, as no neighbour has it that gives the link the same; and then 9 at line 0
+ * for more links than places.
+ */
+uint64_t waderarmoire_region_answer(const uint8_t *sheet, size_t sheet_len, const uint8_t *name,
+                                    size_t name_len, const uint8_t *name2, size_t name2_len,
+                                    uint64_t number, uint64_t *sizes, size_t sizes_len);
+
+/*
  * The number of the refusal, or 0 for success:
  *   1  no bytes, or more than 16,384 (edition 2: 24,576)
  *   2  wrong heading, letter or line ending
@@ -120,12 +173,14 @@ uint64_t waderarmoire_replay(const uint8_t *sheet, size_t sheet_len, const uint8
  *   6  link to a name not given on a line above (a-z read as A-Z)
  *   7  link whose sites are already joined by links above, or are one site
  *   8  fewer than two sites, or not all sites are joined
- *   9  report longer than the buffer; of the order, more sites than places in the list
+ *   9  report longer than the buffer; of the order, more sites than places in the list; of
+ *      regions, more links than places
  *  10  wrong number of fields
  *  11  a name is not 1 to 12 letters or digits
  *  12  a number is not written in decimal without a leading zero
  *  13  reserve above the size
  *  17  name of digits only
+ *  18  the two sheets do not share one link
  * A sheet whose line 1 is no heading is measured by edition 1. The lowest line with a fault
  * decides; within a line the order is 2, 10, 11, 17, then 4, 5 for a site and 12, 3, 13, 6, 7 for
  * a link.
@@ -135,7 +190,10 @@ static inline unsigned waderarmoire_number(uint64_t answer)
     return (unsigned)(answer >> 40) & 0xfffu;
 }
 
-/* Of a replay, the text that is refused: 1 the sheet, 2 the log; 0 for success. */
+/*
+ * Of a replay, the text that is refused: 1 the sheet, 2 the log; of two regions, the sheet, or 0
+ * with 18; 0 for success.
+ */
 static inline unsigned waderarmoire_text(uint64_t answer)
 {
     return (unsigned)(answer >> 52);
@@ -151,6 +209,28 @@ static inline unsigned waderarmoire_line(uint64_t answer)
 static inline size_t waderarmoire_length(uint64_t answer)
 {
     return (size_t)(answer & 0xfffffu);
+}
+
+/* How many sizes two regions have, the first and the second, if they are not refused. */
+static inline size_t waderarmoire_count(uint64_t answer)
+{
+    return (size_t)(answer >> 20);
+}
+
+static inline size_t waderarmoire_count2(uint64_t answer)
+{
+    return (size_t)(answer & 0xfffffu);
+}
+
+/* How many sizes one region has in its second step, and their sum, if it is not refused. */
+static inline size_t waderarmoire_region_count(uint64_t answer)
+{
+    return (size_t)(answer >> 30);
+}
+
+static inline uint64_t waderarmoire_region_sum(uint64_t answer)
+{
+    return answer & 0x3fffffffu;
 }
 
 #ifdef __cplusplus

@@ -16,7 +16,7 @@ ghost use Rattle.tree_links.specs.Chains.{Placed};
 ghost use Rattle.region_links.specs.Partners.{siteFound, partnerIn, Holds, bothIn, joining};
 
 // The number of the site that a look-up found, 0 for none.
-fn site_found(found: Found) -> usize
+pub fn site_found(found: Found) -> usize
     ensures { λ r. ⌜ r ≡ siteFound found ⌝ }
 {
     match found {

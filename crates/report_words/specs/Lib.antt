@@ -1,3 +1,5 @@
 pub mod Words
 pub mod Lengths
 pub mod TwoTexts
+pub mod TwoSheets
+pub mod TwoSheetsLaws

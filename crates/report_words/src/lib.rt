@@ -3,6 +3,7 @@ ghost use mathlib.Core.List.{[], _∷_, _++_};
 ghost use Rattle.text_writers.specs.Wrote.{Wrote, Room};
 ghost use Prim.Native.Nat.{_≤_};
 ghost use Rattle.report_words.specs.Words.{three, grouped, place, cause, words};
+ghost use Rattle.report_words.specs.TwoSheets.{sheetPlace, wordsOfSheets};
 ghost use Rattle.report_words.specs.TwoTexts.{sheetWord, logLong, logWords, wordsOf, refusalOf};
 use model::LOGBYTES;
 use model::LOGLINES;
@@ -104,6 +105,7 @@ fn put_cause(buf: &mut [u8], at: usize, number: u64) -> usize
         ),
         13 => put_bytes(buf, at, b"reserve above the size", b'\n'),
         17 => put_bytes(buf, at, b"name of digits only", b'\n'),
+        18 => put_bytes(buf, at, b"the two sheets do not share one link", b'\n'),
         _ => put_bytes(buf, at, b"a cause without words", b'\n'),
     }
 }
@@ -162,6 +164,31 @@ pub fn write_words_of(text: u64, number: u64, line: usize, buf: &mut [u8]) -> us
     let at = put_sheet(buf, line);
     let next = put_place(buf, at, line);
     put_cause(buf, next, number)
+}
+
+// Which of two sheets, and where in it.
+fn put_sheet_place(buf: &mut [u8], sheet: u64, line: usize) -> usize
+    ensures { λ r. ⌜ Wrote (now (buf .entry)) 0 (sheetPlace sheet line) (now (buf .exit)) r ⌝ }
+{
+    let word = put_part(buf, 0, b"sheet ");
+    if line == 0 {
+        let next = put_number(buf, word, sheet, b':');
+        return put_part(buf, next, b" ");
+    }
+    let next = put_number(buf, word, sheet, b',');
+    let at = put_part(buf, next, b" ");
+    put_place(buf, at, line)
+}
+
+// What a refusal means where two sheets are read (0 means both), a line of text from the start of the buffer, and its length.
+pub fn write_words_of_sheets(sheet: u64, number: u64, line: usize, buf: &mut [u8]) -> usize
+    ensures { λ r. ⌜ Wrote (now (buf .entry)) 0 (wordsOfSheets sheet number line) (now (buf .exit)) r ⌝ }
+{
+    if sheet == 0 {
+        return put_cause(buf, 0, number);
+    }
+    let at = put_sheet_place(buf, sheet, line);
+    put_cause(buf, at, number)
 }
 
 // The line of a refusal of one of two texts, from the start of the buffer, and its length.

@@ -93,6 +93,18 @@ pub fn read_file(argument: usize, buf: &mut [u8]) -> Input
     input
 }
 
+// Puts an argument at the start of the buffer; where it is missing or longer than the buffer, says so.
+pub fn read_argument(argument: usize, buf: &mut [u8]) -> Input
+    ensures { λ r. ⌜ Counts (r .count) (now (buf .exit)) ⌝ }
+{
+    let count = os::arg(argument, buf);
+    if os::errno() != 0 {
+        fail(b"file ", b"argument");
+        return none_of(buf);
+    }
+    Input { count, whole: true }
+}
+
 // Writes a text to standard output and tells whether all of it went; where not, says so.
 pub fn write(text: &[u8]) -> bool {
     if io::write_all(STDOUT_FILENO, text) {
@@ -119,5 +131,24 @@ pub fn refuse_text(text: u64, number: u64, line: usize) {
     if write(&buf[..length]) {
         let told = report_words::write_words_of(text, number, line, &mut buf);
         io::write_all(STDERR_FILENO, &buf[..told]);
+    }
+}
+
+// Writes the line of a refusal of two sheets (0 means both) to standard output, and then what it means to standard error.
+pub fn refuse_sheets(sheet: u64, number: u64, line: usize) {
+    let mut buf = io::buffer();
+    let length = report_words::write_refusal_of(sheet, number, line, &mut buf);
+    if write(&buf[..length]) {
+        let said = report_words::write_words_of_sheets(sheet, number, line, &mut buf);
+        io::write_all(STDERR_FILENO, &buf[..said]);
+    }
+}
+
+// Writes the line of a refusal at line 0 to standard output, and then these words of what it means to standard error.
+pub fn refuse_in_words(number: u64, words: &[u8]) {
+    let mut text = io::buffer();
+    let length = report::write_refusal(number, 0, &mut text);
+    if write(&text[..length]) {
+        io::write_all(STDERR_FILENO, words);
     }
 }

@@ -23,7 +23,7 @@ use Rattle.theory_regions.specs.TwoRegions.{Neighbours}
 -- ---- of trees and sums
 
 -- two links between the same two sites are one link
-no-double-link : {ls : Links} {n : ℕ} → Tree ls n → (i j x y : ℕ) → i < length ls → j < length ls → Between ls i x y → Between ls j x y → i ≡ j
+pub no-double-link : {ls : Links} {n : ℕ} → Tree ls n → (i j x y : ℕ) → i < length ls → j < length ls → Between ls i x y → Between ls j x y → i ≡ j
 no-double-link {ls} T i j x y l k f g = same? i j
     (λ e. e)
     (λ d.
@@ -34,7 +34,7 @@ no-double-link {ls} T i j x y l k f g = same? i j
     absurd (bridge T j k (elim g [ inl h ↦ rw (h .0, h .1) together | inr h ↦ rw (h .0, h .1) (sym together) ])))
 
 -- a link at two different sites joins them
-joins-both : (ls : Links) (k x y : ℕ) → x ≢ y → at ls x k ≡ 1 → at ls y k ≡ 1 → Between ls k x y
+pub joins-both : (ls : Links) (k x y : ℕ) → x ≢ y → at ls x k ≡ 1 → at ls y k ≡ 1 → Between ls k x y
 joins-both ls k x y d f g = elim (at-end ls k f) [
   | inl h ↦ elim (at-end ls k g) [ inl i ↦ absurd (d (sym h ∙ i)) | inr i ↦ inl (h, i) ]
   | inr h ↦ elim (at-end ls k g) [ inl i ↦ inr (i, h) | inr i ↦ absurd (d (sym h ∙ i)) ]
@@ -60,7 +60,7 @@ site-once n x s =
     sum-single n (x - 1) (λ i. is (suc i) x) (omega arith) (λ i l d. is-other (λ e. d (omega arith))) ∙ is-same back
 
 -- the first place
-first-found : (test : ℕ → ℕ) (i m : ℕ) → let r = firstFrom test i m in
+pub first-found : (test : ℕ → ℕ) (i m : ℕ) → let r = firstFrom test i m in
     ((r ≡ i + m) × ((j : ℕ) → i ≤ j → j < i + m → test j ≢ 1)) ⊎ ((r < i + m) × (test r ≡ 1))
 unfolding firstFrom
 first-found test i zero = inl (omega arith, λ j l h. absurd (omega arith))
@@ -71,7 +71,7 @@ first-found test i (suc m) = same? (test i) 1
       | inr h ↦ inr (omega (arith, h .0), h .1)
     ]))
 
-one-is-found : (test : ℕ → ℕ) (m : ℕ) → firstFrom test 0 m < m → test (firstFrom test 0 m) ≡ 1
+pub one-is-found : (test : ℕ → ℕ) (m : ℕ) → firstFrom test 0 m < m → test (firstFrom test 0 m) ≡ 1
 one-is-found test m l = elim (first-found test 0 m) [ inl h ↦ absurd (omega (arith, h .0)) | inr h ↦ h .1 ]
 
 ite-cases : {P A : Type 0} (Q : A → Type 0) (h : Dec P) (x y : A) → (P → Q x) → (¬ P → Q y) → Q (ite h x y)

@@ -1,3 +1,6 @@
 pub mod Packed
 pub mod Unpacked
 pub mod Replayed
+pub mod PackedSides
+pub mod Sides
+pub mod Exchanged

@@ -1,11 +1,15 @@
 -- An outcome as one number, for callers in other languages.
+use mathlib.Core.List.{List}
 use Prim.Native.Nat.{ℕ, _+_, _*_, _/_, _%_}
+use lib.ListN.{set}
 use Rattle.planner.specs.declared.Outcome.{Outcome}
 use Rattle.planner.specs.declared.Outcome.the-variants.{Report, Refused}
 use Rattle.orders.specs.declared.Outcome.{Outcome as Order}
 use Rattle.orders.specs.declared.Outcome.the-variants as order
 use Rattle.logs.specs.declared.Outcome.{Outcome as Replay}
 use Rattle.logs.specs.declared.Outcome.the-variants as replay
+use Rattle.exchanges.specs.declared.Outcome.{Outcome as Exchange}
+use Rattle.exchanges.specs.declared.Outcome.the-variants as exchange
 
 -- the refusal's number times 2 ^ 40, its line times 2 ^ 20, and the report's length. No remainder loses anything, and each can be read off: `Unpacked`.
 unfoldable pub packed : Outcome → ℕ
@@ -21,6 +25,17 @@ asOutcome (order.Refused k l) = Refused k l
 unfoldable pub packedReplay : Replay → ℕ
 packedReplay (replay.Answered n) = n % 1048576
 packedReplay (replay.Refused t k l) = t % 4096 * 4503599627370496 + k % 4096 * 1099511627776 + l % 1048576 * 1048576
+
+-- what an exchange comes to (02, Card 10): the counts of both regions, the first times 2 ^ 20; or the sheet times 2 ^ 52, the refusal's number times 2 ^ 40 and
+-- its line times 2 ^ 20
+unfoldable pub packedRegions : Exchange → ℕ
+packedRegions (exchange.Answered u v) = u .count % 1048576 * 1048576 + v .count % 1048576
+packedRegions (exchange.Refused x k l) = x % 4096 * 4503599627370496 + k % 4096 * 1099511627776 + l % 1048576 * 1048576
+
+-- the caller's two places for the sums after it: the sum of the first region and that of the second; on a refusal as they were
+unfoldable pub sumsAfter : Exchange → List ℕ → List ℕ
+sumsAfter (exchange.Answered u v) l = set (set l 0 (u .sum)) 1 (v .sum)
+sumsAfter (exchange.Refused x k line) l = l
 
 -- ---- taken apart, as the C header does (c/waderarmoire.h)
 

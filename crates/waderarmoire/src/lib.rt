@@ -1,11 +1,15 @@
 // The planner as a library for other languages.
 use planner::Outcome;
+use sides::First;
 ghost use mathlib.Core.Path.{_≡_};
 ghost use Rattle.model.specs.Edition.{editions};
 ghost use Rattle.planner.specs.Outcome.{planned, plannedWhole};
 ghost use Rattle.orders.specs.Outcome.{orderOf};
 ghost use Rattle.logs.specs.Outcome.{replayed};
-ghost use Rattle.waderarmoire.specs.Packed.{packed, asOutcome, packedReplay};
+ghost use Rattle.exchanges.specs.Outcome.{exchanged};
+ghost use Rattle.sides.specs.Outcome.{firstShown, answered};
+ghost use Rattle.waderarmoire.specs.Packed.{packed, asOutcome, packedReplay, packedRegions, sumsAfter};
+ghost use Rattle.waderarmoire.specs.PackedSides.{packedFirst, packedSide};
 
 // An outcome as one number: the refusal's number times 2^40, its line times 2^20, and the report's length.
 fn pack(outcome: Outcome) -> u64
@@ -74,4 +78,105 @@ pub extern "C" fn waderarmoire_replay(sheet: &[u8], log: &[u8], answers: &mut [u
     ensures left { λ r. ⌜ now (answers .exit) ≡ replayed editions (now (sheet .entry)) (now (log .entry)) (now (answers .entry)) .list ⌝ }
 {
     pack_replay(logs::replay(sheet, log, answers))
+}
+
+// What the first step of a region comes to as one number: the refusal's number times 2^40, its line times 2^20, and the size that is shown.
+fn pack_first(first: First) -> u64
+    ensures { λ r. ⌜ r ≡ packedFirst first ⌝ }
+{
+    match first {
+        First::Shown { size } => size % 1048576,
+        First::Refused { number, line } => number % 4096 * 1099511627776
+            + line as u64 % 1048576 * 1048576,
+    }
+}
+
+// Tells a region's first trimmed size of the link that two names mean, as sides::first_size does, as one number.
+#[no_mangle]
+pub extern "C" fn waderarmoire_region_first(sheet: &[u8], name: &[u8], name2: &[u8]) -> u64
+    ensures { λ r. ⌜ r ≡ packedFirst (firstShown editions (now (sheet .entry)) (now (name .entry)) (now (name2 .entry))) ⌝ }
+{
+    pack_first(sides::first_size(sheet, name, name2))
+}
+
+// What the second step of a region comes to as one number: the refusal's number times 2^40 and its line times 2^20; or the number of trimmed sizes times
+// 2^30, and their sum.
+fn pack_side(outcome: sides::Outcome) -> u64
+    ensures { λ r. ⌜ r ≡ packedSide outcome ⌝ }
+{
+    match outcome {
+        sides::Outcome::Answered { count, sum } => count as u64 % 1024 * 1073741824
+            + sum % 1073741824,
+        sides::Outcome::Refused { number, line } => number % 4096 * 1099511627776
+            + line as u64 % 1048576 * 1048576,
+    }
+}
+
+// Writes the trimmed sizes that a region is given for its neighbour's number into the caller's list, as sides::answer does, and tells the outcome as one
+// number.
+#[no_mangle]
+pub extern "C" fn waderarmoire_region_answer(
+    sheet: &[u8],
+    name: &[u8],
+    name2: &[u8],
+    number: u64,
+    sizes: &mut [u64],
+) -> u64
+    ensures told { λ r. ⌜ r ≡ packedSide (answered editions (now (sheet .entry)) (now (name .entry)) (now (name2 .entry)) number
+        (now (sizes .entry)) .outcome) ⌝ }
+    ensures left { λ r. ⌜ now (sizes .exit)
+        ≡ answered editions (now (sheet .entry)) (now (name .entry)) (now (name2 .entry)) number (now (sizes .entry)) .list ⌝ }
+{
+    pack_side(sides::answer(sheet, name, name2, number, sizes))
+}
+
+// What an exchange comes to as one number: the counts of both regions, the first times 2^20; or the sheet times 2^52, the refusal's number times 2^40 and its
+// line times 2^20.
+fn pack_regions(outcome: exchanges::Outcome) -> u64
+    ensures { λ r. ⌜ r ≡ packedRegions outcome ⌝ }
+{
+    match outcome {
+        exchanges::Outcome::Answered { first, second } => first.count as u64 % 1048576 * 1048576
+            + second.count as u64 % 1048576,
+        exchanges::Outcome::Refused {
+            sheet,
+            number,
+            line,
+        } => sheet % 4096 * 4503599627370496
+            + number % 4096 * 1099511627776
+            + line as u64 % 1048576 * 1048576,
+    }
+}
+
+// The sums of both regions into the caller's two places, which keep their values on a refusal.
+fn store_sums(outcome: exchanges::Outcome, sums: &mut [u64; 2])
+    ensures { λ _. ⌜ now (sums .exit) ≡ sumsAfter outcome (now (sums .entry)) ⌝ }
+{
+    if let exchanges::Outcome::Answered { first, second } = outcome {
+        sums[0] = first.sum;
+        sums[1] = second.sum;
+    }
+}
+
+// Exchanges between two regions into the caller's lists, as exchanges::exchange does, writes their sums and tells the outcome as one number.
+#[no_mangle]
+pub extern "C" fn waderarmoire_regions(
+    first: &[u8],
+    second: &[u8],
+    sizes: &mut [u64],
+    sizes2: &mut [u64],
+    sums: &mut [u64; 2],
+) -> u64
+    ensures told { λ r. ⌜ r
+        ≡ packedRegions (exchanged editions (now (first .entry)) (now (second .entry)) (now (sizes .entry)) (now (sizes2 .entry)) .outcome) ⌝ }
+    ensures left { λ r. ⌜ now (sizes .exit)
+        ≡ exchanged editions (now (first .entry)) (now (second .entry)) (now (sizes .entry)) (now (sizes2 .entry)) .first ⌝ }
+    ensures left2 { λ r. ⌜ now (sizes2 .exit)
+        ≡ exchanged editions (now (first .entry)) (now (second .entry)) (now (sizes .entry)) (now (sizes2 .entry)) .second ⌝ }
+    ensures summed { λ r. ⌜ now (sums .exit)
+        ≡ sumsAfter (exchanged editions (now (first .entry)) (now (second .entry)) (now (sizes .entry)) (now (sizes2 .entry)) .outcome) (now (sums .entry)) ⌝ }
+{
+    let outcome = exchanges::exchange(first, second, sizes, sizes2);
+    store_sums(outcome, sums);
+    pack_regions(outcome)
 }

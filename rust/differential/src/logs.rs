@@ -4,23 +4,19 @@
 //! the card's order, and loads, worked out anew from the lines answered with 0, stay within twice the
 //! capacities.
 
-use crate::{Failure, damage};
+use crate::damage;
+use crate::indexed::{self, Different};
+use crate::programs::{Expected, Files, Words, run_words};
 use second::{LOG_LINES, REPORT_BYTES, Replayed};
 use sheets::bare;
 use sheets::ledger::{self, Seen, is_too_long};
 use sheets::logs::{Case, case, every_small_log};
 use sheets::{Edition, Network, Random};
-use std::cell::Cell;
-use std::path::{Path, PathBuf};
-use std::process::Command;
-use std::sync::Mutex;
-use std::sync::atomic::{AtomicU64, Ordering};
+use std::path::PathBuf;
 use std::time::Instant;
 
 /// The length of the lists, above that of any answered log.
 const LIST_PLACES: usize = LOG_LINES + 64;
-/// The threads that compare.
-const THREADS: u64 = 2;
 /// With fewer logs it is left to chance what occurs in them.
 const ENOUGH_FOR_SHARES: u64 = 10_000;
 /// At least one in this many logs must have each answer in one of its lines.
@@ -32,34 +28,6 @@ const LEAST_ACROSS_SHARE: u64 = 10;
 const LEAST_SECOND_SHARES: [u64; 2] = [5, 100];
 /// All answers that a line can get.
 const ANSWERS: [usize; 11] = [0, 2, 3, 6, 10, 11, 17, 12, 14, 15, 16];
-
-thread_local! {
-    /// The index of the log a thread compares.
-    static CURRENT: Cell<Option<u64>> = const { Cell::new(None) };
-}
-
-/// A sheet and a log on which something is wrong.
-pub struct Different {
-    sheet: Vec<u8>,
-    log: Vec<u8>,
-    what: String,
-}
-
-impl Different {
-    /// Keeps the log beside the file for the sheet.
-    pub fn keep(self, sheet_file: &Path) -> Failure {
-        let file = sheet_file.with_extension("log");
-        let kept = match std::fs::write(&file, &self.log) {
-            Ok(()) => format!("the log is kept in {}", file.display()),
-            Err(error) => format!("the log cannot be kept: {error}"),
-        };
-        Failure {
-            sheet: Some(self.sheet),
-            index: None,
-            what: format!("{}\n{kept}", self.what),
-        }
-    }
-}
 
 /// The lists of the two planners, which hold a pattern throughout before every replay.
 struct Lists {
@@ -308,7 +276,8 @@ pub fn small() -> Result<(), Different> {
             lists.clear(LIST_PLACES);
             if !is_right {
                 let what = format!("{}: the answers are others", tried.title);
-                return Err(Different { sheet, log, what });
+                let other = ("log", log);
+                return Err(Different { sheet, other, what });
             }
         }
     }
@@ -335,7 +304,7 @@ pub fn small() -> Result<(), Different> {
 fn different(case: &Case, what: String) -> Different {
     Different {
         sheet: case.sheet.clone(),
-        log: case.log.clone(),
+        other: ("log", case.log.clone()),
         what,
     }
 }
@@ -352,48 +321,21 @@ fn compare_index(
     tally: &mut Tally,
 ) -> Result<(), Different> {
     let (case, mut random) = case(seed, index);
-    compare_random(lists, &case, &mut random, tally).map_err(|what| {
-        let again = format!("made again by: --seed {seed} --log {index}");
-        different(
-            &case,
-            format!("log {index} of seed {seed}: {what}\n{again}"),
-        )
-    })
+    compare_random(lists, &case, &mut random, tally)
+        .map_err(|what| different(&case, indexed::told("log", seed, index, &what)))
 }
 
 /// Compares the planners on the first `count` logs of a seed.
 pub fn compare_all(seed: u64, count: u64) -> Result<(), Different> {
     let start = Instant::now();
-    tell_log_on_panic(seed);
-    // The lowest log with a difference.
-    let lowest = AtomicU64::new(count);
-    let found: Mutex<Vec<(u64, Different)>> = Mutex::new(Vec::new());
-    let tally = Mutex::new(Tally::default());
-    let work = |first: u64| {
-        let mut lists = Lists::new();
-        let mut own = Tally::default();
-        let mut index = first;
-        while index < lowest.load(Ordering::Relaxed) {
-            CURRENT.set(Some(index));
-            if let Err(different) = compare_index(&mut lists, seed, index, &mut own) {
-                lowest.fetch_min(index, Ordering::Relaxed);
-                let mut found = found.lock().expect("no thread panics");
-                found.push((index, different));
-            }
-            index += THREADS;
-        }
-        tally.lock().expect("no thread panics").add(&own);
-    };
-    std::thread::scope(|scope| {
-        for first in 0..THREADS {
-            scope.spawn(move || work(first));
-        }
-    });
-    let found = found.into_inner().expect("no thread panics");
-    if let Some((_, different)) = found.into_iter().min_by_key(|(index, _)| *index) {
-        return Err(different);
+    let new = || (Lists::new(), Tally::default());
+    let kept = indexed::compare_all([seed, count], "log", new, |(lists, own), index| {
+        compare_index(lists, seed, index, own)
+    })?;
+    let mut tally = Tally::default();
+    for (_, own) in &kept {
+        tally.add(own);
     }
-    let tally = tally.into_inner().expect("no thread panics");
     println!(
         "random logs: {count} of seed {seed} in {:.1} s, {} lines",
         start.elapsed().as_secs_f64(),
@@ -411,22 +353,11 @@ pub fn compare_all(seed: u64, count: u64) -> Result<(), Different> {
     if count >= ENOUGH_FOR_SHARES && !tally.has_shares(count) {
         return Err(Different {
             sheet: Vec::new(),
-            log: Vec::new(),
+            other: ("log", Vec::new()),
             what: "too few logs had one of the answers".to_string(),
         });
     }
     Ok(())
-}
-
-/// Lets a panic tell the log it comes from.
-fn tell_log_on_panic(seed: u64) {
-    let usual = std::panic::take_hook();
-    std::panic::set_hook(Box::new(move |panic| {
-        usual(panic);
-        if let Some(index) = CURRENT.get() {
-            eprintln!("made again by: --seed {seed} --log {index}");
-        }
-    }));
 }
 
 /// The programs that replay a log, given the files of a sheet and a log.
@@ -438,9 +369,7 @@ pub struct Programs {
 impl Programs {
     /// Compares what the programs print on `count` logs, and the examples on some.
     pub fn compare(&self, seed: u64, count: u64, examples: &[PathBuf]) -> Result<(), Different> {
-        let folder = std::env::temp_dir();
-        let file = |name: &str| folder.join(format!("log-{}.{name}", std::process::id()));
-        let files = [file("sheet"), file("log")];
+        let files = Files::new("log");
         for index in 0..count {
             let (mut case, mut random) = case(seed, index);
             if random.once_in(6) {
@@ -451,9 +380,6 @@ impl Programs {
             self.compare_one(&case, &files, examples)
                 .map_err(|what| different(&case, what))?;
         }
-        for file in &files {
-            _ = std::fs::remove_file(file);
-        }
         println!(
             "programs: {count} logs, {} of them with {} examples",
             count.div_ceil(5),
@@ -462,65 +388,30 @@ impl Programs {
         Ok(())
     }
 
-    fn compare_one(
-        &self,
-        case: &Case,
-        files: &[PathBuf; 2],
-        examples: &[PathBuf],
-    ) -> Result<(), String> {
-        for (file, text) in files.iter().zip([&case.sheet, &case.log]) {
-            std::fs::write(file, text).map_err(|error| format!("{}: {error}", file.display()))?;
-        }
+    fn compare_one(&self, case: &Case, files: &Files, examples: &[PathBuf]) -> Result<(), String> {
+        let [sheet, log] = files.put([&case.sheet, &case.log])?;
         let mut answers = [0; LOG_LINES];
         let outcome = second::replay(&case.sheet, &case.log, &mut answers);
-        let due = match outcome {
+        let (text, words) = match outcome {
             Replayed::Answered { count } => {
                 let mut lines: Vec<_> = answers[..count].iter().map(u64::to_string).collect();
                 lines.push(String::new());
-                lines.join("\n")
+                (lines.join("\n"), Words::None)
             }
             Replayed::Refused { text, number, line } => {
-                format!("refused\t{text}\t{number}\t{line}\n")
+                let text = format!("refused\t{text}\t{number}\t{line}\n");
+                (text, Words::OneLine)
             }
         };
-        let said = usize::from(matches!(outcome, Replayed::Refused { .. }));
-        run(&self.proved, &[], files, &due, said)?;
-        run(&self.second, &[], files, &due, 0)?;
+        let due = Expected {
+            printed: text.into_bytes(),
+            words,
+        };
+        run_words(&self.proved, &[sheet, log], &due)?;
+        run_words(&self.second, &[sheet, log], &due.silent())?;
         for example in examples {
-            run(example, &["replay"], files, &due, 0)?;
+            run_words(example, &["replay".as_ref(), sheet, log], &due.silent())?;
         }
         Ok(())
     }
-}
-
-/// Runs a program on the two files and compares what it prints, and how many lines it says on standard
-/// error.
-fn run(
-    program: &Path,
-    words: &[&str],
-    files: &[PathBuf],
-    due: &str,
-    said: usize,
-) -> Result<(), String> {
-    let told = |what: &str| format!("{}: {what}", program.display());
-    let output = Command::new(program)
-        .args(words)
-        .args(files)
-        .output()
-        .map_err(|error| told(&error.to_string()))?;
-    if output.status.code().is_none() {
-        return Err(told(&output.status.to_string()));
-    }
-    if output.stdout != due.as_bytes() {
-        let start: String = String::from_utf8_lossy(&output.stdout)
-            .chars()
-            .take(60)
-            .collect();
-        return Err(told(&format!("prints {start:?}…, which is not due")));
-    }
-    let words = String::from_utf8_lossy(&output.stderr);
-    if words.lines().count() != said || words.ends_with('\n') != (said > 0) {
-        return Err(told(&format!("says {words:?}")));
-    }
-    Ok(())
 }

@@ -4,6 +4,7 @@
 //! differential [--sheets N] [--seed N] [--only INDEX] [--keep FILE] [--planted N]
 //!              [--runs N] [--program FILE] [--whole FILE] [--order FILE] [--example FILE]...
 //!              [--logs N] [--log INDEX] [--replay FILE]
+//!              [--pairs N] [--pair INDEX] [--regions FILE] [--region FILE]
 //! ```
 //!
 //! The sheets of the scope document come first, then small sheets with names in either case, with
@@ -15,11 +16,16 @@
 //! them. Orders of work are compared place for place, and some checked against the card's rule. The
 //! first sheet with a difference is kept in a file, and the seed and index that make it again are
 //! printed. With an error planted in the second planner, which needs the feature `planted`, only the
-//! random sheets are compared, to show that they find it, or the random logs for an error in these.
+//! random sheets are compared, to show that they find it, or the random logs or pairs of regions for an
+//! error in these.
 //!
 //! Then come booking logs: some with answers written by hand, all small ones over a short list of lines,
 //! such with bare numbers as names, random ones, and the programs over files. Answers are compared line
 //! by line and checked against the card.
+//!
+//! Then come pairs of regions that share one link, or do not: some with answers written by hand, all small
+//! ones, random ones, and the programs over files. Answers and lists are compared place by place, with what is
+//! due on the joined tree, and with the plan of the joined sheet.
 
 mod bare;
 mod card;
@@ -29,19 +35,24 @@ mod damage;
 mod demands;
 mod editions;
 mod exact;
+mod indexed;
 mod inward;
 mod logs;
 mod marks;
 mod printed;
 mod programs;
 mod random;
+mod region_programs;
+mod regions;
 mod search;
 mod small;
 mod spelling;
+mod steps;
 mod tally;
 mod usable;
 
-use programs::Programs;
+use indexed::Different;
+use programs::{Programs, beside_this_program};
 use std::path::PathBuf;
 use std::process::ExitCode;
 use std::time::Instant;
@@ -57,6 +68,9 @@ struct Options {
     logs: u64,
     only_log: Option<u64>,
     log_programs: logs::Programs,
+    pairs: u64,
+    only_pair: Option<u64>,
+    region_programs: region_programs::Programs,
 }
 
 /// A sheet on which something is wrong.
@@ -85,8 +99,7 @@ fn options() -> Result<Options, String> {
         runs: 300,
         programs: Programs {
             proved: ["target/bin/plan", "target/bin/whole", "target/bin/order"].map(PathBuf::from),
-            second: ["second-plan", "second-whole", "second-order"]
-                .map(programs::beside_this_program),
+            second: ["second-plan", "second-whole", "second-order"].map(beside_this_program),
             examples: Vec::new(),
         },
         planted: None,
@@ -94,7 +107,13 @@ fn options() -> Result<Options, String> {
         only_log: None,
         log_programs: logs::Programs {
             proved: PathBuf::from("target/bin/replay"),
-            second: programs::beside_this_program("second-replay"),
+            second: beside_this_program("second-replay"),
+        },
+        pairs: 30_000,
+        only_pair: None,
+        region_programs: region_programs::Programs {
+            proved: ["target/bin/regions", "target/bin/region"].map(PathBuf::from),
+            second: ["second-regions", "second-region"].map(beside_this_program),
         },
     };
     let mut arguments = std::env::args().skip(1);
@@ -124,6 +143,10 @@ fn options() -> Result<Options, String> {
             "--logs" => options.logs = number()?,
             "--log" => options.only_log = Some(number()?),
             "--replay" => options.log_programs.proved = value.into(),
+            "--pairs" => options.pairs = number()?,
+            "--pair" => options.only_pair = Some(number()?),
+            "--regions" => options.region_programs.proved[0] = value.into(),
+            "--region" => options.region_programs.proved[1] = value.into(),
             _ => return Err(format!("unknown option {option}")),
         }
     }
@@ -153,6 +176,8 @@ fn run(options: &Options) -> ExitCode {
         random::compare_one(options.seed, index, |sheet| keep(sheet, options))
     } else if options.only_log.is_some() || options.planted.is_some_and(is_of_logs) {
         compare_logs(options)
+    } else if options.only_pair.is_some() || options.planted.is_some_and(is_of_regions) {
+        compare_regions(options)
     } else if options.planted.is_some() {
         random::compare_all(options.seed, options.sheets)
     } else {
@@ -167,6 +192,7 @@ fn run(options: &Options) -> ExitCode {
             .and_then(|()| random::compare_all(options.seed, options.sheets))
             .and_then(|()| options.programs.compare(options.seed, options.runs))
             .and_then(|()| compare_logs(options))
+            .and_then(|()| compare_regions(options))
     };
     let Err(failure) = outcome else {
         println!("no difference in {:.1} s", start.elapsed().as_secs_f64());
@@ -192,6 +218,12 @@ fn is_of_logs(number: u64) -> bool {
     first_of_logs.contains(&number) || of_later_cards.contains(&number)
 }
 
+/// Whether a planted error is one in regions.
+fn is_of_regions(number: u64) -> bool {
+    use second::planted::Error::{FarWithLinks, GreaterShared};
+    (GreaterShared as u64..=FarWithLinks as u64).contains(&number)
+}
+
 /// Compares the planners on booking logs: on a single one, on random ones, or on all.
 fn compare_logs(options: &Options) -> Result<(), Failure> {
     let seed = options.seed;
@@ -208,7 +240,26 @@ fn compare_logs(options: &Options) -> Result<(), Failure> {
                 programs.compare(seed, runs, &options.programs.examples)
             })
     };
-    compared.map_err(|different| different.keep(&options.keep))
+    compared.map_err(|different: Different| different.keep(&options.keep))
+}
+
+/// Compares the planners on pairs of regions: on a single one, on random ones, or on all.
+fn compare_regions(options: &Options) -> Result<(), Failure> {
+    let seed = options.seed;
+    let compared = if let Some(index) = options.only_pair {
+        regions::compare_one(seed, index)
+    } else if options.planted.is_some() {
+        regions::compare_all(seed, options.pairs)
+    } else {
+        let runs = options.runs as u64 / 2;
+        regions::small()
+            .and_then(|()| regions::compare_all(seed, options.pairs))
+            .and_then(|()| {
+                let programs = &options.region_programs;
+                programs.compare(seed, runs, &options.programs.examples)
+            })
+    };
+    compared.map_err(|different: Different| different.keep(&options.keep))
 }
 
 /// Keeps a sheet in the file for it.

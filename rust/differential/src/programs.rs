@@ -3,9 +3,10 @@
 use crate::{Failure, damage};
 use second::{Outcome, REPORT_BYTES};
 use sheets::{Edition, Layout, Network, Random, SITES, tried};
+use std::ffi::OsStr;
 use std::io::{ErrorKind, Write};
 use std::path::{Path, PathBuf};
-use std::process::{Command, Stdio};
+use std::process::{Command, Output, Stdio};
 use waderarmoire::Refusal;
 
 /// The programs that are run.
@@ -19,11 +20,19 @@ pub struct Programs {
     pub examples: Vec<PathBuf>,
 }
 
-/// What a program must print for a sheet, and what it may say on standard error.
+/// What a program must print, and say on standard error.
 #[derive(Clone)]
-struct Expected {
-    printed: Vec<u8>,
-    words: String,
+pub struct Expected {
+    pub printed: Vec<u8>,
+    pub words: Words,
+}
+
+/// What a program says on standard error.
+#[derive(Clone, Debug, PartialEq, Eq)]
+pub enum Words {
+    None,
+    These(String),
+    OneLine,
 }
 
 impl Expected {
@@ -35,12 +44,12 @@ impl Expected {
                 buffer.truncate(length);
                 Expected {
                     printed: buffer,
-                    words: String::new(),
+                    words: Words::None,
                 }
             }
             Outcome::Refused { number, line } => Expected {
                 printed: format!("refused\t{number}\t{line}\n").into_bytes(),
-                words: format!("{}\n", Refusal { number, line }),
+                words: Words::These(format!("{}\n", Refusal { number, line })),
             },
         }
     }
@@ -48,7 +57,7 @@ impl Expected {
     /// The same of a program that says nothing and prints the first field of each line of an order.
     fn first_fields(&self) -> Self {
         let mut due = self.silent();
-        if self.words.is_empty() {
+        if self.words == Words::None {
             let lines = self.printed.split_inclusive(|&byte| byte == b'\n');
             let first = |line: &[u8]| line.split(|&byte| byte == b'\t').next().map(<[u8]>::to_vec);
             let mut first = lines.filter_map(first).collect::<Vec<_>>();
@@ -59,10 +68,40 @@ impl Expected {
     }
 
     /// The same of a program that says nothing.
-    fn silent(&self) -> Self {
+    pub fn silent(&self) -> Self {
         Expected {
             printed: self.printed.clone(),
-            words: String::new(),
+            words: Words::None,
+        }
+    }
+
+    /// Compares what a program prints, if it came to its end, and what it says.
+    fn check(&self, program: &Path, output: &Output) -> Result<(), String> {
+        let told = |what: &str| format!("{}: {what}", program.display());
+        if output.status.code().is_none() {
+            return Err(told(&output.status.to_string()));
+        }
+        if output.stdout != self.printed {
+            let start =
+                |text: &[u8]| String::from_utf8_lossy(&text[..text.len().min(60)]).into_owned();
+            return Err(told(&format!(
+                "prints {} bytes, {:?}…, and not {} bytes, {:?}…",
+                output.stdout.len(),
+                start(&output.stdout),
+                self.printed.len(),
+                start(&self.printed)
+            )));
+        }
+        let said = String::from_utf8_lossy(&output.stderr);
+        let is_due = match &self.words {
+            Words::None => said.is_empty(),
+            Words::These(words) => said == *words,
+            Words::OneLine => said.lines().count() == 1 && said.ends_with('\n'),
+        };
+        if is_due {
+            Ok(())
+        } else {
+            Err(told(&format!("says {said:?}, and not {:?}", self.words)))
         }
     }
 }
@@ -163,24 +202,42 @@ fn run(program: &Path, word: Option<&str>, sheet: &[u8], due: &Expected) -> Resu
     let output = child
         .wait_with_output()
         .map_err(|error| told(&error.to_string()))?;
-    if output.status.code().is_none() {
-        return Err(told(&output.status.to_string()));
+    due.check(program, &output)
+}
+
+/// Two files for texts that programs are given, taken away in the end.
+pub struct Files([PathBuf; 2]);
+
+impl Files {
+    /// Files of this process whose names tell what they are for.
+    pub fn new(name: &str) -> Self {
+        let folder = std::env::temp_dir();
+        let file = |number| folder.join(format!("{name}-{}.{number}", std::process::id()));
+        Files([file(1), file(2)])
     }
-    if output.stdout != due.printed {
-        let start = |text: &[u8]| String::from_utf8_lossy(&text[..text.len().min(60)]).into_owned();
-        return Err(told(&format!(
-            "prints {} bytes, {:?}…, and not {} bytes, {:?}…",
-            output.stdout.len(),
-            start(&output.stdout),
-            due.printed.len(),
-            start(&due.printed)
-        )));
+
+    /// Puts the texts into the files, and returns the names of these.
+    pub fn put(&self, texts: [&[u8]; 2]) -> Result<[&OsStr; 2], String> {
+        for (file, text) in self.0.iter().zip(texts) {
+            std::fs::write(file, text).map_err(|error| format!("{}: {error}", file.display()))?;
+        }
+        Ok(self.0.each_ref().map(|file| file.as_os_str()))
     }
-    if output.stderr != due.words.as_bytes() {
-        let said = String::from_utf8_lossy(&output.stderr);
-        return Err(told(&format!("says {said:?}, and not {:?}", due.words)));
+}
+
+impl Drop for Files {
+    fn drop(&mut self) {
+        for file in &self.0 {
+            _ = std::fs::remove_file(file);
+        }
     }
-    Ok(())
+}
+
+/// Runs a program with words behind its name and compares what it prints, and says on standard error.
+pub fn run_words(program: &Path, words: &[&OsStr], due: &Expected) -> Result<(), String> {
+    let output = Command::new(program).args(words).output();
+    let output = output.map_err(|error| format!("{}: {error}", program.display()))?;
+    due.check(program, &output)
 }
 
 /// A program built along with this one.

@@ -60,7 +60,7 @@ pub use edition::Edition;
 use forest::Forest;
 use network::Network;
 use planted::{Error, planted};
-pub use regions::{Answer, Exchanged, first_step, regions, regions_text, second_step};
+pub use regions::{Answer, Exchanged, first_step, region_text, regions, regions_text, second_step};
 pub use replay::{AMOUNT, LOG_BYTES, LOG_LINES, OPEN_PAIRS, Replayed, replay};
 use report::Shown;
 use tree::RootedTree;

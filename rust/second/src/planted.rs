@@ -1,8 +1,7 @@
 //! Errors planted on purpose.
 //!
 //! With the feature `planted` one of these errors can be switched on, to show that the comparison of the
-//! planners finds it, or, of the fourteen errors in regions, the unit tests. Without the feature none of
-//! this reaches the compiled planner.
+//! planners finds it. Without the feature none of this reaches the compiled planner.
 
 /// An error that can be planted, numbered from 1.
 #[derive(Clone, Copy, Debug, PartialEq, Eq)]

@@ -5,12 +5,12 @@
 
 use crate::edition::Edition;
 use crate::names::{Name, NameTable};
-use crate::network::Network;
+use crate::network::{Network, read_number};
 use crate::planted::{Error, planted};
 use crate::report::{push_name, push_number};
 use crate::tree::RootedTree;
 use crate::trim::{self, Balanced};
-use crate::{PLACES, Refusal, SITES, Site};
+use crate::{CAPACITY, PLACES, Refusal, SITES, Site};
 
 /// What becomes of two regions.
 #[derive(Clone, Copy, Debug, PartialEq, Eq)]
@@ -81,6 +81,50 @@ pub fn regions_text(sheets: [&[u8]; 2]) -> Vec<u8> {
     }
 }
 
+/// What is written about one region in a step without its neighbour's sheet: in the first `first` and its first
+/// trimmed size of the link between the two names; in the second, which has the text of the neighbour's number,
+/// `region`, its sum, and a line for each of its links; or the line `refused`, number, line.
+///
+/// After the refusals of the first step that of the text comes, at line 0: 12 if it is no number that is well
+/// written, and 3 if that is too large.
+#[must_use]
+pub fn region_text(sheet: &[u8], names: [&[u8]; 2], neighbours: Option<&[u8]>) -> Vec<u8> {
+    let mut sizes = [0; SITES];
+    let first = first_step(sheet, names);
+    let told = first.and_then(|size| match neighbours {
+        None => Ok(format!("first\t{size}\n")),
+        Some(text) => {
+            let answer = second_step(sheet, names, number_told(text)?, &mut sizes)?;
+            Ok(format!("region\t{}\n", answer.sum))
+        }
+    });
+    match told {
+        Ok(told) => {
+            let mut text = told.into_bytes();
+            if neighbours.is_some() {
+                push_links(&mut text, sheet, &sizes);
+            }
+            text
+        }
+        Err(Refusal { number, line }) => format!("refused\t{number}\t{line}\n").into_bytes(),
+    }
+}
+
+/// The value of a text that is written like a size, and no larger than one.
+fn number_told(text: &[u8]) -> Result<u64, Refusal> {
+    let refused = |number| Refusal { number, line: 0 };
+    let line = [text, b"\n"].concat();
+    match read_number(&line, 0) {
+        Ok((number, b'\n', next)) if next == line.len() => {
+            if number > CAPACITY {
+                return Err(refused(3));
+            }
+            Ok(number.into())
+        }
+        _ => Err(refused(12)),
+    }
+}
+
 /// Writes the lines of the links of an accepted sheet with their trimmed sizes.
 fn push_links(text: &mut Vec<u8>, sheet: &[u8], sizes: &[u64]) {
     let mut network = Network::new(sheet);
@@ -116,7 +160,8 @@ pub fn first_step(sheet: &[u8], names: [&[u8]; 2]) -> Result<u64, Refusal> {
 ///
 /// # Errors
 ///
-/// As the first step, and then 9 at line 0 if the list is too short.
+/// As the first step; also 18 if the number passes the usable size of the link, as no first trimmed size of a
+/// neighbour does that has the link at the same; and then 9 at line 0 if the list is too short.
 pub fn second_step(
     sheet: &[u8],
     names: [&[u8]; 2],
@@ -125,6 +170,9 @@ pub fn second_step(
 ) -> Result<Answer, Refusal> {
     let region = Region::read(sheet)?;
     let shared = region.shared_alone(names).ok_or(NO_SHARED_LINK)?;
+    if neighbours > region.network.capacity(shared.link).into() {
+        return Err(NO_SHARED_LINK);
+    }
     if region.is_too_short(list.len()) {
         return Err(LIST_TOO_SHORT);
     }

@@ -2,8 +2,8 @@
 //! the plan of the joined sheet.
 
 use second::{
-    Answer, Exchanged, Outcome, REPORT_BYTES, Refusal, SITES, first_step, plan, regions,
-    regions_text, second_step,
+    Answer, Exchanged, Outcome, REPORT_BYTES, Refusal, SITES, first_step, plan, region_text,
+    regions, regions_text, second_step,
 };
 use sheets::joined::{self, Due, Joined, far_sites, joined};
 use sheets::neighbours::{Broken, Case, Kind, case, every_small_pair};
@@ -229,6 +229,34 @@ fn what_one_sheet_shows_to_be_wrong() {
         assert_eq!(second_step(sheet, names, 1, &mut []), Err(due));
     }
     assert_eq!(first_step(&sheet, [b"K", b"h"]), Ok(6));
+    // The usable size of the link is 10, and no neighbour with the same tells more.
+    let above = second_step(&sheet, [b"K", b"h"], 11, &mut []);
+    assert_eq!(above.map_err(|refusal| refusal.number), Err(18));
+    let mut list = [0; 3];
+    let answer = second_step(&sheet, [b"K", b"h"], 10, &mut list);
+    assert_eq!(answer.map(|answer| answer.sum), Ok(6));
+    for (text, due) in [
+        (
+            &b"2"[..],
+            &b"region\t6\nL\th\ta\t3\nL\th\tb\t3\nL\th\tk\t2\n"[..],
+        ),
+        (b"11", b"refused\t18\t0\n"),
+        (b"1000001", b"refused\t3\t0\n"),
+        (b"007", b"refused\t12\t0\n"),
+        (b"", b"refused\t12\t0\n"),
+        (b"1\n", b"refused\t12\t0\n"),
+    ] {
+        assert_eq!(
+            region_text(&sheet, [b"h", b"k"], Some(text)),
+            due,
+            "{text:?}"
+        );
+    }
+    assert_eq!(region_text(&sheet, [b"h", b"k"], None), b"first\t6\n");
+    assert_eq!(
+        region_text(&sheet, [b"h", b"z"], Some(b"x")),
+        b"refused\t18\t0\n"
+    );
 }
 
 /// The smallest region that tells a number of the shared link, which has a usable size: a path over its own site.

@@ -100,6 +100,45 @@ pub fn far_sites(networks: [&Network; 2]) -> Option<[usize; 2]> {
         .find(|&[here, there]| is_far(0, here) && is_far(1, there))
 }
 
+/// The link of a region between two names, if it can be shared: it has the names, a link joins these, and one has
+/// a single link and no mark. The far site comes with it.
+#[must_use]
+pub fn shared_alone(network: &Network, names: [&[u8]; 2]) -> Option<(usize, usize)> {
+    let [Some(one), Some(other)] = names.map(|name| site(network, name)) else {
+        return None;
+    };
+    let link = link_between(network, [one, other])?;
+    let is_far = |&site: &usize| degree(network, site) == 1 && !network.marks[site];
+    [one, other].into_iter().find(is_far).map(|far| (link, far))
+}
+
+/// What the first step of an accepted region tells: its first trimmed size of the link between two names; none
+/// where 18 is due.
+#[must_use]
+pub fn first_due(network: &Network, names: [&[u8]; 2]) -> Option<u64> {
+    let (link, _) = shared_alone(network, names)?;
+    Some(trimmed(network)[link])
+}
+
+/// What the second step gives, for the neighbour's number; none where 18 is due: also for a number above the usable
+/// size of the link, which no neighbour can tell that has the link at the same.
+#[must_use]
+pub fn answer_due(network: &Network, names: [&[u8]; 2], number: u64) -> Option<Answer> {
+    let (link, far) = shared_alone(network, names)?;
+    if number > network.usable_sizes()[link].into() {
+        return None;
+    }
+    let mut region = network.clone();
+    region.sizes[link] = trimmed(network)[link].min(number) as u32;
+    region.reserves[link] = None;
+    let sizes = trimmed(&region);
+    let own = (0..region.names.len()).filter(|&site| site != far);
+    Some(Answer {
+        sum: sum_at_ends(&region, &sizes, own),
+        sizes,
+    })
+}
+
 /// The joined tree, if the regions share one link.
 #[must_use]
 pub fn joined(networks: [&Network; 2]) -> Option<Joined> {
@@ -167,22 +206,24 @@ pub fn due(networks: [&Network; 2]) -> Due {
         return Due::Refused(0, 18, 0);
     };
     let trimmed = trimmed(&joined.network);
-    let around = joined.network.around();
-    let sum = |region: usize| {
-        let sites = 0..around.len();
-        let own = sites.filter(|&site| joined.regions[site] == region);
-        let ends = own.filter(|&site| around[site].len() == 1 || joined.network.marks[site]);
-        ends.flat_map(|end| &around[end])
-            .map(|&(link, _)| trimmed[link])
-            .sum()
-    };
     Due::Answered([0, 1].map(|region| {
+        let sites = 0..joined.regions.len();
+        let own = sites.filter(|&site| joined.regions[site] == region);
         Answer {
             sizes: joined.links[region]
                 .iter()
                 .map(|&link| trimmed[link])
                 .collect(),
-            sum: sum(region),
+            sum: sum_at_ends(&joined.network, &trimmed, own),
         }
     }))
+}
+
+/// The sum of sizes over the links of those sites that are ends, one with several counting each.
+fn sum_at_ends(network: &Network, sizes: &[u64], sites: impl Iterator<Item = usize>) -> u64 {
+    let around = network.around();
+    let ends = sites.filter(|&site| around[site].len() == 1 || network.marks[site]);
+    ends.flat_map(|end| &around[end])
+        .map(|&(link, _)| sizes[link])
+        .sum()
 }

@@ -81,6 +81,20 @@
 //! # Ok::<(), waderarmoire::ReplayRefusal>(())
 //! ```
 //!
+//! [`regions`] trims two neighbouring regions that share one link, each with a sheet of its own. Of the other's
+//! sheet a region needs to know one number alone, which [`region_first`] tells and [`region_answer`] takes:
+//!
+//! ```
+//! let hill = b"network\t1\nN\th\nN\ta\nN\tb\nN\tk\nL\th\ta\t3\nL\th\tb\t3\nL\th\tk\t10\n";
+//! let lake = b"network\t1\nN\tk\nN\tc\nN\td\nN\th\nL\th\tk\t10\nL\tk\tc\t1\nL\tk\td\t1\n";
+//! let mut lists = [[0; waderarmoire::LINKS]; 2];
+//! let lists = lists.each_mut().map(|list| &mut list[..]);
+//! let [one, other] = waderarmoire::regions([hill, lake], lists)?;
+//! assert_eq!((one.sizes, one.sum), (&[3, 3, 2][..], 6));
+//! assert_eq!((other.sizes, other.sum), (&[2, 1, 1][..], 2));
+//! # Ok::<(), waderarmoire::RegionsRefusal>(())
+//! ```
+//!
 //! The heading of a sheet tells its edition, and that its limits: under `network`, tab, `1` it may have 256
 //! sites and 16,384 bytes, under `network`, tab, `2` 384 sites and 24,576 bytes. Nothing else differs:
 //!
@@ -102,11 +116,10 @@
 //!
 //! # What a call does
 //!
-//! [`plan`], [`whole`], [`order`] and [`replay`] are safe for every sheet and every buffer or list, and every
-//! call ends. They allocate nothing, keep nothing between calls and have no global state: any number
-//! of threads may call them at once, each with a buffer or list of its own. The caller of this crate
-//! owes nothing more; what the library below asks, pointers that are not null and areas that do not
-//! overlap, slices have.
+//! All functions are safe for every sheet and every buffer or list, and every call ends. They allocate
+//! nothing, keep nothing between calls and have no global state: any number of threads may call them at
+//! once, each with a buffer or list of its own. The caller of this crate owes nothing more; what the
+//! library below asks, pointers that are not null and areas that do not overlap, slices have.
 //!
 //! A plan or an order needs at most 176 KiB of stack, whatever the shape of the tree, and a replay at most
 //! 128 KiB: nothing recurses (measured on the largest trees, with what a new thread itself needs). A
@@ -119,8 +132,10 @@
 //! `WADERARMOIRE_LIB_DIR`, or else in `target/staticlib` at the root of the repository, where
 //! `rt staticlib waderarmoire` puts it.
 
+mod regions;
 mod replay;
 
+pub use regions::{LINKS, Region, RegionsRefusal, region_answer, region_first, regions};
 pub use replay::{LOG_BYTES, LOG_LINES, ReplayRefusal, replay};
 use std::error::Error;
 use std::fmt;
@@ -177,12 +192,15 @@ pub struct Refusal {
     /// - 6: link to a name not given on a line above
     /// - 7: link whose sites are already joined by links above, or are one site
     /// - 8: fewer than two sites, or not all sites are joined
-    /// - 9: report longer than the buffer; of [`order`], more sites than places in the list
+    /// - 9: report longer than the buffer; of [`order`], more sites than places in the list; of
+    ///   [`region_answer`], more links than places
     /// - 10: wrong number of fields
     /// - 11: a name is not 1 to 12 letters or digits
     /// - 12: a number is not written in decimal without a leading zero
     /// - 13: reserve above the size
     /// - 17: name of digits only
+    /// - 18: of [`region_first`] and [`region_answer`], the two names are not those of a link that can be shared, or
+    ///   the number passes its usable size
     ///
     /// A sheet whose line 1 is no heading is measured by edition 1. Names are read in either case for 5, 6 and
     /// 7. The lowest line with a fault decides; within a line the order is 2, 10, 11, 17, then 4, 5 for a site
@@ -211,6 +229,7 @@ impl Refusal {
             12 => "a number is not written in decimal without a leading zero",
             13 => "reserve above the size",
             17 => "name of digits only",
+            18 => "the two sheets do not share one link",
             _ => "a cause without words",
         }
     }

@@ -2,7 +2,9 @@
 
 use sheets::logs::long_log;
 use sheets::{Layout, Names, Network, Random, SITES, Shape, Sizes};
-use waderarmoire::{LOG_LINES, REPORT_BYTES, order, plan, replay, whole};
+use waderarmoire::{
+    LINKS, LOG_LINES, REPORT_BYTES, order, plan, region_first, regions, replay, whole,
+};
 
 /// The resident pages of this process.
 fn resident_pages() -> usize {
@@ -21,12 +23,17 @@ fn nothing_is_kept() {
     let mut buffer = vec![0; REPORT_BYTES];
     let mut list = vec![0; SITES];
     let mut answers = vec![0; LOG_LINES];
+    let mut lists = [[0; LINKS]; 2];
+    let [one, other] = sheets::regions::TRIED[0].sheets();
     let mut run = |times| {
         for _ in 0..times {
             assert!(plan(&sheet, &mut buffer).is_ok());
             assert!(whole(&sheet, &mut buffer).is_ok());
             assert!(order(&sheet, &mut list).is_ok());
             assert!(replay(&case.sheet, &case.log, &mut answers).is_ok());
+            let [sizes, sizes2] = &mut lists;
+            assert!(regions([&one, &other], [sizes, sizes2]).is_ok());
+            assert_eq!(region_first(&one, [b"h", b"k"]), Ok(6));
         }
         resident_pages()
     };

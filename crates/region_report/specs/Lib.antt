@@ -1,0 +1,5 @@
+pub mod Lines
+pub mod TwoRegions
+pub mod OneRegion
+pub mod OneRegionLaws
+pub mod Laws

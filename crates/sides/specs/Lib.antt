@@ -1,0 +1,8 @@
+pub mod Outcome
+pub mod LinkLaws
+pub mod Causes
+pub mod SideLaws
+pub mod Told
+pub mod Agree
+pub mod OverNetwork
+pub mod Small
