@@ -1,8 +1,8 @@
--- What reading a sheet answers, in both directions: a number at a line just for its cause, 0 just without one. Numbers are 1 to 8, 10 to 13 or 17, and a
--- line at fault is one of the sheet. Document 01, "The network sheet" (the table's columns "No." and "Returned"); 02, Cards 1, 5 and 9. By the causes,
+-- What reading a sheet answers, in both directions: a number at a line just for its cause, 0 just without one. Numbers are 1 to 8, 10 to 13, 17 or 19, and a
+-- line at fault is one of the sheet. Document 01, "The network sheet" (the table's columns "No." and "Returned"); 02, Cards 1, 5, 9 and 11. By the causes,
 -- one by one.
 use mathlib.Core.List.{List}
-use mathlib.Core.Logic.{_↔_, _≢_}
+use mathlib.Core.Logic.{_⊎_, inl, inr, _↔_, _≢_}
 use mathlib.Core.Path.{_≡_, refl}
 use Prim.Native.Nat.{ℕ, suc, _≤_, _<_}
 use native.Mathlib.Omega.{arith}
@@ -14,7 +14,7 @@ use Rattle.text_lines.specs.LineLaws.{after-line-is-later}
 use Rattle.sheet.specs.Sheet.{Network, empty, Read, refused, accepted, readAs}
 use Rattle.sheet.specs.Reading.{lists, reading}
 use Rattle.sheet.specs.Causes.{Cause, unended, no-heading, no-letter, wrong-count, bad-name, bare-name, bad-number}
-use Rattle.sheet.specs.Causes.{too-large, too-much-held, too-many, given, not-given, already-joined}
+use Rattle.sheet.specs.Causes.{too-large, too-much-held, low-above-high, too-many, given, not-given, already-joined}
 use Rattle.sheet.specs.Causes.{Reached, start, next, Refusal, by-length, by-line, by-whole}
 use Rattle.sheet.specs.SheetTheorem.{a-sheet-is-refused-for-its-cause}
 use Rattle.sheet.specs.declared.Answer.{Answer}
@@ -35,12 +35,13 @@ line (Refused n k) = k
 abbrev pub Tells : Read → ℕ → ℕ → Type 0
 Tells r n k = (number (reading r .answer) ≡ n) × (line (reading r .answer) ≡ k)
 
--- a number with which a sheet is refused: 1 to 8, 10 to 13, or 17; never 0, which is success, nor 9, which is the buffer's, nor 14 to 16, which are a log's
+-- a number with which a sheet is refused: 1 to 8, 10 to 13, 17, or 19; never 0, which is success, nor 9, which is the buffer's, nor 14 to 16, which are a
+-- log's, nor 18, which is of two sheets
 pub record SheetNumber (n : ℕ) : Type 0 where
   pub some : 1 ≤ n
-  pub known : n ≤ 17
+  pub known : n ≤ 19
   pub not-nine : n ≢ 9
-  pub not-of-a-log : 13 < n → n ≡ 17
+  pub not-of-a-log : 13 < n → (n ≡ 17) ⊎ (n ≡ 19)
 
 -- ---- how large they are
 
@@ -60,10 +61,12 @@ module _ (ed : Edition) (s : List ℕ) where
   cause-has-a-sheet-number (no-letter h d is) = up-to-13 (omega arith) (omega arith) (λ e. omega arith)
   cause-has-a-sheet-number (wrong-count h d is) = up-to-13 (omega arith) (omega arith) (λ e. omega arith)
   cause-has-a-sheet-number (bad-name h d is) = up-to-13 (omega arith) (omega arith) (λ e. omega arith)
-  cause-has-a-sheet-number (bare-name h d is) = record { some = omega arith; known = omega arith; not-nine = λ e. omega arith; not-of-a-log = λ l. refl }
+  cause-has-a-sheet-number (bare-name h d is) = record { some = omega arith; known = omega arith; not-nine = λ e. omega arith; not-of-a-log = λ l. inl refl }
   cause-has-a-sheet-number (bad-number h d is) = up-to-13 (omega arith) (omega arith) (λ e. omega arith)
   cause-has-a-sheet-number (too-large h d is) = up-to-13 (omega arith) (omega arith) (λ e. omega arith)
   cause-has-a-sheet-number (too-much-held h d is) = up-to-13 (omega arith) (omega arith) (λ e. omega arith)
+  cause-has-a-sheet-number (low-above-high h d is) =
+      record { some = omega arith; known = omega arith; not-nine = λ e. omega arith; not-of-a-log = λ l. inr refl }
   cause-has-a-sheet-number (too-many h d is l) = up-to-13 (omega arith) (omega arith) (λ e. omega arith)
   cause-has-a-sheet-number (given h d is l v f) = up-to-13 (omega arith) (omega arith) (λ e. omega arith)
   cause-has-a-sheet-number (not-given h d is o) = up-to-13 (omega arith) (omega arith) (λ e. omega arith)
