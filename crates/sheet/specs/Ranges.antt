@@ -90,20 +90,28 @@ module _ (s : List ℕ) (a b : Network) (r : Ranged a b) (k at : ℕ) where
 
   added-alike : (v w : Step) → StepAlike v w → ReadAlike (added a v) (added b w)
   added-alike Nothing w h = rw h (b, refl, r)
-  added-alike (Site x e m) w h = rw h (withSite b (x, e) m, refl, record {
-    names = ap (λ l. l ++ ((x, e) ∷ [])) (r .names);
-    marks = ap (λ l. l ++ (m ∷ [])) (r .marks);
-    links = r .links;
-    each = r .each;
-    below = r .below;
-  })
-  added-alike (Link x y c) w h = rw (h .1) (withLink b (x, y) (h .0), refl, record {
-    names = r .names;
-    marks = r .marks;
-    links = ap (λ l. l ++ ((x, y) ∷ [])) (r .links);
-    each = omega (arith, r .each, length-append (a .capacities) (c ∷ []), length-append (b .capacities) (h .0 ∷ []));
-    below = appended-below (a .capacities) (b .capacities) c (h .0) (r .each) (r .below) (h .2);
-  })
+  added-alike (Site x e m) w h = rw h (
+    withSite b (x, e) m,
+    refl,
+    record {
+      names = ap (λ l. l ++ ((x, e) ∷ [])) (r .names);
+      marks = ap (λ l. l ++ (m ∷ [])) (r .marks);
+      links = r .links;
+      each = r .each;
+      below = r .below;
+    },
+  )
+  added-alike (Link x y c) w h = rw (h .1) (
+    withLink b (x, y) (h .0),
+    refl,
+    record {
+      names = r .names;
+      marks = r .marks;
+      links = ap (λ l. l ++ ((x, y) ∷ [])) (r .links);
+      each = omega (arith, r .each, length-append (a .capacities) (c ∷ []), length-append (b .capacities) (h .0 ∷ []));
+      below = appended-below (a .capacities) (b .capacities) c (h .0) (r .each) (r .below) (h .2);
+    },
+  )
   added-alike (Refused n l) w h = rw h refl
 
 -- ---- the sheet
@@ -117,7 +125,7 @@ lines-alike : (s : List ℕ) (fuel k at : ℕ) (a b : Network) → Ranged a b �
 unfolding readLines readLine
 lines-alike s zero k at a b r = (b, refl, r)
 lines-alike s (suc fuel) k at a b r = by (hasLine s at) _ _
-    (then-alike _ _ (lines-alike s fuel (suc k) (afterLine s at)) _ _ 
+    (then-alike _ _ (lines-alike s fuel (suc k) (afterLine s at)) _ _
     (added-alike s a b r k at (stepOf rangesLow s a k at) (stepOf rangesHigh s b k at) (step-alike s a b r k at)))
   where
     by : (t : Bool) (v w : Read) → ReadAlike v w → ReadAlike (cond t v (accepted a)) (cond t w (accepted b))
@@ -126,7 +134,7 @@ lines-alike s (suc fuel) k at a b r = by (hasLine s at) _ _
 
 finish-alike : (a b : Network) → Ranged a b → ReadAlike (finish a) (finish b)
 unfolding finish
-finish-alike a b r = by (leb 2 (length (a .names)) && allJoined (a .links) (sites (length (a .names)))) _ 
+finish-alike a b r = by (leb 2 (length (a .names)) && allJoined (a .links) (sites (length (a .names)))) _
     (ap (λ ns. leb 2 (length ns) && allJoined (b .links) (sites (length ns))) (r .names)
     ∙ ap (λ ls. leb 2 (length (a .names)) && allJoined ls (sites (length (a .names)))) (r .links))
   where
