@@ -1,3 +1,4 @@
 pub mod Report
 pub mod Shown
 pub mod Length
+pub mod Span
