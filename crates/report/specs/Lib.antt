@@ -2,3 +2,4 @@ pub mod Report
 pub mod Shown
 pub mod Length
 pub mod Span
+pub mod SpanShown

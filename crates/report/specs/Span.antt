@@ -57,13 +57,15 @@ unfoldable pub rangeRecord : (ℕ → List ℕ) → ℕ → ℕ → ℕ → ℕ 
 rangeRecord name a b low high least greatest =
     line (bytes "L" ∷ name a ∷ name b ∷ decimal low ∷ decimal high ∷ decimal least ∷ decimal greatest ∷ [])
 
-unfoldable pub rangeLine : Span → ℕ → List ℕ
-rangeLine p j =
-    rangeRecord (p .names) (look (p .ones) j) (look (p .twos) j) (look (p .lows) j) (look (p .highs) j) (look (p .leasts) j) (look (p .greatests) j)
+unfoldable pub rangeLine : (ℕ → List ℕ) → List ℕ → List ℕ → List ℕ → List ℕ → List ℕ → List ℕ → ℕ → List ℕ
+rangeLine name ones twos lows highs leasts greatests j =
+    rangeRecord name (look ones j) (look twos j) (look lows j) (look highs j) (look leasts j) (look greatests j)
 
 -- the report headed `span`
 unfoldable pub spanText : Span → List ℕ
-spanText p = spanRecord (p .least) (p .greatest) ++ lines (rangeLine p) (upfrom 0 (length (p .ones)))
+spanText p =
+    spanRecord (p .least) (p .greatest)
+    ++ lines (rangeLine (p .names) (p .ones) (p .twos) (p .lows) (p .highs) (p .leasts) (p .greatests)) (upfrom 0 (length (p .ones)))
 
 -- the report of two networks whose names stand in the sheet s
 unfoldable pub spanReport : List ℕ → Network → Network → List ℕ
