@@ -448,7 +448,19 @@ pub fn write_span(
 {
     let word = put_bytes(buf, 0, b"span", 9);
     let head = put_numbers(buf, word, lower, upper);
-    range_lines(sheet, start, end, one, two, low, high, least, greatest, buf, head)
+    range_lines(
+        sheet,
+        start,
+        end,
+        one,
+        two,
+        low,
+        high,
+        least,
+        greatest,
+        buf,
+        head,
+    )
 }
 
 // The line of a refusal, from the start of the buffer, and its length.
