@@ -50,7 +50,8 @@ cause n =
     (pick n 12 (bytes "a number is not written in decimal without a leading zero")
     (pick n 13 (bytes "reserve above the size")
     (pick n 17 (bytes "name of digits only")
-    (bytes "a cause without words"))))))))))))))
+    (pick n 19 (bytes "low size above the high size")
+    (bytes "a cause without words")))))))))))))))
 
 -- the whole line
 unfoldable pub words : ℕ → ℕ → List ℕ

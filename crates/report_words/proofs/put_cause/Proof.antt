@@ -110,13 +110,20 @@ slice-aggregate-put-bytes-14 : tie.Need-slice-aggregate-put-bytes-14
 slice-aggregate-put-bytes-14 c = search needs
 
 put-bytes-requires-14 : tie.Need-put-bytes-requires-14
-put-bytes-requires-14 c κs =
+unfolding cause pick ℕ-discrete
+put-bytes-requires-14 c κs = rw (c .before .before .match .keys15) at (c .before .before .before .before .pre)
+
+slice-aggregate-put-bytes-15 : tie.Need-slice-aggregate-put-bytes-15
+slice-aggregate-put-bytes-15 c = search needs
+
+put-bytes-requires-15 : tie.Need-put-bytes-requires-15
+put-bytes-requires-15 c κs =
     let s = c .before .before .before .before in
     let rest = c .before .before .match .rest in
-    let late = rest .0 in
+    let late = rest .0 .0 in
     let early = late .0 .0 .0 .0 .0 .0 .0 in
     let none = no-cause (s .args .number) (early .0 .0 .0 .0 .0 .1) (early .0 .0 .0 .0 .1) (early .0 .0 .0 .1) (early .0 .0 .1) (early .0 .1) (early .1)
-    (late .0 .0 .0 .0 .0 .0 .1) (late .0 .0 .0 .0 .0 .1) (late .0 .0 .0 .0 .1) (late .0 .0 .0 .1) (late .0 .0 .1) (late .0 .1) (late .1) (rest .1) in
+    (late .0 .0 .0 .0 .0 .0 .1) (late .0 .0 .0 .0 .0 .1) (late .0 .0 .0 .0 .1) (late .0 .0 .0 .1) (late .0 .0 .1) (late .0 .1) (late .1) (rest .0 .1) (rest .1) in
     rw none at (s .pre)
 
 same-length : tie.Need-same-length
@@ -221,15 +228,22 @@ same-length-15 : tie.Need-same-length-15
 same-length-15 c = search needs
 
 returns-15 : tie.Need-returns-15
-returns-15 c =
+unfolding cause pick ℕ-discrete
+returns-15 c = rw (c .before .before .before .before .before .match .keys15) (c .before .before .put-bytes14 .ensures)
+
+same-length-16 : tie.Need-same-length-16
+same-length-16 c = search needs
+
+returns-16 : tie.Need-returns-16
+returns-16 c =
     let at-match = c .before .before .before .before .before in
     let n = at-match .before .before .args .number in
     let rest = at-match .match .rest in
-    let late = rest .0 in
+    let late = rest .0 .0 in
     let early = late .0 .0 .0 .0 .0 .0 .0 in
     let none = no-cause n (early .0 .0 .0 .0 .0 .1) (early .0 .0 .0 .0 .1) (early .0 .0 .0 .1) (early .0 .0 .1) (early .0 .1) (early .1)
-    (late .0 .0 .0 .0 .0 .0 .1) (late .0 .0 .0 .0 .0 .1) (late .0 .0 .0 .0 .1) (late .0 .0 .0 .1) (late .0 .0 .1) (late .0 .1) (late .1) (rest .1) in
-    rw none (c .before .before .put-bytes14 .ensures)
+    (late .0 .0 .0 .0 .0 .0 .1) (late .0 .0 .0 .0 .0 .1) (late .0 .0 .0 .0 .1) (late .0 .0 .0 .1) (late .0 .0 .1) (late .0 .1) (late .1) (rest .0 .1) (rest .1) in
+    rw none (c .before .before .put-bytes15 .ensures)
 
 pub put-cause-spec : {M : Type 1} → statement M
 put-cause-spec =
@@ -265,6 +279,8 @@ put-cause-spec =
     put-bytes-requires-13
     slice-aggregate-put-bytes-14
     put-bytes-requires-14
+    slice-aggregate-put-bytes-15
+    put-bytes-requires-15
     same-length
     returns
     same-length-2
@@ -294,4 +310,6 @@ put-cause-spec =
     same-length-14
     returns-14
     same-length-15
-    returns-15)
+    returns-15
+    same-length-16
+    returns-16)
