@@ -3,8 +3,8 @@
  *
  * One call reads a network sheet and writes the report of its plan, in halves of a circuit or in
  * whole circuits, or lists its sites in the order of work, or replays a booking log over it, or
- * tells why the sheet or the log is refused. Link with libwaderarmoire.a, which is built for x86-64
- * Linux.
+ * tells the span of a range sheet, or tells why the sheet or the log is refused. Link with
+ * libwaderarmoire.a, which is built for x86-64 Linux.
  *
  * The library allocates nothing, keeps nothing between calls, has no global state and calls
  * nothing but memcpy and memset: any number of threads may call it at once, each with a buffer
@@ -111,6 +111,16 @@ uint64_t waderarmoire_replay(const uint8_t *sheet, size_t sheet_len, const uint8
                              size_t log_len, uint64_t *answers, size_t answers_len);
 
 /*
+ * Reads a range sheet, headed "ranges", tab, "1", whose link lines have a low and a high size and
+ * no reserve, and writes the report headed "span" into a buffer of report_len bytes: the least and
+ * the greatest total in halves; then for each link its names, low, high, least and greatest trimmed
+ * size. It goes by edition 2's limits under any heading. The caller owes the same as for a plan, and
+ * the answer is of the same form.
+ */
+uint64_t waderarmoire_ranges(const uint8_t *sheet, size_t sheet_len, uint8_t *report,
+                             size_t report_len);
+
+/*
  * The number of the refusal, or 0 for success:
  *   1  no bytes, or more than 16,384 (edition 2: 24,576)
  *   2  wrong heading, letter or line ending
@@ -126,9 +136,10 @@ uint64_t waderarmoire_replay(const uint8_t *sheet, size_t sheet_len, const uint8
  *  12  a number is not written in decimal without a leading zero
  *  13  reserve above the size
  *  17  name of digits only
+ *  19  of a range sheet: low size above the high size
  * A sheet whose line 1 is no heading is measured by edition 1. The lowest line with a fault
- * decides; within a line the order is 2, 10, 11, 17, then 4, 5 for a site and 12, 3, 13, 6, 7 for
- * a link.
+ * decides; within a line the order is 2, 10, 11, 17, then 4, 5 for a site and 12, 3, 13 (of a range
+ * sheet 19), 6, 7 for a link.
  */
 static inline unsigned waderarmoire_number(uint64_t answer)
 {

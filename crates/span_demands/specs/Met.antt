@@ -1,6 +1,6 @@
 -- The report of a range sheet keeps what Card 11 asks, for every sheet and every buffer. By monotonicity (theory_ranges), since the bytes read back say the
 -- trimmed sizes and the largest totals of the low and of the high sizes.
-use mathlib.Core.Path.{_≡_, refl, sym, ap, subst, _∙_}
+use mathlib.Core.Path.{_≡_, refl, sym, ap, _∙_}
 use mathlib.Core.Bool.{Bool, true, false, cond}
 use mathlib.Core.List.{List, _++_}
 use Prim.Native.Nat.{ℕ, _≤_, _<_}
@@ -24,6 +24,7 @@ use Rattle.report.specs.Report.{report}
 use Rattle.report.specs.Span.{trimmedSizes, largestTotal, spanReport}
 use Rattle.planner.specs.Outcome.{Planned, lengthOf, deliver}
 use Rattle.planner.specs.declared.Outcome.the-variants.{Report, Refused}
+use Rattle.spans.specs.Ready.{the-two-networks}
 use Rattle.spans.specs.Outcome.{networkOf, spanRead, spanned}
 use Rattle.demands.specs.Printed.{isEnd, readReport, bytesTold}
 use Rattle.demands.specs.ReadBack.{figuresSay, planSays, report-read-back}
@@ -34,13 +35,7 @@ use Rattle.span_demands.specs.ReadBack.{spanSays, the-span-is-read-back}
 module _ (s : List ℕ) (low high : Network) (read-low : readAs rangesLow s ≡ accepted low) (read-high : readAs rangesHigh s ≡ accepted high) where
   -- the two networks of a range sheet
   ranged : Ranged low high
-  ranged =
-      let h = rw (read-low, read-high) at (a-range-sheet-is-read-alike s) in
-      let e : h .0 ≡ high = sym (same-network high (h .0) (h .1)) in
-      subst (Ranged low) e (h .2)
-    where
-      same-network : (a b : Network) → accepted a ≡ accepted b → a ≡ b
-      same-network a b e = cc
+  ranged = the-two-networks s low high read-low read-high
 
   lower : IsNetwork rangesLow s low
   lower = an-accepted-sheet-is-a-tree rangesLow s low read-low

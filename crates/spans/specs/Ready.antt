@@ -1,6 +1,6 @@
 -- What stands ready on the way to the report of a range sheet: the networks of an accepted sheet with its low and with its high sizes, as lists and taken
 -- apart; what is worked out of them is the span, and can be written.
-use mathlib.Core.Path.{_≡_, refl, sym, ap, _∙_}
+use mathlib.Core.Path.{_≡_, refl, sym, ap, subst, _∙_}
 use mathlib.Core.List.{List, [], map}
 use Prim.Native.Nat.{ℕ, suc, _*_, _≤_, _<_}
 use native.Mathlib.Omega.{arith}
@@ -185,6 +185,52 @@ the-sum-over-all-ends-is-the-largest-total n one two marks c w =
     all-ends n one two marks (capacities n one two marks c)
     ∙ sym (the-largest-total-is-the-sum-at-the-terminals (w .within .tree) (look (ends (links one two) n marks)) c)
 
+-- the two networks of a range sheet have the same sites and links
+pub the-two-networks : (s : List ℕ) (low high : Network) → readAs rangesLow s ≡ accepted low → readAs rangesHigh s ≡ accepted high → Ranged low high
+the-two-networks s low high p q =
+    let h = rw (p, q) at (a-range-sheet-is-read-alike s) in
+    subst (Ranged low) (sym (same-network high (h .0) (h .1))) (h .2)
+  where
+    same-network : (a b : Network) → accepted a ≡ accepted b → a ≡ b
+    same-network a b e = cc
+
+-- ---- the span is small
+
+module _ {s : List ℕ} {net : Network} (N : IsNetwork largest s net) where
+  trimmed-within : (j : ℕ) → j < length (net .links) → look (trimmedSizes net) j ≤ SIZE
+  unfolding trimmedSizes
+  trimmed-within j l =
+      omega (arith, balanced-is-greatest (N .tree) (look (endsOf net)) (net .capacities) .below j l, N .sizes j (omega (arith, N .capacities)))
+
+  total-within : largestTotal net ≤ 2 * (LINKS * SIZE)
+  unfolding largestTotal trimmedSizes
+  total-within = total-shown-within N (halves net) (halves-can-be-shown net (N .tree))
+
+module _ (s : List ℕ) (low high : Network) (L : IsNetwork largest s low) (H : IsNetwork largest s high) (same : high .links ≡ low .links) where
+  span-is-small : SmallSpan (spanOf s low high)
+  unfolding spanOf
+  span-is-small =
+      let all = length-map (low .links) (λ l. l .0) in
+      let as-many = ap length same in
+      record {
+        name = name-or-nothing L (λ f. length f ≤ 12) (λ f e. name-length f e .1) (omega arith);
+        links-few = omega (arith, all, few-links L);
+        low = λ j l. L .sizes j (omega (arith, all, L .capacities));
+        high = λ j l. H .sizes j (omega (arith, all, as-many, H .capacities));
+        trimmed-low = λ j l. trimmed-within L j (omega (arith, all));
+        trimmed-high = λ j l. trimmed-within H j (omega (arith, all, as-many));
+        least-small = total-within L;
+        greatest-small = total-within H;
+      }
+
+-- the report of every accepted range sheet fits REPORT bytes
+pub a-span-report-is-small : (s : List ℕ) (low high : Network) → readAs rangesLow s ≡ accepted low → readAs rangesHigh s ≡ accepted high
+    → length (spanReport s low high) ≤ REPORT
+unfolding spanReport
+a-span-report-is-small s low high p q =
+    a-small-span-has-a-small-report (spanOf s low high) (span-is-small s low high (within-the-largest rangesLow s low (omega arith) (omega arith) p)
+    (within-the-largest rangesHigh s high (omega arith) (omega arith) q) (the-two-networks s low high p q .links))
+
 -- ---- what is written
 
 module _ {s starting stopping : List ℕ} {n : ℕ} {one-sites two-sites marks low high : List ℕ}
@@ -243,32 +289,6 @@ module _ {s starting stopping : List ℕ} {n : ℕ} {one-sites two-sites marks l
   unfolding totalBy largestTotal
   high-total = rw (high-trimmed, the-links, a .counted, a .marked, a .ranged .links, a .ranged .names, a .ranged .marks)
 
-  -- the span is small
-  trimmed-within : (net : Network) → IsNetwork largest s net → (j : ℕ) → j < length (net .links) → look (trimmedSizes net) j ≤ SIZE
-  unfolding trimmedSizes
-  trimmed-within net N j l =
-      omega (arith, balanced-is-greatest (N .tree) (look (endsOf net)) (net .capacities) .below j l, N .sizes j (omega (arith, N .capacities)))
-
-  total-within : (net : Network) → IsNetwork largest s net → largestTotal net ≤ 2 * (LINKS * SIZE)
-  unfolding largestTotal trimmedSizes
-  total-within net N = total-shown-within N (halves net) (halves-can-be-shown net (N .tree))
-
-  span-is-small : SmallSpan (spanOf s (a .lower) (a .upper))
-  unfolding spanOf
-  span-is-small =
-      let all = length-map (a .lower .links) (λ l. l .0) in
-      let same = ap length (a .ranged .links) in
-      record {
-        name = name-or-nothing lower-network (λ f. length f ≤ 12) (λ f e. name-length f e .1) (omega arith);
-        links-few = omega (arith, all, few-links lower-network);
-        low = λ j l. lower-network .sizes j (omega (arith, all, lower-network .capacities));
-        high = λ j l. upper-network .sizes j (omega (arith, all, same, upper-network .capacities));
-        trimmed-low = λ j l. trimmed-within (a .lower) lower-network j (omega (arith, all));
-        trimmed-high = λ j l. trimmed-within (a .upper) upper-network j (omega (arith, all, same));
-        least-small = total-within (a .lower) lower-network;
-        greatest-small = total-within (a .upper) upper-network;
-      }
-
   module _ (leasts greatests : List ℕ) (least greatest : ℕ)
       (e : leasts ≡ capacities n one-sites two-sites marks low) (f : greatests ≡ capacities n one-sites two-sites marks high)
       (g : least ≡ totalBy n one-sites two-sites marks low) (h : greatest ≡ totalBy n one-sites two-sites marks high) where
@@ -301,7 +321,7 @@ module _ {s starting stopping : List ℕ} {n : ℕ} {one-sites two-sites marks l
         }
 
     pub they-are-within-a-report : length (spanText (spanBy s starting stopping one-sites two-sites low high leasts greatests least greatest)) ≤ REPORT
-    they-are-within-a-report = rw the-lists-show-the-span (a-small-span-has-a-small-report (spanOf s (a .lower) (a .upper)) span-is-small)
+    they-are-within-a-report = rw the-lists-show-the-span (unfold spanReport in a-span-report-is-small s (a .lower) (a .upper) (a .read-low) (a .read-high))
 
     -- what is delivered is the outcome
     pub the-span-is-delivered : (b : List ℕ)

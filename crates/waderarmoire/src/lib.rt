@@ -5,6 +5,7 @@ ghost use Rattle.model.specs.Edition.{editions};
 ghost use Rattle.planner.specs.Outcome.{planned, plannedWhole};
 ghost use Rattle.orders.specs.Outcome.{orderOf};
 ghost use Rattle.logs.specs.Outcome.{replayed};
+ghost use Rattle.spans.specs.Outcome.{spanned};
 ghost use Rattle.waderarmoire.specs.Packed.{packed, asOutcome, packedReplay};
 
 // An outcome as one number: the refusal's number times 2^40, its line times 2^20, and the report's length.
@@ -74,4 +75,13 @@ pub extern "C" fn waderarmoire_replay(sheet: &[u8], log: &[u8], answers: &mut [u
     ensures left { λ r. ⌜ now (answers .exit) ≡ replayed editions (now (sheet .entry)) (now (log .entry)) (now (answers .entry)) .list ⌝ }
 {
     pack_replay(logs::replay(sheet, log, answers))
+}
+
+// Writes the span of a range sheet into the caller's buffer, as spans::span does, and tells the outcome as one number.
+#[no_mangle]
+pub extern "C" fn waderarmoire_ranges(sheet: &[u8], report: &mut [u8]) -> u64
+    ensures told { λ r. ⌜ r ≡ packed (spanned (now (sheet .entry)) (now (report .entry)) .outcome) ⌝ }
+    ensures left { λ r. ⌜ now (report .exit) ≡ spanned (now (sheet .entry)) (now (report .entry)) .buffer ⌝ }
+{
+    pack(spans::span(sheet, report))
 }
