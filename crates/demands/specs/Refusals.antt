@@ -1,4 +1,5 @@
--- The numbers of a sheet's refusals are those of the table, 1 to 8, 10 to 13 and 17, with 19 for 13 on a range sheet (`SheetNumber`): never 0, which is success, nor 9, which is the
+-- The numbers of a sheet's refusals are those of the table, 1 to 8, 10 to 13 and 17, with 19 for 13 on a range sheet (`SheetNumber`): never 0, which is
+-- success, nor 9, which is the
 -- buffer's; and the line is within the limit of bytes. Since each comes for a cause of the table, on a line of the sheet.
 use mathlib.Core.Path.{_≡_}
 use mathlib.Core.List.{List}

@@ -17,7 +17,8 @@ use Rattle.sheet_kinds.specs.declared.Line.{Line}
 use Rattle.sheet_kinds.specs.declared.Line.the-variants as line
 use Rattle.sheet_names.specs.declared.Found.{Found}
 use Rattle.sheet_names.specs.declared.Found.the-variants.{At, Absent}
-use Rattle.sheet.specs.Sheet.{Network, empty, withSite, withLink, Read, refused, accepted, part, lookup, siteBy, siteStep, linkStep, headingStep, recordStep}
+use Rattle.sheet.specs.Sheet.{Network, empty, withSite, withLink, Read, refused, accepted}
+use Rattle.sheet.specs.Sheet.{part, lookup, siteBy, siteStep, linkStep, headingStep, recordStep}
 use Rattle.sheet.specs.Sheet.{stepOf, added, readLine, andThen, readLines, allJoined, finish, readAs}
 use Rattle.sheet.specs.declared.stepping.Step.{Step}
 use Rattle.sheet.specs.declared.stepping.Step.the-variants.{Nothing, Site, Link, Refused}
@@ -75,7 +76,8 @@ module _ (s : List ℕ) (a b : Network) (r : Ranged a b) (k at : ℕ) where
 
   record-alike : (v w : Line) → LineAlike v w → StepAlike (recordStep rangesLow s a k at v) (recordStep rangesHigh s b k at w)
   unfolding recordStep siteStep
-  record-alike (line.Site x e m) w h = rw (h, r .names) (same-step (siteStep rangesLow k (length (a .names)) (at + x, at + e) m (lookup s (a .names) (part s (at + x, at + e)))))
+  record-alike (line.Site x e m) w h = rw (h, r .names) (same-step (siteStep rangesLow k (length (a .names)) (at + x, at + e) m (lookup s (a .names)
+      (part s (at + x, at + e)))))
   record-alike (line.Link x e y f c) w h = rw (h .1, r .names, r .links) (link-alike c (h .0) (h .2) _ _)
   record-alike (line.Fault n) w h = rw h refl
 
@@ -116,7 +118,8 @@ module _ (s : List ℕ) (a b : Network) (r : Ranged a b) (k at : ℕ) where
 
 -- ---- the sheet
 
-then-alike : (f g : Network → Read) → ((a b : Network) → Ranged a b → ReadAlike (f a) (g b)) → (v w : Read) → ReadAlike v w → ReadAlike (andThen v f) (andThen w g)
+then-alike : (f g : Network → Read) → ((a b : Network) → Ranged a b → ReadAlike (f a) (g b)) → (v w : Read) → ReadAlike v w
+    → ReadAlike (andThen v f) (andThen w g)
 unfolding andThen
 then-alike f g alike (refused n k) w h = rw h refl
 then-alike f g alike (accepted a) w h = rw (h .1) (alike a (h .0) (h .2))

@@ -23,7 +23,8 @@ use Rattle.sheet.specs.Marks.{WithoutMarks, another-letter}
 abbrev pub WithoutReserves : List ℕ → Type 0
 WithoutReserves s = (above : ℕ) → let fs = fieldsAt s (offset s above) in field fs 0 ≡ bytes "L" → length fs ≢ 5
 
-module _ (ed : Edition) (network : ed .sizing ≡ Reserved) (s : List ℕ) (none : WithoutReserves s) (unmarked : WithoutMarks s) (lettered : WithoutBareNames s) where
+module _ (ed : Edition) (network : ed .sizing ≡ Reserved) (s : List ℕ) (none : WithoutReserves s) (unmarked : WithoutMarks s)
+    (lettered : WithoutBareNames s) where
   step-alike : (k at : ℕ) (net : Network) → Reached ed s k at net → stepBy kindUnreserved lookup ed s net k at ≡ stepOf ed s net k at
   unfolding stepBy
   step-alike k at net r =

@@ -87,8 +87,20 @@ module _ (ed : Edition) (s : List ℕ) (alike : SpeltAlike s) where
     link-names : IsLink (ed .sizing) (fieldsAt s at) → LinkName s (part s (firstName s at)) × LinkName s (part s (secondName s at))
     link-names is =
         let p = placed r in (
-          record { above = p .0; sizing = ed .sizing; is-link = rw (← (p .2)) is; name = inl (rw (← (p .2)) (a-link-is-looked-up-by-field-1 s at (ed .sizing) is)) },
-          record { above = p .0; sizing = ed .sizing; is-link = rw (← (p .2)) is; name = inr (rw (← (p .2)) (a-link-is-looked-up-by-field-2 s at (ed .sizing) is)) },
+          record {
+            above = p .0;
+            sizing = ed .sizing;
+            is-link = rw (← (p .2)) is;
+            name = inl (rw (← (p .2)) (a-link-is-looked-up-by-field-1 s at
+                (ed .sizing) is));
+          },
+          record {
+            above = p .0;
+            sizing = ed .sizing;
+            is-link = rw (← (p .2)) is;
+            name = inr (rw (← (p .2)) (a-link-is-looked-up-by-field-2 s at
+                (ed .sizing) is));
+          },
         )
 
     site-alike : IsSite (fieldsAt s at) → (m : ℕ) → let w = line.Site 2 (2 + length (field (fieldsAt s at) 1)) m in

@@ -85,6 +85,7 @@ module _ (ed : Edition) (l : List ℕ) where
       (by (same (field (fields l) 0) (bytes "T")) _ _ _ _ (⊎-elim inl (λ h. inr (inl (inr h))) (judged-as-before (siteForm 84) _))
       (⊎-elim inl (λ h. inr (inl (inl h))) (judged-as-before (siteForm 78) _)))
     where
-      by : (t : Bool) (v w x y : Line) → (v ≡ w) ⊎ Broken (ed .sizing) BareName l → (x ≡ y) ⊎ Broken (ed .sizing) BareName l → (cond t v x ≡ cond t w y) ⊎ Broken (ed .sizing) BareName l
+      by : (t : Bool) (v w x y : Line) → (v ≡ w) ⊎ Broken (ed .sizing) BareName l → (x ≡ y) ⊎ Broken (ed .sizing) BareName l
+          → (cond t v x ≡ cond t w y) ⊎ Broken (ed .sizing) BareName l
       by true v w x y h k = h
       by false v w x y h k = k

@@ -211,7 +211,8 @@ module _ (ed : Edition) (l : List ℕ) where
   fault-of n (bare-name (inr h)) = link-fault check.Digits 17 (h .counted .letter) (rule.a-bare-name-is-found (linkForm (ed .sizing)) (fields l) h) (λ w. refl)
   fault-of n (bad-number (inl (inl h))) = site-fault check.Number 12 (h .counted .letter) (rule.a-bad-number-is-found plainForm (fields l) h) (λ w. refl)
   fault-of n (bad-number (inl (inr h))) = marked-fault check.Number 12 (h .counted .letter) (rule.a-bad-number-is-found markedForm (fields l) h) (λ w. refl)
-  fault-of n (bad-number (inr h)) = link-fault check.Number 12 (h .counted .letter) (rule.a-bad-number-is-found (linkForm (ed .sizing)) (fields l) h) (λ w. refl)
+  fault-of n (bad-number (inr h)) = link-fault check.Number 12 (h .counted .letter) (rule.a-bad-number-is-found (linkForm (ed .sizing)) (fields l) h)
+      (λ w. refl)
   fault-of n (too-large h) = large h
   fault-of n (too-much-held h) = held h
   fault-of n (low-above-high h) = swapped h

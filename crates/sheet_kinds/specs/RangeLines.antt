@@ -13,7 +13,8 @@ use Rattle.model.specs.Text.{bytes}
 use Rattle.model.specs.declared.Sizing.the-variants.{Low, High}
 use Rattle.text_grammar.specs.declared.Size.{Size}
 use Rattle.text_grammar.specs.declared.Size.the-variants.{Within, Above}
-use Rattle.sheet_kinds.specs.LineKinds.{same, fields, field, checked, faultOf, linkForm, judged, sizeOf, capacityOf, linkOf, sizedLink, linkLine, kindOf, kind}
+use Rattle.sheet_kinds.specs.LineKinds.{same, fields, field, checked, faultOf, linkForm, judged}
+use Rattle.sheet_kinds.specs.LineKinds.{sizeOf, capacityOf, linkOf, sizedLink, linkLine, kindOf, kind}
 use Rattle.sheet_kinds.specs.declared.Line.{Line}
 use Rattle.sheet_kinds.specs.declared.Line.the-variants.{Site, Link, Fault}
 use Rattle.sheet_kinds.specs.declared.Capacity.the-variants.{Usable, Faulty}

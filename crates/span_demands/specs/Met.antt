@@ -81,7 +81,8 @@ module _ (s : List ℕ) (low high : Network) (read-low : readAs rangesLow s ≡ 
 
   -- the bytes of the report say it
   pub the-report-says-the-span : readSpan s low (spanReport s low high) ≡ spanSays low high
-  the-report-says-the-span = the-span-is-read-back lower high each-high (each-trimmed (low .capacities)) (ap length high-sizes ∙ each-trimmed (high .capacities))
+  the-report-says-the-span = the-span-is-read-back lower high each-high (each-trimmed (low .capacities)) (ap length high-sizes
+      ∙ each-trimmed (high .capacities))
 
   -- equal low and high sizes give the numbers of the report headed `plan`
   pub equal-sizes-give-the-numbers-of-the-plan : low .capacities ≡ high .capacities

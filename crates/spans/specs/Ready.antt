@@ -172,7 +172,8 @@ unfoldable pub totalBy : ℕ → List ℕ → List ℕ → List ℕ → List ℕ
 totalBy n one two marks c = total (pairListOfParts (links one two) n (look (capacities n one two marks c)) (look (ends (links one two) n marks)))
 
 -- with 0 for the far site the sum over the own ends is that over all ends
-all-ends : (n : ℕ) (one two marks t : List ℕ) → ownSum (regionBy n one two marks []) 0 t ≡ atTerminals (links one two) n (look (ends (links one two) n marks)) (look t)
+all-ends : (n : ℕ) (one two marks t : List ℕ) → ownSum (regionBy n one two marks []) 0 t ≡ atTerminals (links one two) n (look (ends
+    (links one two) n marks)) (look t)
 unfolding ownSum atTerminals own
 all-ends n one two marks t = over-eq (sites n) _ _
     (λ w q. rw (pick-other {u = w} {v = 0} (λ e. omega (arith, sites-site n w q .0)) 0 (look (ends (links one two) n marks) w)) refl)

@@ -42,7 +42,8 @@ module _ {ls : Links} {n : ℕ} (T : Tree ls n) (terminal : ℕ → ℕ) where
   -- no plan over free pairs that fits, in parts of any size, has a greater total
   pub no-plan-has-a-greater-total : (c : List ℕ) (fs : List Pair) → Multiflow ls n terminal fs → (parts : ℕ) → Fits ls parts (look c) fs
       → 2 * total fs ≤ parts * largestTotal c
-  no-plan-has-a-greater-total c = pair-list-of-parts-has-the-greatest-total T terminal (look (balanced ls n terminal c)) (look c) (balanced-is-greatest T terminal c)
+  no-plan-has-a-greater-total c = pair-list-of-parts-has-the-greatest-total T terminal (look (balanced ls n terminal c)) (look c)
+      (balanced-is-greatest T terminal c)
 
   -- greater capacities have a greater largest total
   pub the-largest-total-grows : (c d : List ℕ) → Below ls (look c) (look d) → largestTotal c ≤ largestTotal d

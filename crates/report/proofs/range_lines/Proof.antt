@@ -24,7 +24,8 @@ abbrev μ-loop : tie.MeasureT-loop
 loop-holds : tie.Need-loop-holds Inv-loop μ-loop
 loop-holds c =
     let s = c .before .before .before .before .before .before .before .before .before .before .args in
-    let line = rangeLine (nameBy (s .sheet .now) (s .start .now) (s .end .now)) (s .one .now) (s .two .now) (s .low .now) (s .high .now) (s .least .now) (s .greatest .now) in
+    let line = rangeLine (nameBy (s .sheet .now) (s .start .now) (s .end .now)) (s .one .now) (s .two .now) (s .low .now) (s .high .now) (s .least .now)
+    (s .greatest .now) in
     (omega arith, lines-none (s .buf .now) (s .at) line (upfrom 0 (length (s .one .now))))
 
 mul-range-line : tie.Need-mul-range-line Inv-loop μ-loop
@@ -73,7 +74,8 @@ range-line-requires c κs =
     let h : j < length one = omega arith in
     let named = s .pre .1 .named j h in (
       line-room _ (upfrom 0 (length one)) 0 j (omega (arith, length-upfrom 0 (length one)))
-          (range-at name (length one) j h one (s .args .two .now) (s .args .low .now) (s .args .high .now) (s .args .least .now) (s .args .greatest .now)) (s .pre .0) (top .loop .inv .1),
+          (range-at name (length one) j h one (s .args .two .now) (s .args .low .now) (s .args .high .now) (s .args .least .now)
+          (s .args .greatest .now)) (s .pre .0) (top .loop .inv .1),
       named .0,
       named .1,
     )
@@ -94,7 +96,8 @@ loop-again c =
     let h : j < length one = omega arith in (
       omega arith,
       line-next _ (upfrom 0 (length one)) 0 j (omega (arith, length-upfrom 0 (length one)))
-          (range-at name (length one) j h one (s .two .now) (s .low .now) (s .high .now) (s .least .now) (s .greatest .now)) (top .loop .inv .1) (c .before .before .range-line .ensures),
+          (range-at name (length one) j h one (s .two .now) (s .low .now) (s .high .now) (s .least .now) (s .greatest .now)) (top .loop .inv .1)
+          (c .before .before .range-line .ensures),
     )
 
 same-length : tie.Need-same-length Inv-loop μ-loop

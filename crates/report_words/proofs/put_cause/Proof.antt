@@ -123,7 +123,8 @@ put-bytes-requires-15 c κs =
     let late = rest .0 .0 in
     let early = late .0 .0 .0 .0 .0 .0 .0 in
     let none = no-cause (s .args .number) (early .0 .0 .0 .0 .0 .1) (early .0 .0 .0 .0 .1) (early .0 .0 .0 .1) (early .0 .0 .1) (early .0 .1) (early .1)
-    (late .0 .0 .0 .0 .0 .0 .1) (late .0 .0 .0 .0 .0 .1) (late .0 .0 .0 .0 .1) (late .0 .0 .0 .1) (late .0 .0 .1) (late .0 .1) (late .1) (rest .0 .1) (rest .1) in
+    (late .0 .0 .0 .0 .0 .0 .1) (late .0 .0 .0 .0 .0 .1) (late .0 .0 .0 .0 .1) (late .0 .0 .0 .1) (late .0 .0 .1) (late .0 .1) (late .1) (rest .0 .1)
+    (rest .1) in
     rw none at (s .pre)
 
 same-length : tie.Need-same-length
@@ -242,7 +243,8 @@ returns-16 c =
     let late = rest .0 .0 in
     let early = late .0 .0 .0 .0 .0 .0 .0 in
     let none = no-cause n (early .0 .0 .0 .0 .0 .1) (early .0 .0 .0 .0 .1) (early .0 .0 .0 .1) (early .0 .0 .1) (early .0 .1) (early .1)
-    (late .0 .0 .0 .0 .0 .0 .1) (late .0 .0 .0 .0 .0 .1) (late .0 .0 .0 .0 .1) (late .0 .0 .0 .1) (late .0 .0 .1) (late .0 .1) (late .1) (rest .0 .1) (rest .1) in
+    (late .0 .0 .0 .0 .0 .0 .1) (late .0 .0 .0 .0 .0 .1) (late .0 .0 .0 .0 .1) (late .0 .0 .0 .1) (late .0 .0 .1) (late .0 .1) (late .1) (rest .0 .1)
+    (rest .1) in
     rw none (c .before .before .put-bytes15 .ensures)
 
 pub put-cause-spec : {M : Type 1} → statement M

@@ -69,7 +69,8 @@ returns-2 c = sym (rw (c .before .capacity .given .1) at (line-is (c .before .be
 returns-3 : tie.Need-returns-3
 returns-3 c =
     let s = c .before .before .before .before .before .before .before .before .before .before .before in
-    let ends = link-ends (s .args .line .now) (s .args .t2) (s .pre) (s .args .edition .sizing) (is-link (c .before .before .before .before .before .before) .0) in
+    let ends = link-ends (s .args .line .now) (s .args .t2) (s .pre) (s .args .edition .sizing) (is-link
+    (c .before .before .before .before .before .before) .0) in
     let one = length (field (fields (s .args .line .now)) 1) in
     let next : 2 + one + 1 ≡ 3 + one = omega arith in
     rw (ends .0, ends .1, next) (sym (rw (c .before .before .before .capacity2 .given .1) at (line-is (c .before .before .before .before .before))))

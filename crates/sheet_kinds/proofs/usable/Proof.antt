@@ -12,7 +12,12 @@ field-requires c κs =
     let s = c .before in (
       s .pre .0,
       omega arith,
-      omega (arith, count-of-split (s .args .line .now) (s .args .found) (s .pre .0), link-parts (s .args .edition .sizing) (fields (s .args .line .now)) (s .pre .1) .enough),
+      omega (
+        arith,
+        count-of-split (s .args .line .now) (s .args .found) (s .pre .0),
+        link-parts (s .args .edition .sizing) (fields (s .args .line .now))
+            (s .pre .1) .enough,
+      ),
     )
 
 size-of-requires : tie.Need-size-of-requires

@@ -14,7 +14,8 @@ returns c =
 returns-2 : tie.Need-returns-2
 returns-2 c =
     let s = c .before .before .before .before .before .before .before .before .before .before .before .before .before .before .before .before .before .before in
-    let e = measured-fitting _ (s .args .report .now) (c .before .before .before .before .before .before .write-span .ensures) (c .before .before .before .before .if1 .left) (c .before .before .write-span2 .ensures) in
+    let e = measured-fitting _ (s .args .report .now) (c .before .before .before .before .before .before .write-span .ensures)
+    (c .before .before .before .before .if1 .left) (c .before .before .write-span2 .ensures) in
     (sym (ap (λ p. p .outcome) e), sym (ap (λ p. p .buffer) e))
 
 pub deliver-spec : {M : Type 1} → statement M

@@ -21,24 +21,30 @@ least-front : (c : tie.After-work-out) → let a = c .before .before .before .be
     take (length (a .one .now)) (c .work-out .last .1 .1 .1 .1 .1 .0) ≡ capacities (a .n) (a .one .now) (a .two .now) (a .marks .now) (a .low .now)
 least-front c =
     let s = c .before .before .before .before .before .before .before .before .before .before .before in
-    ap (take (length (s .args .one .now))) (c .work-out .ensures .1) ∙ take-at _ _ (length (s .args .one .now)) (capacities-keep-the-promise (the-low-tree (s .pre)) .each)
+    ap (take (length (s .args .one .now))) (c .work-out .ensures .1)
+    ∙ take-at _ _ (length (s .args .one .now)) (capacities-keep-the-promise (the-low-tree (s .pre)) .each)
 
-greatest-front : (c : tie.After-work-out2) → let a = c .before .before .before .before .before .before .before .before .before .before .before .before .before .before .args in
+greatest-front : (c : tie.After-work-out2) → let low = c .before .before .before in
+    let a = low .before .before .before .before .before .before .before .before .before .before .before .args in
     take (length (a .one .now)) (c .work-out2 .last .1 .1 .1 .1 .1 .0) ≡ capacities (a .n) (a .one .now) (a .two .now) (a .marks .now) (a .high .now)
 greatest-front c =
     let s = c .before .before .before .before .before .before .before .before .before .before .before .before .before .before in
-    ap (take (length (s .args .one .now))) (c .work-out2 .ensures .1) ∙ take-at _ _ (length (s .args .one .now)) (capacities-keep-the-promise (the-high-tree (s .pre)) .each)
+    ap (take (length (s .args .one .now))) (c .work-out2 .ensures .1)
+    ∙ take-at _ _ (length (s .args .one .now)) (capacities-keep-the-promise (the-high-tree (s .pre)) .each)
 
 work-out-requires : tie.Need-work-out-requires
-work-out-requires c κs = let s = c .before .before .before .before .before .before .before .before .before .before in (the-low-tree (s .pre), few-firsts (s .pre))
+work-out-requires c κs = let s = c .before .before .before .before .before .before .before .before .before .before in
+    (the-low-tree (s .pre), few-firsts (s .pre))
 
 work-out-requires-2 : tie.Need-work-out-requires-2
-work-out-requires-2 c κs = let s = c .before .before .before .before .before .before .before .before .before .before .before .before .before in (the-high-tree (s .pre), few-firsts (s .pre))
+work-out-requires-2 c κs = let s = c .before .before .before .before .before .before .before .before .before .before .before .before .before in
+    (the-high-tree (s .pre), few-firsts (s .pre))
 
 array-share-prefix-least : tie.Need-array-share-prefix-least
 array-share-prefix-least c =
     let s = c .before .before .before .before .before .before .before .before .before .before .before .before .before .before .before in
-    front-has-places _ (length (s .args .one .now)) (ap length (least-front (c .before .before .before .before)) ∙ capacities-keep-the-promise (the-low-tree (s .pre)) .each)
+    front-has-places _ (length (s .args .one .now)) (ap length (least-front (c .before .before .before .before))
+    ∙ capacities-keep-the-promise (the-low-tree (s .pre)) .each)
 
 slice-aggregate-deliver : tie.Need-slice-aggregate-deliver
 slice-aggregate-deliver c =
@@ -48,7 +54,8 @@ slice-aggregate-deliver c =
 array-share-prefix-greatest : tie.Need-array-share-prefix-greatest
 array-share-prefix-greatest c =
     let s = c .before .before .before .before .before .before .before .before .before .before .before .before .before .before .before .before in
-    front-has-places _ (length (s .args .one .now)) (ap length (greatest-front (c .before .before)) ∙ capacities-keep-the-promise (the-high-tree (s .pre)) .each)
+    front-has-places _ (length (s .args .one .now)) (ap length (greatest-front (c .before .before))
+    ∙ capacities-keep-the-promise (the-high-tree (s .pre)) .each)
 
 slice-aggregate-deliver-2 : tie.Need-slice-aggregate-deliver-2
 slice-aggregate-deliver-2 c =
@@ -70,7 +77,8 @@ deliver-requires c κs =
 
 returns : tie.Need-returns
 returns c =
-    let s = c .before .before .before .before .before .before .before .before .before .before .before .before .before .before .before .before .before .before .before .before .before in
+    let worked = c .before .before .before .before .before .before .before in
+    let s = worked .before .before .before .before .before .before .before .before .before .before .before .before .before .before in
     let low = c .before .before .before .before .before .before .before .before .before .before in
     let high = c .before .before .before .before .before .before .before in
     let made = c .before .before .deliver in

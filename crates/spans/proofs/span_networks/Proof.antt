@@ -6,7 +6,8 @@ use Rattle.spans.proofs.span_networks.Tie as tie
 
 span-parts-requires : tie.Need-span-parts-requires
 span-parts-requires c κs =
-    let s = c .before .before .before .before .before .before .before .before .before .before .before .before .before .before .before .before .before .before .before in
+    let taken = c .before .before .before .before .before .before .before .before .before in
+    let s = taken .before .before .before .before .before .before .before .before .before .before in
     let room = room-for-the-links (s .pre) in
     (the-lists-are-taken-apart (s .pre), room .0, room .1, room .2, room .3, room .4)
 
