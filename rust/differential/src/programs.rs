@@ -75,15 +75,6 @@ impl Expected {
         }
     }
 
-    /// The same of a program that says a refusal in any words, in one line.
-    pub fn in_any_words(&self) -> Self {
-        let mut due = self.clone();
-        if due.words != Words::None {
-            due.words = Words::OneLine;
-        }
-        due
-    }
-
     /// Compares what a program prints, if it came to its end, and what it says.
     fn check(&self, program: &Path, output: &Output) -> Result<(), String> {
         let told = |what: &str| format!("{}: {what}", program.display());

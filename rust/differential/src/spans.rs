@@ -402,7 +402,7 @@ impl Programs {
 
     fn compare_one(&self, sheet: &[u8], examples: &[PathBuf]) -> Result<(), String> {
         let due = Expected::new(second::ranges, sheet);
-        programs::run(&self.proved, None, sheet, &due.in_any_words())?;
+        programs::run(&self.proved, None, sheet, &due)?;
         programs::run(&self.second, None, sheet, &due.silent())?;
         for example in examples {
             programs::run(example, Some("ranges"), sheet, &due.silent())?;
