@@ -52,7 +52,7 @@ WithoutCause known s = (k l : ℕ) → ¬ (Refusal (editionOf known s) s k l)
 -- what planning the sheet s into the buffer b comes to, with the text of either report: the sheet is refused for a cause of its own, with that cause's number
 -- and line; or it has no such cause, and its report is longer than the buffer; or it has no such cause and gets its full report
 pub data Demand1 (text : Reporter) (known : List Edition) (s b : List ℕ) : Type 0 where
-  faulty-sheet : (k l : ℕ) → readSheet known s ≡ refused k l → Refusal (editionOf known s) s k l → SheetNumber k
+  faulty-sheet : (k l : ℕ) → readSheet known s ≡ refused k l → Refusal (editionOf known s) s k l → SheetNumber (editionOf known s .sizing) k
       → Refused k l b (plannedBy text known s b) → Demand1 text known s b
   long-report : WithoutCause known s → (net : Network) → readSheet known s ≡ accepted net → length b < length (text s net)
       → Refused 9 0 b (plannedBy text known s b) → Demand1 text known s b
@@ -164,7 +164,7 @@ pub record IsRefusal (known : List Edition) (s r : List ℕ) : Type 0 where
   pub three-fields : length (firstLine r) ≡ 3
   pub heading : field (firstLine r) 0 ≡ bytes "refused"
   pub cause : Refusal (editionOf known s) s (numberRead r) (lineRead r)
-  pub of-the-table : SheetNumber (numberRead r)
+  pub of-the-table : SheetNumber (editionOf known s .sizing) (numberRead r)
   pub whole : r ≡ refusalLine (numberRead r) (lineRead r)
 
 -- what a program prints for the sheet s: its full report, where it has no cause of a refusal; or the line of its refusal, which is never 9.

@@ -65,7 +65,7 @@ module _ (text : Reporter) (known : List Edition) (s b : List ℕ) where
       rw (sheet-refused k l e, stored)
 
 -- the line of a refusal is shorter than a report may be
-pub a-refusal-is-small : (k l : ℕ) → k ≤ 17 → l ≤ BYTES → length (refusalLine k l) ≤ REPORT
+pub a-refusal-is-small : (k l : ℕ) → k ≤ 19 → l ≤ BYTES → length (refusalLine k l) ≤ REPORT
 unfolding refusalLine line
 a-refusal-is-small k l few low = omega (
   arith,

@@ -60,7 +60,7 @@ oddFields k = bytes "Q" ∷ decimal k ∷ []
 abbrev oddRows : List ℕ → List Record
 oddRows ks = flatMap (λ k. oddFields k ∷ []) ks
 
-singles : {A : Type 0} (g : A → Record) (l : List A) → flatMap (λ a. g a ∷ []) l ≡ map g l
+pub singles : {A : Type 0} (g : A → Record) (l : List A) → flatMap (λ a. g a ∷ []) l ≡ map g l
 unfolding flatMap
 singles g [] = refl
 singles g (a ∷ l) = ap (λ y. g a ∷ y) (singles g l)

@@ -1,4 +1,5 @@
--- The numbers of a sheet's refusals are those of the table, 1 to 8, 10 to 13 and 17 (`SheetNumber`): never 0, which is success, nor 9, which is the
+-- The numbers of a sheet's refusals are those of the table, 1 to 8, 10 to 13 and 17, with 19 for 13 on a range sheet (`SheetNumber`): never 0, which is
+-- success, nor 9, which is the
 -- buffer's; and the line is within the limit of bytes. Since each comes for a cause of the table, on a line of the sheet.
 use mathlib.Core.Path.{_≡_}
 use mathlib.Core.List.{List}
@@ -13,7 +14,7 @@ module _ (known : List Edition) (s : List ℕ) (k l : ℕ) (e : readSheet known 
   cause : Refusal (editionOf known s) s k l
   cause = a-sheet-is-refused-for-its-cause (editionOf known s) s k l .0 e
 
-  pub sheets-are-refused-with-a-sheet-number : SheetNumber k
+  pub sheets-are-refused-with-a-sheet-number : SheetNumber (editionOf known s .sizing) k
   sheets-are-refused-with-a-sheet-number = refusals-have-sheet-numbers (editionOf known s) s cause
 
   pub sheets-are-refused-at-a-line-within-the-limit : l ≤ editionOf known s .bytes

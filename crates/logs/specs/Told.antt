@@ -52,7 +52,8 @@ pub record Short (log : List ℕ) : Type 0 where
 -- what the replay of a log over the sheet s, into the lent list l, comes to: the sheet is refused for a cause of its own; or it has none, and the log has
 -- too many bytes or lines; or the list has fewer places than the log has lines; or every line is answered
 pub data ReplayTold (known : List Edition) (s log l : List ℕ) : Type 0 where
-  faulty-sheet : (k line : ℕ) → Refusal (editionOf known s) s k line → SheetNumber k → IsRefused 1 k line l (replayed known s log l) → ReplayTold known s log l
+  faulty-sheet : (k line : ℕ) → Refusal (editionOf known s) s k line → SheetNumber (editionOf known s .sizing) k
+      → IsRefused 1 k line l (replayed known s log l) → ReplayTold known s log l
   long-log : (net : Network) → Sheet known s net → (LOGBYTES < length log) ⊎ (LOGLINES < length (lines log)) → IsRefused 2 1 0 l (replayed known s log l)
       → ReplayTold known s log l
   few-places : (net : Network) → Sheet known s net → Short log → length l < length (lines log) → IsRefused 2 9 0 l (replayed known s log l)

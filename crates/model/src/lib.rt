@@ -1,6 +1,6 @@
 // What every crate of the planner shares: an entry of a multiflow, and the limits of an edition of the sheet.
 ghost use mathlib.Core.Path.{_≡_};
-ghost use Rattle.model.specs.Edition.{edition1, edition2};
+ghost use Rattle.model.specs.Edition.{edition1, edition2, rangesLow, rangesHigh};
 
 // The limits of the planner: every length of an array is one of these. specs/Limits.antt has them by the same names.
 
@@ -72,8 +72,18 @@ pub enum Request {
     Fault(u64),
 }
 
-// An edition of the sheet (01: edition; 02, Card 8): the digit in its heading, and the limits that go with it: bytes of a sheet, sites, the size of a link.
+// What a sheet's link lines give (02, Cards 5 and 11): a size and maybe a reserve; or a low and a high size, of which the low one, or the high one, is taken
+// for the capacity.
+pub enum Sizing {
+    Reserved,
+    Low,
+    High,
+}
+
+// An edition of the sheet (01: edition; 02, Card 8): what its link lines give, the digit in its heading, and the limits that go with it: bytes of a sheet,
+// sites, the size of a link.
 pub struct Edition {
+    pub sizing: Sizing,
     pub digit: u8,
     pub bytes: usize,
     pub sites: usize,
@@ -96,6 +106,7 @@ impl Edition {
         ensures { λ r. ⌜ r ≡ edition1 ⌝ }
     {
         Edition {
+            sizing: Sizing::Reserved,
             digit: b'1',
             bytes: Edition::FIRST_BYTES,
             sites: Edition::FIRST_SITES,
@@ -108,7 +119,34 @@ impl Edition {
         ensures { λ r. ⌜ r ≡ edition2 ⌝ }
     {
         Edition {
+            sizing: Sizing::Reserved,
             digit: b'2',
+            bytes: Edition::SECOND_BYTES,
+            sites: Edition::SECOND_SITES,
+            size: Edition::SIZE,
+        }
+    }
+
+    // A range sheet (02, Card 11), its low sizes taken.
+    pub fn low() -> Self
+        ensures { λ r. ⌜ r ≡ rangesLow ⌝ }
+    {
+        Edition {
+            sizing: Sizing::Low,
+            digit: b'1',
+            bytes: Edition::SECOND_BYTES,
+            sites: Edition::SECOND_SITES,
+            size: Edition::SIZE,
+        }
+    }
+
+    // A range sheet, its high sizes taken.
+    pub fn high() -> Self
+        ensures { λ r. ⌜ r ≡ rangesHigh ⌝ }
+    {
+        Edition {
+            sizing: Sizing::High,
+            digit: b'1',
             bytes: Edition::SECOND_BYTES,
             sites: Edition::SECOND_SITES,
             size: Edition::SIZE,

@@ -37,7 +37,8 @@ pub record AllTaken (net : Network) (list : List ℕ) (o : Ordered) : Type 0 whe
 -- what the order of work over the sheet s, into the lent list l, comes to: the sheet is refused for a cause of its own; or it has none, and the list has
 -- fewer places than the sheet has sites; or it has none, and all sites are told
 pub data OrderTold (known : List Edition) (s l : List ℕ) : Type 0 where
-  faulty-sheet : (k line : ℕ) → Refusal (editionOf known s) s k line → SheetNumber k → IsRefused k line l (orderOf known s l) → OrderTold known s l
+  faulty-sheet : (k line : ℕ) → Refusal (editionOf known s) s k line → SheetNumber (editionOf known s .sizing) k
+      → IsRefused k line l (orderOf known s l) → OrderTold known s l
   few-places : ((k line : ℕ) → ¬ (Refusal (editionOf known s) s k line)) → (net : Network) → readSheet known s ≡ accepted net → length l < length (net .names)
       → IsRefused 9 0 l (orderOf known s l) → OrderTold known s l
   all-taken : ((k line : ℕ) → ¬ (Refusal (editionOf known s) s k line)) → (net : Network) → readSheet known s ≡ accepted net → length (net .names) ≤ length l

@@ -16,7 +16,7 @@ use Rattle.planner.specs.declared.Outcome.the-variants.{Report, Refused}
 use Rattle.lists.specs.Sums.{contradiction}
 
 -- a report's length is within the buffer after
-delivered-within : (r b : List ℕ) (n : ℕ) → deliver r b .outcome ≡ Report n → n ≤ length (deliver r b .buffer)
+pub delivered-within : (r b : List ℕ) (n : ℕ) → deliver r b .outcome ≡ Report n → n ≤ length (deliver r b .buffer)
 unfolding deliver
 delivered-within r b n e = by (leb (length r) (length b)) e
   where

@@ -12,6 +12,7 @@ use lib.Dec.{leb}
 use lib.ListN.{length}
 use Rattle.model.specs.Edition.{edition1, edition2, editions}
 use Rattle.model.specs.declared.Edition.{Edition}
+use Rattle.model.specs.declared.Sizing.the-variants.{Reserved}
 use Rattle.sheet.specs.Sheet.{Read, refused, accepted, readSheet, lookup, editionOf}
 use Rattle.sheet.specs.Earlier.{Kinds, kind, kindBare, kindBefore, kindUnmarked, kindUnreserved, Lookup, lookupBytes, readAsBy}
 use Rattle.sheet.specs.Renumbered.{numberBefore, readBefore, a-sheet-is-read-by-its-kinds, a-sheet-is-read-as-before}
@@ -85,12 +86,12 @@ module _ (text : Reporter) (known : List Edition) (s b : List ℕ) where
   unfolding plannedReading plannedBy
   a-sheet-without-marks-is-planned-as-before none lettered = rw (a-sheet-without-marks-is-read-as-before (editionOf known s) s none lettered)
 
-  -- and one without reserves and marks gets those that it had by the link lines from before
-  pub a-sheet-without-reserves-is-planned-as-before : WithoutReserves s → WithoutMarks s → WithoutBareNames s
+  -- and one of a network edition without reserves and marks gets those that it had by the link lines from before
+  pub a-sheet-without-reserves-is-planned-as-before : editionOf known s .sizing ≡ Reserved → WithoutReserves s → WithoutMarks s → WithoutBareNames s
       → plannedReading kindUnreserved lookup text known s b ≡ plannedBy text known s b
   unfolding plannedReading plannedBy
-  a-sheet-without-reserves-is-planned-as-before none unmarked lettered =
-      rw (a-sheet-without-reserves-is-read-as-before (editionOf known s) s none unmarked lettered)
+  a-sheet-without-reserves-is-planned-as-before network none unmarked lettered =
+      rw (a-sheet-without-reserves-is-read-as-before (editionOf known s) network s none unmarked lettered)
 
 -- ---- Card 8
 

@@ -38,7 +38,7 @@ ranges net i = ap₂ (λ (a b : ℕ). (a, b))
     (look-padded SITES (map (λ r. r .0) (net .names)) i ∙ look-map (λ r. r .0) (net .names) (0, 0) refl i)
     (look-padded SITES (map (λ r. r .1) (net .names)) i ∙ look-map (λ r. r .1) (net .names) (0, 0) refl i)
 
-names : (s : List ℕ) (net : Network) → nameBy s (starts net) (stops net) ≡ (λ v. part s (getD (net .names) (v - 1) (0, 0)))
+pub names : (s : List ℕ) (net : Network) → nameBy s (starts net) (stops net) ≡ (λ v. part s (getD (net .names) (v - 1) (0, 0)))
 names s net = fun-ext (λ v. ap (part s) (ranges net (v - 1)))
 
 -- ---- lines that read the same

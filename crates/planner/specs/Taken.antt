@@ -29,7 +29,7 @@ pub padded-length : (n : ℕ) (l : List ℕ) → length l ≤ n → length (padd
 unfolding padded
 padded-length n l h = omega (arith, length-append l (replicate (n - length l) 0), length-replicate {A = ℕ} (n - length l) 0)
 
-padded-front : (n m : ℕ) (l : List ℕ) → length l ≡ m → take m (padded n l) ≡ l
+pub padded-front : (n m : ℕ) (l : List ℕ) → length l ≡ m → take m (padded n l) ≡ l
 unfolding padded
 padded-front n m l e = take-at l (replicate (n - length l) 0) m e
 
@@ -121,7 +121,7 @@ module _ {s : List ℕ} {network : Lists} (r : Listed s network) where
 -- ---- a tree within the limits
 
 -- links taken apart and put together
-links-again : (ls : Links) → links (map (λ l. l .0) ls) (map (λ l. l .1) ls) ≡ ls
+pub links-again : (ls : Links) → links (map (λ l. l .0) ls) (map (λ l. l .1) ls) ≡ ls
 unfolding links
 links-again [] = refl
 links-again (l ∷ ls) = ap (λ r. l ∷ r) (links-again ls)

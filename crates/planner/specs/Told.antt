@@ -15,7 +15,7 @@ use Rattle.sheet.specs.SheetTheorem.{a-sheet-is-refused-for-its-cause}
 use Rattle.planner.specs.Outcome.{Planned, number, lineOf, Reporter, deliver, planRead, plannedBy}
 
 -- a report delivered is told as 0 or 9
-zero-or-nine : (r b : List ℕ) → (number (deliver r b .outcome) ≡ 0) ⊎ (number (deliver r b .outcome) ≡ 9)
+pub zero-or-nine : (r b : List ℕ) → (number (deliver r b .outcome) ≡ 0) ⊎ (number (deliver r b .outcome) ≡ 9)
 unfolding deliver
 zero-or-nine r b = by (leb (length r) (length b)) _ _ refl refl
   where

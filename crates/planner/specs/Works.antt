@@ -39,23 +39,17 @@ use Rattle.planner.specs.Taken.{padded-length, the-network-is-given, the
 use Rattle.planner.specs.Taken.{the-network-is-a-marked-tree, the-ends-are-the-networks}
 use Rattle.planner.specs.Ready.{TakenApart, Charted, ReadyBy, Ready}
 
-module _ {s : List ℕ} {net : Network} (N : IsNetwork largest s net) (f : Figures) (h : Showable net f) where
-  abbrev size : ℕ
-  size = length (net .names)
+-- ---- names
 
-  abbrev ls : Links
-  ls = net .links
-
-  -- ---- names
-
-  sites-are-named : AllNamed s (starts net) (stops net) size
+module _ {s : List ℕ} {net : Network} (N : IsNetwork largest s net) where
+  pub sites-are-named : AllNamed s (starts net) (stops net) (length (net .names))
   sites-are-named v l k =
       let i = v - 1 in
       let range = N .names i (omega arith) in
       let e = ranges net i in
       let a : look (starts net) i ≡ getD (net .names) i (0, 0) .0 = ap (λ r. r .0) e in
       let b : look (stops net) i ≡ getD (net .names) i (0, 0) .1 = ap (λ r. r .1) e in
-      let few : size ≤ SITES = N .few in
+      let few : length (net .names) ≤ SITES = N .few in
       record {
         above = l;
         in-starts = omega (arith, padded-length SITES (map (λ r. r .0) (net .names)) (omega (arith, length-map (net .names) (λ r. r .0))));
@@ -64,8 +58,15 @@ module _ {s : List ℕ} {net : Network} (N : IsNetwork largest s net) (f : Figur
         within = rw b (range .end);
       }
 
-  named-site : (v : ℕ) → Site size v → Named s (starts net) (stops net) v
+  pub named-site : (v : ℕ) → Site (length (net .names)) v → Named s (starts net) (stops net) v
   named-site v p = sites-are-named v (p .0) (p .1)
+
+module _ {s : List ℕ} {net : Network} (N : IsNetwork largest s net) (f : Figures) (h : Showable net f) where
+  abbrev size : ℕ
+  size = length (net .names)
+
+  abbrev ls : Links
+  ls = net .links
 
   -- ---- links
 
@@ -78,7 +79,7 @@ module _ {s : List ℕ} {net : Network} (N : IsNetwork largest s net) (f : Figur
         shown-length = h .each-link ∙ sym o;
         named = λ j l. let k : j < length ls = omega arith in
             rw (List·getD-map (λ l. l .0) ls j (0, 0), List·getD-map (λ l. l .1) ls j (0, 0))
-            (named-site (one ls j) (N .tree .ends j k .0), named-site (two ls j) (N .tree .ends j k .1));
+            (named-site N (one ls j) (N .tree .ends j k .0), named-site N (two ls j) (N .tree .ends j k .1));
       }
 
   -- ---- pairs
@@ -86,7 +87,7 @@ module _ {s : List ℕ} {net : Network} (N : IsNetwork largest s net) (f : Figur
   pairs-join-named-sites : (es : List Pair) → Each (Route ls size (terminal net)) es → (i : ℕ) → i < length es
       → Named s (starts net) (stops net) (getD es i no-pair .first) × Named s (starts net) (stops net) (getD es i no-pair .second)
   pairs-join-named-sites [] r i l = absurd (omega arith)
-  pairs-join-named-sites (e ∷ es) r zero l = (named-site (e .first) (r .0 .first-site), named-site (e .second) (r .0 .second-site))
+  pairs-join-named-sites (e ∷ es) r zero l = (named-site N (e .first) (r .0 .first-site), named-site N (e .second) (r .0 .second-site))
   pairs-join-named-sites (e ∷ es) r (suc i) l = pairs-join-named-sites es (r .1) i (omega arith)
 
   -- ---- all of it
@@ -102,7 +103,7 @@ module _ {s : List ℕ} {net : Network} (N : IsNetwork largest s net) (f : Figur
       held = omega (arith, places .0, N .few);
       named = λ i l d. rw (w .own i l) (elim (h .owned (1 + i) (omega arith, omega arith)) [
         | inl r ↦ absurd (d (w .own i l ∙ r))
-        | inr r ↦ named-site _ (r .0)
+        | inr r ↦ named-site N _ (r .0)
       ]);
     }
 
@@ -126,7 +127,7 @@ module _ {s : List ℕ} {net : Network} (N : IsNetwork largest s net) (f : Figur
           shows = shows ∙ sym told;
           writable = record {
             few = N .few;
-            named = sites-are-named;
+            named = sites-are-named N;
             linked = links-join-named-sites;
             owned = owners-are-named;
             sized = omega (arith, places .1, N .few);

@@ -1,5 +1,5 @@
-// One region by itself (document 02, Card 10), by its sheet, a file that the first argument names, and the two shared names: its first trimmed size of the shared
-// link; with the neighbour's number as a fourth argument its sum and, for each of its links, its trimmed size; or the line of the refusal. What a refusal
+// One region by itself (document 02, Card 10), by its sheet, a file that the first argument names, and the two shared names: its first trimmed size of the
+// shared link; with the neighbour's number as a fourth argument its sum and, for each of its links, its trimmed size; or the line of the refusal. What a refusal
 // means, and what could not be read or written, it says on standard error.
 use model::BYTES;
 use model::SITES;

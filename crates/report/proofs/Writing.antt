@@ -14,6 +14,7 @@ use Rattle.text_writers.specs.Decimal.{decimal-length}
 use Rattle.text_writers.specs.Wrote.{Wrote, Room}
 use Rattle.text_writers.specs.Writing.{nothing, then}
 use Rattle.report.specs.Report.{lines, linkRecord, linkLine, siteRecord, siteLine, cutRecord, cutLine}
+use Rattle.report.specs.Span.{rangeRecord, rangeLine}
 
 -- ---- one line more
 
@@ -60,6 +61,11 @@ module _ (name : ℕ → List ℕ) (n i : ℕ) (h : i < n) where
       → linkLine name ones twos capacities shown (getD (upfrom 0 n) i 0) ≡ linkRecord name (look ones i) (look twos i) (look capacities i) (look shown i)
   unfolding linkLine
   link-at ones twos capacities shown = let e : look (upfrom 0 n) i ≡ i = omega (arith, look-upfrom 0 n i h) in rw e
+
+  pub range-at : (ones twos lows highs leasts greatests : List ℕ) → rangeLine name ones twos lows highs leasts greatests (getD (upfrom 0 n) i 0)
+      ≡ rangeRecord name (look ones i) (look twos i) (look lows i) (look highs i) (look leasts i) (look greatests i)
+  unfolding rangeLine
+  range-at ones twos lows highs leasts greatests = let e : look (upfrom 0 n) i ≡ i = omega (arith, look-upfrom 0 n i h) in rw e
 
   pub site-at : (owners : List ℕ) → siteLine name owners (getD (sites n) i 0) ≡ siteRecord name (i + 1) (look owners i)
   unfolding siteLine

@@ -1,5 +1,5 @@
 -- A report within the limits fits REPORT bytes: by the bytes of the names and the digits of the numbers, a line of a link has at most 44 bytes, of a site 28,
--- of a terminal cut 29, of a pair 36.
+-- of a terminal cut 29, of a pair 36; a line of a link of a range sheet at most 60.
 use mathlib.Core.Path.{_≡_, refl}
 use mathlib.Core.List.{List, [], _∷_}
 use Prim.Native.Nat.{ℕ, zero, suc, _+_, _-_, _*_, _≤_, _<_}
@@ -14,6 +14,7 @@ use Rattle.lists.specs.Sums.{pick-cases}
 use Rattle.text_writers.specs.Decimal.{decimal-within}
 use Rattle.report.specs.Report.{decimal, line, lines, Plan, reportOf, headRecord, linkRecord, linkLine, ownerName, siteRecord, siteLine, cutRecord}
 use Rattle.report.specs.Report.{cutLine, pairLine, oddLine}
+use Rattle.report.specs.Span.{Span, spanRecord, rangeRecord, rangeLine, spanText}
 
 -- ---- lines
 
@@ -157,4 +158,52 @@ module _ (p : Plan) (w : Small p) where
         w .sites-few,
         w .links-few,
         w .pairs-few,
+      ))
+
+-- ---- the report of a range sheet within the limits
+
+pub record SmallSpan (p : Span) : Type 0 where
+  pub name : (v : ℕ) → length (p .names v) ≤ 12
+  pub links-few : length (p .ones) ≤ LINKS
+  pub low : (j : ℕ) → j < length (p .ones) → look (p .lows) j ≤ SIZE
+  pub high : (j : ℕ) → j < length (p .ones) → look (p .highs) j ≤ SIZE
+  pub trimmed-low : (j : ℕ) → j < length (p .ones) → look (p .leasts) j ≤ SIZE
+  pub trimmed-high : (j : ℕ) → j < length (p .ones) → look (p .greatests) j ≤ SIZE
+  pub least-small : p .least ≤ 2 * (LINKS * SIZE)
+  pub greatest-small : p .greatest ≤ 2 * (LINKS * SIZE)
+
+module _ (p : Span) (w : SmallSpan p) where
+  range-length : (j : ℕ) → j < length (p .ones)
+      → length (rangeLine (p .names) (p .ones) (p .twos) (p .lows) (p .highs) (p .leasts) (p .greatests) j) ≤ 60
+  unfolding rangeLine rangeRecord widths
+  range-length j l =
+      let one = p .names (look (p .ones) j) in
+      let two = p .names (look (p .twos) j) in
+      let low = look (p .lows) j in
+      let high = look (p .highs) j in
+      let least = look (p .leasts) j in
+      let greatest = look (p .greatests) j in
+      omega (
+        arith,
+        line-length (bytes "L" ∷ one ∷ two ∷ decimal low ∷ decimal high ∷ decimal least ∷ decimal greatest ∷ []),
+        w .name (look (p .ones) j),
+        w .name (look (p .twos) j),
+        decimal-within 6 low (omega (arith, w .low j l)),
+        decimal-within 6 high (omega (arith, w .high j l)),
+        decimal-within 6 least (omega (arith, w .trimmed-low j l)),
+        decimal-within 6 greatest (omega (arith, w .trimmed-high j l)),
+      )
+
+  -- it fits too
+  pub a-small-span-has-a-small-report : length (spanText p) ≤ REPORT
+  unfolding spanText spanRecord widths
+  a-small-span-has-a-small-report =
+      let ranges = rangeLine (p .names) (p .ones) (p .twos) (p .lows) (p .highs) (p .leasts) (p .greatests) in
+      simp length-append (omega (
+        arith,
+        line-length (bytes "span" ∷ decimal (p .least) ∷ decimal (p .greatest) ∷ []),
+        decimal-within 8 (p .least) (omega (arith, w .least-small)),
+        decimal-within 8 (p .greatest) (omega (arith, w .greatest-small)),
+        lines-from ranges 60 0 (length (p .ones)) (λ j l k. range-length j (omega arith)),
+        w .links-few,
       ))

@@ -1,3 +1,5 @@
 pub mod Report
 pub mod Shown
+pub mod Span
+pub mod SpanShown
 pub mod Length

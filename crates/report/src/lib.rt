@@ -8,11 +8,13 @@ ghost use Rattle.model.specs.Limits.{LINKS, SITES, SIZE};
 ghost use Rattle.lists.specs.Numbers.{pick, upfrom};
 ghost use Rattle.model.specs.Flows.{sites, total};
 ghost use Rattle.model.specs.declared.Pair.{Pair};
-ghost use Rattle.text_writers.specs.Fields.{begun};
+ghost use Rattle.text_writers.specs.Fields.{decimal, line, begun};
 ghost use Rattle.text_writers.specs.Wrote.{Wrote, Room};
 ghost use Rattle.report.specs.Report.{lines, headRecord, linkRecord, linkLine, siteRecord, siteLine, cutRecord, cutLine, pairLine, reportOf};
 ghost use Rattle.report.specs.Report.{oddLine, refusalLine};
 ghost use Rattle.report.specs.Shown.{nameBy, shownBy, Named, AllNamed, Links, Owners, Paired, CanWrite};
+ghost use Rattle.report.specs.Span.{rangeRecord, spanText};
+ghost use Rattle.report.specs.SpanShown.{spanBy, rangeLines, Ranges};
 use model::PLACES;
 use model::Pair;
 use model::Pairs;
@@ -345,6 +347,120 @@ pub fn write(
     let cuts = cut_lines(sheet, start, end, ends, size, count, n, buf, sites);
     let next = put_part(buf, cuts, before);
     pair_lines(sheet, start, end, list, pairs.count, buf, next)
+}
+
+// Four numbers in decimal, the last fields of a line.
+fn put_four(buf: &mut [u8], at: usize, first: u64, second: u64, third: u64, fourth: u64) -> usize
+    requires { ⌜ Room at (line (decimal first ∷ decimal second ∷ decimal third ∷ decimal fourth ∷ [])) ⌝ }
+    ensures { λ r. ⌜ Wrote (now (buf .entry)) at (line (decimal first ∷ decimal second ∷ decimal third ∷ decimal fourth ∷ [])) (now (buf .exit)) r ⌝ }
+{
+    let one = put_number(buf, at, first, 9);
+    let two = put_number(buf, one, second, 9);
+    put_numbers(buf, two, third, fourth)
+}
+
+// The line of a link of a range sheet.
+fn range_line(
+    sheet: &[u8],
+    start: &[usize],
+    end: &[usize],
+    one: usize,
+    two: usize,
+    low: u64,
+    high: u64,
+    least: u64,
+    greatest: u64,
+    buf: &mut [u8],
+    at: usize,
+) -> usize
+    requires { ⌜ Room at (rangeRecord (nameBy (now sheet) (now start) (now end)) one two low high least greatest)
+        × Named (now sheet) (now start) (now end) one × Named (now sheet) (now start) (now end) two ⌝ }
+    ensures { λ r. ⌜ Wrote (now (buf .entry)) at
+        (rangeRecord (nameBy (now (sheet .entry)) (now (start .entry)) (now (end .entry))) one two low high least greatest) (now (buf .exit)) r ⌝ }
+{
+    let next = put_two_sites(sheet, start, end, b'L', one, two, buf, at);
+    put_four(buf, next, low, high, least, greatest)
+}
+
+// The lines of the links of a range sheet.
+fn range_lines(
+    sheet: &[u8],
+    start: &[usize],
+    end: &[usize],
+    one: &[usize],
+    two: &[usize],
+    low: &[u64],
+    high: &[u64],
+    least: &[u64],
+    greatest: &[u64],
+    buf: &mut [u8],
+    at: usize,
+) -> usize
+    requires { ⌜ Room at (rangeLines (now sheet) (now start) (now end) (now one) (now two) (now low) (now high) (now least) (now greatest))
+        × Ranges (now sheet) (now start) (now end) (now one) (now two) (now low) (now high) (now least) (now greatest) ⌝ }
+    ensures { λ r. ⌜ Wrote (now (buf .entry)) at
+        (rangeLines (now (sheet .entry)) (now (start .entry)) (now (end .entry)) (now (one .entry)) (now (two .entry)) (now (low .entry)) (now (high .entry))
+        (now (least .entry)) (now (greatest .entry))) (now (buf .exit)) r ⌝ }
+{
+    let mut next = at;
+    let mut j = 0;
+    while j < one.len() {
+        next = range_line(
+            sheet,
+            start,
+            end,
+            one[j],
+            two[j],
+            low[j],
+            high[j],
+            least[j],
+            greatest[j],
+            buf,
+            next,
+        );
+        j += 1;
+    }
+    next
+}
+
+// The report of a range sheet, from the start of the buffer as far as it goes, and its length: the heading with the least and the greatest total, and the
+// lines of the links.
+pub fn write_span(
+    sheet: &[u8],
+    start: &[usize],
+    end: &[usize],
+    one: &[usize],
+    two: &[usize],
+    low: &[u64],
+    high: &[u64],
+    least: &[u64],
+    greatest: &[u64],
+    lower: u64,
+    upper: u64,
+    buf: &mut [u8],
+) -> usize
+    requires { ⌜ Ranges (now sheet) (now start) (now end) (now one) (now two) (now low) (now high) (now least) (now greatest)
+        × Room 0 (spanText (spanBy (now sheet) (now start) (now end) (now one) (now two) (now low) (now high) (now least) (now greatest) lower
+        upper)) ⌝ }
+    ensures { λ r. ⌜ Wrote (now (buf .entry)) 0
+        (spanText (spanBy (now (sheet .entry)) (now (start .entry)) (now (end .entry)) (now (one .entry)) (now (two .entry)) (now (low .entry))
+        (now (high .entry)) (now (least .entry)) (now (greatest .entry)) lower upper)) (now (buf .exit)) r ⌝ }
+{
+    let word = put_bytes(buf, 0, b"span", 9);
+    let head = put_numbers(buf, word, lower, upper);
+    range_lines(
+        sheet,
+        start,
+        end,
+        one,
+        two,
+        low,
+        high,
+        least,
+        greatest,
+        buf,
+        head,
+    )
 }
 
 // The line of a refusal, from the start of the buffer, and its length.

@@ -22,3 +22,23 @@ pub fn run(whole: bool) {
         }
     }
 }
+
+// Tells the span of the range sheet on standard input (02, Card 11).
+pub fn span() {
+    let mut sheet = [0u8; BYTES + 1];
+    let input = text_streams::read(&mut sheet);
+    if !input.whole {
+        return;
+    }
+    let n = input.count;
+    let mut printed = io::large_buffer();
+    let outcome = spans::span(&sheet[..n], &mut printed);
+    match outcome {
+        Outcome::Report { length } => {
+            text_streams::write(&printed[..length]);
+        }
+        Outcome::Refused { number, line } => {
+            text_streams::refuse(number, line);
+        }
+    }
+}

@@ -95,7 +95,8 @@ cause-length n =
     (λ d. pick-cases P n 13 _ _ (λ e. omega arith)
     (λ d. pick-cases P n 17 _ _ (λ e. omega arith)
     (λ d. pick-cases P n 18 _ _ (λ e. omega arith)
-    (λ d. omega arith)))))))))))))))
+    (λ d. pick-cases P n 19 _ _ (λ e. omega arith)
+    (λ d. omega arith))))))))))))))))
 
 -- the line of any refusal
 pub words-are-short : (number l : ℕ) → l < 2 ^ 64 → length (words number l) ≤ 130

@@ -51,7 +51,8 @@ cause n =
     (pick n 13 (bytes "reserve above the size")
     (pick n 17 (bytes "name of digits only")
     (pick n 18 (bytes "the two sheets do not share one link")
-    (bytes "a cause without words")))))))))))))))
+    (pick n 19 (bytes "low size above the high size")
+    (bytes "a cause without words"))))))))))))))))
 
 -- the whole line
 unfoldable pub words : ℕ → ℕ → List ℕ

@@ -106,6 +106,7 @@ fn put_cause(buf: &mut [u8], at: usize, number: u64) -> usize
         13 => put_bytes(buf, at, b"reserve above the size", b'\n'),
         17 => put_bytes(buf, at, b"name of digits only", b'\n'),
         18 => put_bytes(buf, at, b"the two sheets do not share one link", b'\n'),
+        19 => put_bytes(buf, at, b"low size above the high size", b'\n'),
         _ => put_bytes(buf, at, b"a cause without words", b'\n'),
     }
 }

@@ -12,6 +12,7 @@ use lib.ListN.{length, drop}
 use borrow.Author.Tests.{eqb-false, ltb-true, lt-leb}
 use Rattle.lists.specs.Sums.{cases, contradiction}
 use Rattle.model.specs.declared.Edition.{Edition}
+use Rattle.model.specs.declared.Sizing.{Sizing}
 use Rattle.text_lines.specs.Lines.{lineLength, lineAt}
 use Rattle.text_lines.specs.LineLaws.{length-of-line}
 use Rattle.sheet_kinds.specs.LineKinds.{digitsAlone, kind}
@@ -30,33 +31,33 @@ use Rattle.sheet.specs.SheetTheorem.{a-sheet-is-refused-for-its-cause}
 use Rattle.sheet.specs.declared.stepping.Step.the-variants.{Refused}
 
 -- the line at an offset has a bare number for a name: the cause of 17
-abbrev pub BareAt : List ℕ → ℕ → Type 0
-BareAt s at = Broken BareName (lineAt s at)
+abbrev pub BareAt : Sizing → List ℕ → ℕ → Type 0
+BareAt z s at = Broken z BareName (lineAt s at)
 
 -- no line of the sheet has one
 abbrev pub WithoutBareNames : List ℕ → Type 0
-WithoutBareNames s = (above : ℕ) → ¬ (BareAt s (offset s above))
+WithoutBareNames s = (above : ℕ) (z : Sizing) → ¬ (BareAt z s (offset s above))
 
 -- ---- a line
 
 module _ (ed : Edition) (s : List ℕ) (net : Network) (k at : ℕ) where
   -- a line below the heading has a bare number for a name
   abbrev Bare : Type 0
-  Bare = Ended s at × (k ≢ 1) × BareAt s at
+  Bare = Ended s at × (k ≢ 1) × BareAt (ed .sizing) s at
 
   -- a line adds what it added, but for such a line
   step-as-before : (stepBy kindBare lookup ed s net k at ≡ stepOf ed s net k at) ⊎ Bare
   unfolding stepBy stepOf
   step-as-before =
-      by (ltb (at + lineLength (drop at s)) (length s)) refl (eqb k 1) refl (a-line-is-as-before-or-bare (ed .size) (lineAt s at))
+      by (ltb (at + lineLength (drop at s)) (length s)) refl (eqb k 1) refl (a-line-is-as-before-or-bare ed (lineAt s at))
     where
       by : (t : Bool) → ltb (at + lineLength (drop at s)) (length s) ≡ t → (u : Bool) → eqb k 1 ≡ u
-          → (kindBare (ed .size) (lineAt s at) ≡ kind (ed .size) (lineAt s at)) ⊎ BareAt s at → let first = headingStep ed (lineAt s at) in
-          (cond t (cond u first (recordBy lookup ed s net k at (kindBare (ed .size) (lineAt s at)))) (Refused 2 k)
-          ≡ cond t (cond u first (recordStep ed s net k at (kind (ed .size) (lineAt s at)))) (Refused 2 k)) ⊎ Bare
+          → (kindBare ed (lineAt s at) ≡ kind ed (lineAt s at)) ⊎ BareAt (ed .sizing) s at → let first = headingStep ed (lineAt s at) in
+          (cond t (cond u first (recordBy lookup ed s net k at (kindBare ed (lineAt s at)))) (Refused 2 k)
+          ≡ cond t (cond u first (recordStep ed s net k at (kind ed (lineAt s at)))) (Refused 2 k)) ⊎ Bare
       by false e u f o = inl refl
       by true e true f o = inl refl
-      by true e false f (inl z) = inl (rw z (record-by-the-look-up ed s net k at (kind (ed .size) (lineAt s at))))
+      by true e false f (inl z) = inl (rw z (record-by-the-look-up ed s net k at (kind ed (lineAt s at))))
       by true e false f (inr b) =
           inr (omega (arith, ltb-true (at + lineLength (drop at s)) (length s) e, length-of-line s at), eqb-false k 1 f, b)
 
@@ -64,7 +65,7 @@ module _ (ed : Edition) (s : List ℕ) (net : Network) (k at : ℕ) where
   bare-is-17 : Bare → readLine ed s net k at ≡ refused 17 k
   unfolding readLine recordStep
   bare-is-17 h =
-      rw (later-step ed s net k at (h .0) (h .1), faulty.a-line-is-a-fault-just-for-its-cause (ed .size) (lineAt s at) 17 .1 (faulty.bare-name (h .2)))
+      rw (later-step ed s net k at (h .0) (h .1), faulty.a-line-is-a-fault-just-for-its-cause ed (lineAt s at) 17 .1 (faulty.bare-name (h .2)))
 
   -- so a line that is read without fault adds what it added
   pub an-accepted-line-is-as-before : (after : Network) → readLine ed s net k at ≡ accepted after
@@ -86,7 +87,7 @@ module _ (ed : Edition) (s : List ℕ) where
     pub a-line-that-is-reached-is-as-before : {k at : ℕ} {net : Network} → Reached ed s k at net
         → stepBy kindBare lookup ed s net k at ≡ stepOf ed s net k at
     a-line-that-is-reached-is-as-before {k} {at} {net} r =
-        ⊎-elim (λ z. z) (λ h. let p = placed r in absurd (none (p .0) (rw (← (p .2)) (h .2)))) (step-as-before ed s net k at)
+        ⊎-elim (λ z. z) (λ h. let p = placed r in absurd (none (p .0) (ed .sizing) (rw (← (p .2)) (h .2)))) (step-as-before ed s net k at)
 
     pub a-sheet-without-bare-names-is-read-as-before : readAsBy kindBare lookup ed s ≡ readAs ed s
     a-sheet-without-bare-names-is-read-as-before =

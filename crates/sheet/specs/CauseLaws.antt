@@ -11,6 +11,7 @@ use lib.ListN.{length, drop}
 use borrow.Author.Tests.{eqb-true, eqb-false, eq-eqb, leb-true, leb-false, le-leb, lt-leb, ltb-true, ltb-false}
 use Rattle.model.specs.Flows.{joined}
 use Rattle.model.specs.declared.Edition.{Edition}
+use Rattle.model.specs.declared.Sizing.{Sizing}
 use Rattle.lists.specs.Sums.{same?, cases, contradiction}
 use Rattle.theory_trees.specs.Labels.{joined-iff}
 use Rattle.text_lines.specs.Lines.{lineLength, lineAt}
@@ -29,7 +30,7 @@ use Rattle.sheet.specs.declared.stepping.Step.the-variants.{Nothing, Sit
 use Rattle.sheet_names.specs.LookupLaws.{Says, lookup-says}
 use Rattle.sheet.specs.Sound.{Sound, part-of-line}
 use Rattle.sheet.specs.Causes.{Named, NotGiven, Ended, Cause, unended, no-heading, no-letter, wrong-count, bad-name, bare-name, bad-number}
-use Rattle.sheet.specs.Causes.{too-large, too-much-held, too-many, given, not-given, already-joined, fieldsAt}
+use Rattle.sheet.specs.Causes.{too-large, too-much-held, low-above-high, too-many, given, not-given, already-joined, fieldsAt}
 use Rattle.sheet_names.specs.declared.Found.{Found}
 use Rattle.sheet_names.specs.declared.Found.the-variants.{At, Absent}
 
@@ -82,15 +83,15 @@ module _ (s : List ℕ) (at : ℕ) where
       let f = site-is-formed (lineAt s at) 0 h 0 (omega arith) in
       part-of-line s at _ _ (f .0) (f .1) ∙ site-name-is-field-1 (lineAt s at) h
 
-  pub a-link-is-looked-up-by-field-1 : IsLink (fieldsAt s at) → part s firstName ≡ field (fieldsAt s at) 1
-  a-link-is-looked-up-by-field-1 h =
-      let f = link-is-formed (lineAt s at) 0 h 0 (omega arith) in
-      part-of-line s at _ _ (f .0) (f .1) ∙ link-name-is-field-1 (lineAt s at) h
+  pub a-link-is-looked-up-by-field-1 : (z : Sizing) → IsLink z (fieldsAt s at) → part s firstName ≡ field (fieldsAt s at) 1
+  a-link-is-looked-up-by-field-1 z h =
+      let f = link-is-formed (lineAt s at) 0 z h 0 (omega arith) in
+      part-of-line s at _ _ (f .0) (f .1) ∙ link-name-is-field-1 (lineAt s at) z h
 
-  pub a-link-is-looked-up-by-field-2 : IsLink (fieldsAt s at) → part s secondName ≡ field (fieldsAt s at) 2
-  a-link-is-looked-up-by-field-2 h =
-      let f = link-is-formed (lineAt s at) 0 h 0 (omega arith) in
-      part-of-line s at _ _ (f .2) (f .3) ∙ link-name-is-field-2 (lineAt s at) h
+  pub a-link-is-looked-up-by-field-2 : (z : Sizing) → IsLink z (fieldsAt s at) → part s secondName ≡ field (fieldsAt s at) 2
+  a-link-is-looked-up-by-field-2 z h =
+      let f = link-is-formed (lineAt s at) 0 z h 0 (omega arith) in
+      part-of-line s at _ _ (f .2) (f .3) ∙ link-name-is-field-2 (lineAt s at) z h
 
 -- ---- a refused line has a cause
 
@@ -120,7 +121,7 @@ module _ (ed : Edition) (s : List ℕ) (net : Network) (k at : ℕ) where
         by false q (At v) f = (refl, given h d is (leb-false _ _ q) v f)
         by false q Absent f = tt
 
-    link-right : LinkWithin (ed .size) (lineAt s at) → (size : ℕ)
+    link-right : LinkWithin ed (lineAt s at) → (size : ℕ)
         → Right (linkStep k (net .links) size (lookup s (net .names) one) (lookup s (net .names) two))
     unfolding linkStep
     link-right is size = by (lookup s (net .names) one) (finds s one (net .names)) (lookup s (net .names) two) (finds s two (net .names))
@@ -135,7 +136,7 @@ module _ (ed : Edition) (s : List ℕ) (net : Network) (k at : ℕ) where
         by (At v) p Absent q = (refl, not-given h d is (inr q))
         by (At v) p (At w) q = either v w p q (eqb (joined (net .links) v w) 1) refl
 
-    fault-right : (n : ℕ) → faulty.LineFault (ed .size) (lineAt s at) n → Cause ed s net k at n
+    fault-right : (n : ℕ) → faulty.LineFault ed (lineAt s at) n → Cause ed s net k at n
     fault-right n (faulty.no-letter f) = no-letter h d f
     fault-right n (faulty.wrong-count f) = wrong-count h d f
     fault-right n (faulty.bad-name f) = bad-name h d f
@@ -143,8 +144,9 @@ module _ (ed : Edition) (s : List ℕ) (net : Network) (k at : ℕ) where
     fault-right n (faulty.bad-number f) = bad-number h d f
     fault-right n (faulty.too-large f) = too-large h d f
     fault-right n (faulty.too-much-held f) = too-much-held h d f
+    fault-right n (faulty.low-above-high f) = low-above-high h d f
 
-    record-right : (w : Line) → kind (ed .size) (lineAt s at) ≡ w → Tells (ed .size) (lineAt s at) w → Right (recordStep ed s net k at w)
+    record-right : (w : Line) → kind ed (lineAt s at) ≡ w → Tells ed (lineAt s at) w → Right (recordStep ed s net k at w)
     unfolding recordStep
     record-right (line.Site a e m) is form =
         subst (λ w. Right (recordStep ed s net k at w)) (sym (form .1))
@@ -152,25 +154,25 @@ module _ (ed : Edition) (s : List ℕ) (net : Network) (k at : ℕ) where
     record-right (line.Link a e b f size) is form =
         let g = form .0 .link in
         subst (λ w. Right (recordStep ed s net k at w)) (sym (form .1))
-        (rw (a-link-is-looked-up-by-field-1 s at g, a-link-is-looked-up-by-field-2 s at g) (link-right (form .0) _))
-    record-right (line.Fault n) is form = (refl, fault-right n (faulty.a-line-is-a-fault-just-for-its-cause (ed .size) (lineAt s at) n .0 is))
+        (rw (a-link-is-looked-up-by-field-1 s at (ed .sizing) g, a-link-is-looked-up-by-field-2 s at (ed .sizing) g) (link-right (form .0) _))
+    record-right (line.Fault n) is form = (refl, fault-right n (faulty.a-line-is-a-fault-just-for-its-cause ed (lineAt s at) n .0 is))
 
   heading-right : Ended s at → k ≡ 1 → Right (headingStep ed (lineAt s at))
   unfolding headingStep
-  heading-right h e = by (isHeading (ed .digit) (fieldsAt s at)) refl
+  heading-right h e = by (isHeading ed (fieldsAt s at)) refl
     where
-      by : (t : Bool) → isHeading (ed .digit) (fieldsAt s at) ≡ t → Right (cond t Nothing (Refused 2 1))
+      by : (t : Bool) → isHeading ed (fieldsAt s at) ≡ t → Right (cond t Nothing (Refused 2 1))
       by true is = tt
       by false is = (sym e, no-heading h e is)
 
   step-right : Right (stepOf ed s net k at)
   unfolding stepOf
   step-right =
-      by (ltb (at + lineLength (drop at s)) (length s)) refl (eqb k 1) refl (kind (ed .size) (lineAt s at)) refl
-      (a-kind-tells-its-form (ed .size) (lineAt s at))
+      by (ltb (at + lineLength (drop at s)) (length s)) refl (eqb k 1) refl (kind ed (lineAt s at)) refl
+      (a-kind-tells-its-form ed (lineAt s at))
     where
-      by : (t : Bool) → ltb (at + lineLength (drop at s)) (length s) ≡ t → (u : Bool) → eqb k 1 ≡ u → (w : Line) → kind (ed .size) (lineAt s at) ≡ w
-          → Tells (ed .size) (lineAt s at) w → Right (cond t (cond u (headingStep ed (lineAt s at)) (recordStep ed s net k at w)) (Refused 2 k))
+      by : (t : Bool) → ltb (at + lineLength (drop at s)) (length s) ≡ t → (u : Bool) → eqb k 1 ≡ u → (w : Line) → kind ed (lineAt s at) ≡ w
+          → Tells ed (lineAt s at) w → Right (cond t (cond u (headingStep ed (lineAt s at)) (recordStep ed s net k at w)) (Refused 2 k))
       by false e u f w is form = (refl, unended (λ h. omega (arith, ltb-false (at + lineLength (drop at s)) (length s) e, length-of-line s at)))
       by true e true f w is form =
           heading-right (omega (arith, ltb-true (at + lineLength (drop at s)) (length s) e, length-of-line s at)) (eqb-true k 1 f)
@@ -197,13 +199,13 @@ module _ (ed : Edition) (s : List ℕ) (net : Network) (k at : ℕ) where
   link-to-none size (At a) (At b) o = contradiction (⊎-elim (λ e. cc) (λ e. cc) o)
 
   -- a later line, by its kind
-  later : Ended s at → k ≢ 1 → (w : Line) → kind (ed .size) (lineAt s at) ≡ w → stepOf ed s net k at ≡ recordStep ed s net k at w
+  later : Ended s at → k ≢ 1 → (w : Line) → kind ed (lineAt s at) ≡ w → stepOf ed s net k at ≡ recordStep ed s net k at w
   later h d w is = later-step ed s net k at h d ∙ ap (recordStep ed s net k at) is
 
   -- a line at fault by itself
-  at-fault : Ended s at → k ≢ 1 → (n : ℕ) → faulty.LineFault (ed .size) (lineAt s at) n → stepOf ed s net k at ≡ Refused n k
+  at-fault : Ended s at → k ≢ 1 → (n : ℕ) → faulty.LineFault ed (lineAt s at) n → stepOf ed s net k at ≡ Refused n k
   unfolding recordStep
-  at-fault h d n f = later h d _ (faulty.a-line-is-a-fault-just-for-its-cause (ed .size) (lineAt s at) n .1 f)
+  at-fault h d n f = later h d _ (faulty.a-line-is-a-fault-just-for-its-cause ed (lineAt s at) n .1 f)
 
   step-of-a-cause : Sound ed s net → (n : ℕ) → Cause ed s net k at n → stepOf ed s net k at ≡ Refused n k
   unfolding headingStep recordStep siteStep linkStep
@@ -217,22 +219,23 @@ module _ (ed : Edition) (s : List ℕ) (net : Network) (k at : ℕ) where
   step-of-a-cause sound n (bad-number h d f) = at-fault h d 12 (faulty.bad-number f)
   step-of-a-cause sound n (too-large h d f) = at-fault h d 3 (faulty.too-large f)
   step-of-a-cause sound n (too-much-held h d f) = at-fault h d 13 (faulty.too-much-held f)
-  step-of-a-cause sound n (too-many h d is l) = later h d _ (a-site-by-its-form (ed .size) (lineAt s at) is) ∙ rw (le-leb _ _ l)
+  step-of-a-cause sound n (low-above-high h d f) = at-fault h d 19 (faulty.low-above-high f)
+  step-of-a-cause sound n (too-many h d is l) = later h d _ (a-site-by-its-form ed (lineAt s at) is) ∙ rw (le-leb _ _ l)
   step-of-a-cause sound n (given h d is l v f) =
-      later h d _ (a-site-by-its-form (ed .size) (lineAt s at) is)
+      later h d _ (a-site-by-its-form ed (lineAt s at) is)
       ∙ rw (lt-leb _ _ l, a-site-is-looked-up-by-field-1 s at is, found-is-named ed s net sound (field (fieldsAt s at) 1) v f)
   step-of-a-cause sound n (not-given h d is o) =
       let one = field (fieldsAt s at) 1 in
       let two = field (fieldsAt s at) 2 in
-      later h d _ (a-link-by-its-form (ed .size) (lineAt s at) is)
-      ∙ rw (a-link-is-looked-up-by-field-1 s at (is .link), a-link-is-looked-up-by-field-2 s at (is .link))
+      later h d _ (a-link-by-its-form ed (lineAt s at) is)
+      ∙ rw (a-link-is-looked-up-by-field-1 s at (ed .sizing) (is .link), a-link-is-looked-up-by-field-2 s at (ed .sizing) (is .link))
       (link-to-none _ (lookup s (net .names) one) (lookup s (net .names) two)
       (⊎-elim (λ z. inl (absent-is-not-given s one (net .names) z)) (λ z. inr (absent-is-not-given s two (net .names) z)) o))
   step-of-a-cause sound n (already-joined h d is v w p q j) =
-      later h d _ (a-link-by-its-form (ed .size) (lineAt s at) is)
+      later h d _ (a-link-by-its-form ed (lineAt s at) is)
       ∙ rw (
-        a-link-is-looked-up-by-field-1 s at (is .link),
-        a-link-is-looked-up-by-field-2 s at (is .link),
+        a-link-is-looked-up-by-field-1 s at (ed .sizing) (is .link),
+        a-link-is-looked-up-by-field-2 s at (ed .sizing) (is .link),
         found-is-named ed s net sound (field (fieldsAt s at) 1) v p,
         found-is-named ed s net sound (field (fieldsAt s at) 2) w q,
         eq-eqb _ _ (joined-iff (net .links) v w .1 j),

@@ -23,9 +23,9 @@ use Rattle.sheet.specs.Sheet.{Network, empty, Read, refused, accepted, s
 use Rattle.sheet.specs.declared.stepping.Step.{Step}
 use Rattle.sheet.specs.declared.stepping.Step.the-variants.{Refused}
 
--- what a line is, sizes being within a limit
+-- what a line of a sheet of an edition is
 abbrev pub Kinds : Type 0
-Kinds = ℕ → List ℕ → Line
+Kinds = Edition → List ℕ → Line
 
 -- the kinds from before Card 1, by which every fault of form is 2
 abbrev pub kindBefore : Kinds
@@ -64,7 +64,7 @@ module _ (kinds : Kinds) (find : Lookup) (ed : Edition) (s : List ℕ) where
   stepBy net k at =
       let line = lineAt s at in
       cond (ltb (at + lineLength (drop at s)) (length s))
-      (cond (eqb k 1) (headingStep ed line) (recordBy find ed s net k at (kinds (ed .size) line)))
+      (cond (eqb k 1) (headingStep ed line) (recordBy find ed s net k at (kinds ed line)))
       (Refused 2 k)
 
   unfoldable pub readLinesBy : ℕ → ℕ → ℕ → Network → Read

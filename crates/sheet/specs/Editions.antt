@@ -14,11 +14,10 @@ use Rattle.lists.specs.Numbers.{look}
 use Rattle.lists.specs.Sums.{cases, contradiction}
 use Rattle.model.specs.Limits.{BYTES, SITES, SIZE}
 use Rattle.model.specs.Edition.{edition1, edition2, editions, largest}
-use Rattle.model.specs.Text.{bytes}
 use Rattle.model.specs.declared.Edition.{Edition}
 use Rattle.text_lines.specs.Lines.{lineLength, lineAt}
 use Rattle.text_fields.specs.FieldLaws.{both, fails}
-use Rattle.sheet_kinds.specs.LineKinds.{same, fields, field, isHeading}
+use Rattle.sheet_kinds.specs.LineKinds.{same, fields, field, headingWord, isHeading}
 use Rattle.sheet_kinds.specs.LineKindLaws.{same-are-equal}
 use Rattle.sheet.specs.Sheet.{Network, refused, accepted, readAs, editionOf, readSheet, rangeIn, nameRange}
 use Rattle.sheet.specs.Causes.{Refusal, unended, no-heading, start, by-length, by-line}
@@ -27,7 +26,7 @@ use Rattle.sheet.specs.SheetTheorem.{IsNetwork, an-accepted-sheet-is-a-t
 
 -- line 1 is the heading of an edition
 abbrev pub Headed : Edition → List ℕ → Type 0
-Headed ed s = isHeading (ed .digit) (fields (lineAt s 0)) ≡ true
+Headed ed s = isHeading ed (fields (lineAt s 0)) ≡ true
 
 -- the editions that a planner from before Card 8 knows
 abbrev pub editionsBefore : List Edition
@@ -36,21 +35,21 @@ editionsBefore = edition1 ∷ []
 -- ---- the edition of a sheet
 
 -- a heading is of two fields, and the second is its digit
-second-field : (digit : ℕ) (fs : List (List ℕ)) → isHeading digit fs ≡ true → (length fs ≡ 2) × (field fs 1 ≡ digit ∷ [])
+second-field : (ed : Edition) (fs : List (List ℕ)) → isHeading ed fs ≡ true → (length fs ≡ 2) × (field fs 1 ≡ ed .digit ∷ [])
 unfolding isHeading
-second-field digit fs e =
-    let h = both (eqb (length fs) 2 && same (field fs 0) (bytes "network")) (same (field fs 1) (digit ∷ [])) e in
-    (eqb-true (length fs) 2 (both (eqb (length fs) 2) (same (field fs 0) (bytes "network")) (h .0) .0), same-are-equal _ _ (h .1))
+second-field ed fs e =
+    let h = both (eqb (length fs) 2 && same (field fs 0) (headingWord (ed .sizing))) (same (field fs 1) (ed .digit ∷ [])) e in
+    (eqb-true (length fs) 2 (both (eqb (length fs) 2) (same (field fs 0) (headingWord (ed .sizing))) (h .0) .0), same-are-equal _ _ (h .1))
 
 -- so it is of one edition
-one-digit : (fs : List (List ℕ)) → isHeading 50 fs ≡ true → isHeading 49 fs ≡ false
-one-digit fs e = fails (isHeading 49 fs)
-    (λ f. contradiction (omega (arith, ap (λ g. look g 0) (second-field 49 fs f .1), ap (λ g. look g 0) (second-field 50 fs e .1))))
+one-digit : (fs : List (List ℕ)) → isHeading edition2 fs ≡ true → isHeading edition1 fs ≡ false
+one-digit fs e = fails (isHeading edition1 fs)
+    (λ f. contradiction (omega (arith, ap (λ g. look g 0) (second-field edition1 fs f .1), ap (λ g. look g 0) (second-field edition2 fs e .1))))
 
 -- what holds of both editions that are known holds of that of a sheet
 pub of-the-edition : (P : Edition → Type 0) (s : List ℕ) → P edition1 → P edition2 → P (editionOf editions s)
 unfolding editionOf
-of-the-edition P s one two = by (isHeading 49 (fields (lineAt s 0))) (isHeading 50 (fields (lineAt s 0)))
+of-the-edition P s one two = by (isHeading edition1 (fields (lineAt s 0))) (isHeading edition2 (fields (lineAt s 0)))
   where
     by : (t u : Bool) → P (cond t edition1 (cond u edition2 edition1))
     by true u = one
@@ -63,7 +62,7 @@ headed-as-edition-2 s h = rw (one-digit (fields (lineAt s 0)) h, h)
 
 pub not-headed-as-edition-2 : (s : List ℕ) → ¬ (Headed edition2 s) → editionOf editions s ≡ edition1
 unfolding editionOf
-not-headed-as-edition-2 s none = rw (fails (isHeading 50 (fields (lineAt s 0))) none) (by (isHeading 49 (fields (lineAt s 0))))
+not-headed-as-edition-2 s none = rw (fails (isHeading edition2 (fields (lineAt s 0))) none) (by (isHeading edition1 (fields (lineAt s 0))))
   where
     by : (t : Bool) → cond t edition1 edition1 ≡ edition1
     by true = refl
@@ -76,7 +75,7 @@ edition-1-is-another-heading s one two = false≢true (sym (one-digit (fields (l
 -- a planner from before reads every sheet as one of edition 1
 pub edition-1-alone : (s : List ℕ) → editionOf editionsBefore s ≡ edition1
 unfolding editionOf
-edition-1-alone s = by (isHeading 49 (fields (lineAt s 0)))
+edition-1-alone s = by (isHeading edition1 (fields (lineAt s 0)))
   where
     by : (t : Bool) → cond t edition1 edition1 ≡ edition1
     by true = refl
@@ -123,7 +122,7 @@ module _ (s : List ℕ) (headed : Headed edition2 s) where
   some-bytes = by s headed
     where
       by : (z : List ℕ) → Headed edition2 z → 1 ≤ length z
-      by [] h = let none : length (fields (lineAt [] 0)) ≡ 1 = refl in absurd (omega (arith, second-field 50 (fields (lineAt [] 0)) h .0))
+      by [] h = let none : length (fields (lineAt [] 0)) ≡ 1 = refl in absurd (omega (arith, second-field edition2 (fields (lineAt [] 0)) h .0))
       by (b ∷ z) h = omega arith
 
   -- the new heading was refused with 2 at line 1

@@ -21,3 +21,4 @@ pub mod Marks
 pub mod Reserves
 pub mod Spelling
 pub mod Editions
+pub mod Ranges

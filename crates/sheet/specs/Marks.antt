@@ -40,13 +40,13 @@ module _ (ed : Edition) (s : List ℕ) (net : Network) (k at : ℕ) where
   -- a line with another letter was read alike up to Card 9
   step-alike : ¬ (MarkedAt s at) → stepBy kindUnmarked lookup ed s net k at ≡ stepBy kindBare lookup ed s net k at
   unfolding stepBy
-  step-alike d = rw (a-line-without-mark-is-as-before (ed .size) (lineAt s at) d)
+  step-alike d = rw (a-line-without-mark-is-as-before ed (lineAt s at) d)
 
   -- a line with the letter `T` was refused with 2, whatever the lines above had given
   pub a-marked-line-was-refused-with-2 : MarkedAt s at → stepBy kindUnmarked lookup ed s net k at ≡ Refused 2 k
   unfolding stepBy headingStep recordBy
   a-marked-line-was-refused-with-2 e =
-      rw (a-marked-line-had-no-known-letter (ed .size) (lineAt s at) e, a-marked-line-is-no-heading (ed .digit) (lineAt s at) e)
+      rw (a-marked-line-had-no-known-letter ed (lineAt s at) e, a-marked-line-is-no-heading ed (lineAt s at) e)
       (by (ltb (at + lineLength (drop at s)) (length s)) (eqb k 1) refl)
     where
       by : (t u : Bool) → eqb k 1 ≡ u → cond t (cond u (Refused 2 1) (Refused 2 k)) (Refused 2 k) ≡ Refused 2 k

@@ -16,7 +16,7 @@ use Rattle.model.specs.Flows.{joined}
 use Rattle.model.specs.Text.{bytes}
 use Rattle.model.specs.declared.Edition.{Edition}
 use Rattle.text_lines.specs.Lines.{lineLength, lineAt}
-use Rattle.sheet_kinds.specs.LineKinds.{field, isHeading, mark, usableSize, IsSite, kind}
+use Rattle.sheet_kinds.specs.LineKinds.{field, isHeading, mark, capacity, IsSite, kind}
 use Rattle.sheet_kinds.specs.LineKindLaws.{a-mark-tells-its-letter, no-mark-tells-its-letter}
 use Rattle.sheet_kinds.specs.KindForms.{LinkWithin, Tells, a-kind-tells-its-form}
 use Rattle.sheet_kinds.specs.declared.Line.{Line}
@@ -44,14 +44,14 @@ pub record OwnLine (ed : Edition) (s : List ℕ) (n : ℕ) (r : ℕ × ℕ) (m :
   pub name : part s r ≡ field (fieldsAt s offset) 1
   pub marked : m ≡ mark (fieldsAt s offset)
 
--- the line at an offset is a link line, its names are those of the sites a and b among names given above, and c is its usable size
+-- the line at an offset is a link line, its names are those of the sites a and b among names given above, and c is its capacity
 pub record IsLinkLine (ed : Edition) (s : List ℕ) (names : List (ℕ × ℕ)) (at a b c : ℕ) : Type 0 where
-  pub is-link : LinkWithin (ed .size) (lineAt s at)
+  pub is-link : LinkWithin ed (lineAt s at)
   pub first : Named s names (field (fieldsAt s at) 1) a
   pub second : Named s names (field (fieldsAt s at) 2) b
-  pub usable : c ≡ usableSize (fieldsAt s at)
+  pub usable : c ≡ capacity (ed .sizing) (fieldsAt s at)
 
--- a line of a sheet, read after j links, is the line of the link l, and c is its usable size (02, Card 5: size minus reserve)
+-- a line of a sheet, read after j links, is the line of the link l, and c is its capacity (02, Card 5: size minus reserve; Card 11: its low or its high size)
 pub record OwnLinkLine (ed : Edition) (s : List ℕ) (j : ℕ) (l : ℕ × ℕ) (c : ℕ) : Type 0 where
   pub number : ℕ
   pub offset : ℕ
@@ -79,8 +79,8 @@ module _ (ed : Edition) (s : List ℕ) (net : Network) (k at : ℕ) where
       by false (At v) = tt
       by false Absent = (is, refl, refl)
 
-  link-adds : LinkWithin (ed .size) (lineAt s at) → let one = field (fieldsAt s at) 1 in let two = field (fieldsAt s at) 2 in
-      Adds (linkStep k (net .links) (usableSize (fieldsAt s at)) (lookup s (net .names) one) (lookup s (net .names) two))
+  link-adds : LinkWithin ed (lineAt s at) → let one = field (fieldsAt s at) 1 in let two = field (fieldsAt s at) 2 in
+      Adds (linkStep k (net .links) (capacity (ed .sizing) (fieldsAt s at)) (lookup s (net .names) one) (lookup s (net .names) two))
   unfolding linkStep
   link-adds is = by (lookup s (net .names) one) (finds s one (net .names)) (lookup s (net .names) two) (finds s two (net .names))
     where
@@ -91,12 +91,12 @@ module _ (ed : Edition) (s : List ℕ) (net : Network) (k at : ℕ) where
       two = field (fieldsAt s at) 2
 
       either : (t : Bool) (a b : ℕ) → Named s (net .names) one a → Named s (net .names) two b
-          → Adds (cond t (Refused 7 k) (Link a b (usableSize (fieldsAt s at))))
+          → Adds (cond t (Refused 7 k) (Link a b (capacity (ed .sizing) (fieldsAt s at))))
       either true a b p q = tt
       either false a b p q = record { is-link = is; first = p; second = q; usable = refl }
 
       by : (u : Found) → Finds s (net .names) one u → (w : Found) → Finds s (net .names) two w
-          → Adds (linkStep k (net .links) (usableSize (fieldsAt s at)) u w)
+          → Adds (linkStep k (net .links) (capacity (ed .sizing) (fieldsAt s at)) u w)
       by Absent p w q = tt
       by (At a) p Absent q = tt
       by (At a) p (At b) q = either (eqb (joined (net .links) a b) 1) a b p q
@@ -105,24 +105,24 @@ module _ (ed : Edition) (s : List ℕ) (net : Network) (k at : ℕ) where
   heading-adds true = tt
   heading-adds false = tt
 
-  record-adds : (w : Line) → Tells (ed .size) (lineAt s at) w → Adds (recordStep ed s net k at w)
+  record-adds : (w : Line) → Tells ed (lineAt s at) w → Adds (recordStep ed s net k at w)
   unfolding recordStep
   record-adds (line.Site a e m) form = subst (λ w. Adds (recordStep ed s net k at w)) (sym (form .1)) (site-adds (form .0) _)
   record-adds (line.Link a e b f size) form =
       let is = form .0 .link in
       subst (λ w. Adds (recordStep ed s net k at w)) (sym (form .1))
-      (rw (a-link-is-looked-up-by-field-1 s at is, a-link-is-looked-up-by-field-2 s at is) (link-adds (form .0)))
+      (rw (a-link-is-looked-up-by-field-1 s at (ed .sizing) is, a-link-is-looked-up-by-field-2 s at (ed .sizing) is) (link-adds (form .0)))
   record-adds (line.Fault n) form = tt
 
   step-adds : Adds (stepOf ed s net k at)
   unfolding stepOf headingStep
   step-adds =
-      by (ltb (at + lineLength (drop at s)) (length s)) (eqb k 1) (kind (ed .size) (lineAt s at)) (a-kind-tells-its-form (ed .size) (lineAt s at))
+      by (ltb (at + lineLength (drop at s)) (length s)) (eqb k 1) (kind ed (lineAt s at)) (a-kind-tells-its-form ed (lineAt s at))
     where
-      by : (t u : Bool) (w : Line) → Tells (ed .size) (lineAt s at) w
+      by : (t u : Bool) (w : Line) → Tells ed (lineAt s at) w
           → Adds (cond t (cond u (headingStep ed (lineAt s at)) (recordStep ed s net k at w)) (Refused 2 k))
       by false u w form = tt
-      by true true w form = heading-adds (isHeading (ed .digit) (fieldsAt s at))
+      by true true w form = heading-adds (isHeading ed (fieldsAt s at))
       by true false w form = record-adds w form
 
   -- a line that is read adds no site, or its own, with its name and its mark

@@ -60,7 +60,7 @@ module _ (k : ℕ) (net : Network) (size : ℕ) where
 
 heading-before : (ed : Edition) (l : List ℕ) → headingStep ed l ≡ stepBefore (headingStep ed l)
 unfolding headingStep numberBefore
-heading-before ed l = by (isHeading (ed .digit) (fields l))
+heading-before ed l = by (isHeading ed (fields l))
   where
     by : (t : Bool) → cond t Nothing (Refused 2 1) ≡ stepBefore (cond t Nothing (Refused 2 1))
     by true = refl
@@ -77,8 +77,8 @@ module _ (ed : Edition) (s : List ℕ) where
     step-before : stepBy kindBefore lookup ed s net k at ≡ stepBefore (stepBy kindBare lookup ed s net k at)
     unfolding stepBy numberBefore
     step-before =
-        rw (a-line-is-as-before (ed .size) (lineAt s at))
-        (by (ltb (at + lineLength (drop at s)) (length s)) (eqb k 1) (kindBare (ed .size) (lineAt s at)))
+        rw (a-line-is-as-before ed (lineAt s at))
+        (by (ltb (at + lineLength (drop at s)) (length s)) (eqb k 1) (kindBare ed (lineAt s at)))
       where
         by : (t u : Bool) (w : Line) → let first = headingStep ed (lineAt s at) in
             cond t (cond u first (recordBy lookup ed s net k at (lineBefore w))) (Refused 2 k)
@@ -129,7 +129,7 @@ module _ (ed : Edition) (s : List ℕ) where
   pub a-sheet-is-read-by-its-kinds : readAsBy kind lookup ed s ≡ readAs ed s
   unfolding stepBy stepOf
   a-sheet-is-read-by-its-kinds =
-      a-sheet-is-read-alike kind lookup ed s (λ k at net r. rw (record-by-the-look-up ed s net k at (kind (ed .size) (lineAt s at))))
+      a-sheet-is-read-alike kind lookup ed s (λ k at net r. rw (record-by-the-look-up ed s net k at (kind ed (lineAt s at))))
 
   -- what was 2 before was one of 2, 10, 11, 12 up to Card 9, at the same line, and everything else stayed as it was
   pub a-sheet-was-read-as-before : readAsBy kindBefore lookup ed s ≡ readBefore (readAsBy kindBare lookup ed s)

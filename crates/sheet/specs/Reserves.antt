@@ -7,6 +7,7 @@ use Prim.Native.Nat.{ℕ}
 use lib.ListN.{length}
 use Rattle.model.specs.Text.{bytes}
 use Rattle.model.specs.declared.Edition.{Edition}
+use Rattle.model.specs.declared.Sizing.the-variants.{Reserved}
 use Rattle.text_lines.specs.Lines.{lineAt}
 use Rattle.sheet_kinds.specs.LineKinds.{field}
 use Rattle.sheet_kinds.specs.Unmarked.{a-line-without-mark-is-as-before}
@@ -22,13 +23,14 @@ use Rattle.sheet.specs.Marks.{WithoutMarks, another-letter}
 abbrev pub WithoutReserves : List ℕ → Type 0
 WithoutReserves s = (above : ℕ) → let fs = fieldsAt s (offset s above) in field fs 0 ≡ bytes "L" → length fs ≢ 5
 
-module _ (ed : Edition) (s : List ℕ) (none : WithoutReserves s) (unmarked : WithoutMarks s) (lettered : WithoutBareNames s) where
+module _ (ed : Edition) (network : ed .sizing ≡ Reserved) (s : List ℕ) (none : WithoutReserves s) (unmarked : WithoutMarks s)
+    (lettered : WithoutBareNames s) where
   step-alike : (k at : ℕ) (net : Network) → Reached ed s k at net → stepBy kindUnreserved lookup ed s net k at ≡ stepOf ed s net k at
   unfolding stepBy
   step-alike k at net r =
       let p = placed r in
-      let unreserved = a-line-without-reserve-is-as-before (ed .size) (lineAt s at) (rw (p .2) (none (p .0))) in
-      rw (unreserved, a-line-without-mark-is-as-before (ed .size) (lineAt s at) (another-letter ed s unmarked r))
+      let unreserved = a-line-without-reserve-is-as-before ed network (lineAt s at) (rw (p .2) (none (p .0))) in
+      rw (unreserved, a-line-without-mark-is-as-before ed (lineAt s at) (another-letter ed s unmarked r))
       (a-line-that-is-reached-is-as-before ed s lettered r)
 
   -- a sheet without reserves, marks and bare numbers for names is read as it was

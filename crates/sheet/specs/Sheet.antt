@@ -76,7 +76,7 @@ linkStep k ls size (At a) (At b) = cond (eqb (joined ls a b) 1) (Refused 7 k) (L
 
 -- line 1 is the edition's heading
 unfoldable pub headingStep : Edition → List ℕ → Step
-headingStep ed l = cond (isHeading (ed .digit) (fields l)) Nothing (Refused 2 1)
+headingStep ed l = cond (isHeading ed (fields l)) Nothing (Refused 2 1)
 
 -- a later line is a site or a link
 unfoldable pub recordStep : Edition → List ℕ → Network → ℕ → ℕ → Line → Step
@@ -90,7 +90,7 @@ unfoldable pub stepOf : Edition → List ℕ → Network → ℕ → ℕ → Ste
 stepOf ed s net k at =
     let line = lineAt s at in
     cond (ltb (at + lineLength (drop at s)) (length s))
-    (cond (eqb k 1) (headingStep ed line) (recordStep ed s net k at (kind (ed .size) line)))
+    (cond (eqb k 1) (headingStep ed line) (recordStep ed s net k at (kind ed line)))
     (Refused 2 k)
 
 -- the network with what a line adds, or its refusal
@@ -141,7 +141,7 @@ readAs ed s =
 -- Card 8)
 unfoldable pub editionOf : List Edition → List ℕ → Edition
 editionOf [] s = edition1
-editionOf (ed ∷ known) s = cond (isHeading (ed .digit) (fields (lineAt s 0))) ed (editionOf known s)
+editionOf (ed ∷ known) s = cond (isHeading ed (fields (lineAt s 0))) ed (editionOf known s)
 
 -- a sheet read by a planner that knows some editions: as one of its edition, which line 1 chooses before anything else
 abbrev pub readSheet : List Edition → List ℕ → Read

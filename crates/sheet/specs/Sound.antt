@@ -149,7 +149,7 @@ module _ (ed : Edition) (s : List ℕ) (net : Network) (k : ℕ) (sound : Sound 
   pub a-line-keeps-sound : (at : ℕ) → at ≤ length s → Accepts (Sound ed s) (readLine ed s net k at)
   unfolding readLine stepOf headingStep recordStep
   a-line-keeps-sound at b =
-      by (ltb (at + lineLength (drop at s)) (length s)) (eqb k 1) (kind (ed .size) (lineAt s at)) (kinds-are-formed (ed .size) (lineAt s at))
+      by (ltb (at + lineLength (drop at s)) (length s)) (eqb k 1) (kind ed (lineAt s at)) (kinds-are-formed ed (lineAt s at))
     where
       heading : (t : Bool) → Accepts (Sound ed s) (added net (cond t Nothing (Refused 2 1)))
       heading true = sound
@@ -163,7 +163,7 @@ module _ (ed : Edition) (s : List ℕ) (net : Network) (k : ℕ) (sound : Sound 
       by : (t u : Bool) (w : Line) → Formed (ed .size) (lineAt s at) w
           → Accepts (Sound ed s) (added net (cond t (cond u (headingStep ed (lineAt s at)) (recordStep ed s net k at w)) (Refused 2 k)))
       by false u w h = tt
-      by true true w h = heading (isHeading (ed .digit) (fields (lineAt s at)))
+      by true true w h = heading (isHeading ed (fields (lineAt s at)))
       by true false w h = later w h
 
 -- ---- the lines

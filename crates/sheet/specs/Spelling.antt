@@ -9,6 +9,7 @@ use Prim.Native.Nat.{ℕ, suc, _+_, _<_}
 use native.Mathlib.Omega.{arith}
 use lib.ListN.{length, getD}
 use Rattle.model.specs.declared.Edition.{Edition}
+use Rattle.model.specs.declared.Sizing.{Sizing}
 use Rattle.lists.specs.Numbers.{look}
 use Rattle.text_lines.specs.Lines.{lineAt}
 use Rattle.text_fields.specs.Fields.{same, capitals, SameName, sameName}
@@ -36,7 +37,8 @@ pub record SiteName (s f : List ℕ) : Type 0 where
 -- f is a name of a link line
 pub record LinkName (s f : List ℕ) : Type 0 where
   pub above : ℕ
-  pub is-link : IsLink (fieldsAt s (offset s above))
+  pub sizing : Sizing
+  pub is-link : IsLink sizing (fieldsAt s (offset s above))
   pub name : (f ≡ field (fieldsAt s (offset s above)) 1) ⊎ (f ≡ field (fieldsAt s (offset s above)) 2)
 
 -- no two names of site lines differ in case alone, and the link lines spell them as the site lines do
@@ -82,11 +84,23 @@ module _ (ed : Edition) (s : List ℕ) (alike : SpeltAlike s) where
         let p = placed r in
         record { above = p .0; is-site = rw (← (p .2)) is; name = rw (← (p .2)) (a-site-is-looked-up-by-field-1 s at is) }
 
-    link-names : IsLink (fieldsAt s at) → LinkName s (part s (firstName s at)) × LinkName s (part s (secondName s at))
+    link-names : IsLink (ed .sizing) (fieldsAt s at) → LinkName s (part s (firstName s at)) × LinkName s (part s (secondName s at))
     link-names is =
         let p = placed r in (
-          record { above = p .0; is-link = rw (← (p .2)) is; name = inl (rw (← (p .2)) (a-link-is-looked-up-by-field-1 s at is)) },
-          record { above = p .0; is-link = rw (← (p .2)) is; name = inr (rw (← (p .2)) (a-link-is-looked-up-by-field-2 s at is)) },
+          record {
+            above = p .0;
+            sizing = ed .sizing;
+            is-link = rw (← (p .2)) is;
+            name = inl (rw (← (p .2)) (a-link-is-looked-up-by-field-1 s at
+                (ed .sizing) is));
+          },
+          record {
+            above = p .0;
+            sizing = ed .sizing;
+            is-link = rw (← (p .2)) is;
+            name = inr (rw (← (p .2)) (a-link-is-looked-up-by-field-2 s at
+                (ed .sizing) is));
+          },
         )
 
     site-alike : IsSite (fieldsAt s at) → (m : ℕ) → let w = line.Site 2 (2 + length (field (fieldsAt s at) 1)) m in
@@ -94,7 +108,7 @@ module _ (ed : Edition) (s : List ℕ) (alike : SpeltAlike s) where
     unfolding recordBy recordStep
     site-alike is m = rw (found-alike (firstName s at) (inl (site-name is)))
 
-    link-alike : IsLink (fieldsAt s at) → (size : ℕ) → let one = length (field (fieldsAt s at) 1) in
+    link-alike : IsLink (ed .sizing) (fieldsAt s at) → (size : ℕ) → let one = length (field (fieldsAt s at) 1) in
         let w = line.Link 2 (2 + one) (3 + one) (3 + one + length (field (fieldsAt s at) 2)) size in
         recordBy lookupBytes ed s net k at w ≡ recordStep ed s net k at w
     unfolding recordBy recordStep
@@ -102,7 +116,7 @@ module _ (ed : Edition) (s : List ℕ) (alike : SpeltAlike s) where
         let names = link-names is in
         rw (found-alike (firstName s at) (inr (names .0)), found-alike (secondName s at) (inr (names .1)))
 
-    record-alike : (w : Line) → Tells (ed .size) (lineAt s at) w → recordBy lookupBytes ed s net k at w ≡ recordStep ed s net k at w
+    record-alike : (w : Line) → Tells ed (lineAt s at) w → recordBy lookupBytes ed s net k at w ≡ recordStep ed s net k at w
     unfolding recordBy recordStep
     record-alike (line.Site a e m) form =
         subst (λ w. recordBy lookupBytes ed s net k at w ≡ recordStep ed s net k at w) (sym (form .1)) (site-alike (form .0) _)
@@ -112,7 +126,7 @@ module _ (ed : Edition) (s : List ℕ) (alike : SpeltAlike s) where
 
     step-alike : stepBy kind lookupBytes ed s net k at ≡ stepOf ed s net k at
     unfolding stepBy stepOf
-    step-alike = rw (record-alike (kind (ed .size) (lineAt s at)) (a-kind-tells-its-form (ed .size) (lineAt s at)))
+    step-alike = rw (record-alike (kind ed (lineAt s at)) (a-kind-tells-its-form ed (lineAt s at)))
 
   -- a sheet on which no two names differ in case alone is read as it was
   pub a-sheet-spelt-alike-is-read-as-before : readAsBy kind lookupBytes ed s ≡ readAs ed s

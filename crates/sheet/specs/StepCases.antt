@@ -26,7 +26,7 @@ module _ (ed : Edition) (s : List ℕ) (net : Network) (k at : ℕ) where
   unfolding stepOf
   first-step h e = rw (lt-ltb (at + lineLength (drop at s)) (length s) (omega (arith, length-of-line s at)), eq-eqb k 1 e)
 
-  pub later-step : at + length (lineAt s at) < length s → k ≢ 1 → stepOf ed s net k at ≡ recordStep ed s net k at (kind (ed .size) (lineAt s at))
+  pub later-step : at + length (lineAt s at) < length s → k ≢ 1 → stepOf ed s net k at ≡ recordStep ed s net k at (kind ed (lineAt s at))
   unfolding stepOf
   later-step h d = rw (lt-ltb (at + lineLength (drop at s)) (length s) (omega (arith, length-of-line s at)), ne-eqb k 1 d)
 

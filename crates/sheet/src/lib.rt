@@ -3,7 +3,7 @@ ghost use mathlib.Core.Path.{_≡_};
 ghost use Prim.Native.Nat.{_≤_};
 ghost use lib.ListN.{length};
 ghost use Rattle.model.specs.Limits.{SITES};
-ghost use Rattle.model.specs.Edition.{editions};
+ghost use Rattle.model.specs.Edition.{editions, rangesLow, rangesHigh};
 ghost use Rattle.sheet.specs.Sheet.{empty, refused, readLines, andThen, finish, readAs, editionOf, readSheet, nameRange};
 ghost use Rattle.sheet_names.specs.Names.{IsPart};
 ghost use Rattle.sheet.specs.Reading.{lists, reading};
@@ -144,7 +144,7 @@ fn edition_of(sheet: &[u8]) -> Edition
     ensures { λ r. ⌜ r ≡ editionOf editions (now (sheet .entry)) ⌝ }
 {
     let second = Edition::second();
-    if sheet_kinds::is_heading(text_lines::line(sheet, 0), second.digit) {
+    if sheet_kinds::is_heading(text_lines::line(sheet, 0), second) {
         return second;
     }
     Edition::first()
@@ -155,6 +155,20 @@ pub fn read(sheet: &[u8]) -> Reading
     ensures { λ r. ⌜ r ≡ reading (readSheet editions (now (sheet .entry))) ⌝ }
 {
     read_as(sheet, edition_of(sheet))
+}
+
+// A range sheet read (02, Card 11), its low sizes taken for the capacities.
+pub fn read_low(sheet: &[u8]) -> Reading
+    ensures { λ r. ⌜ r ≡ reading (readAs rangesLow (now (sheet .entry))) ⌝ }
+{
+    read_as(sheet, Edition::low())
+}
+
+// A range sheet read, its high sizes taken for the capacities.
+pub fn read_high(sheet: &[u8]) -> Reading
+    ensures { λ r. ⌜ r ≡ reading (readAs rangesHigh (now (sheet .entry))) ⌝ }
+{
+    read_as(sheet, Edition::high())
 }
 
 // The name of a site, by its number: the bytes of its own `N` or `T` line, that very part of the sheet; an empty part for a number without a site, or

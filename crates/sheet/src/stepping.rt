@@ -82,7 +82,7 @@ fn link_step(here: usize, labels: &[u16; PLACES], first: Found, second: Found, s
 fn heading_step(edition: Edition, line: &[u8]) -> Step
     ensures { λ r. ⌜ r ≡ headingStep edition (now (line .entry)) ⌝ }
 {
-    if sheet_kinds::is_heading(line, edition.digit) {
+    if sheet_kinds::is_heading(line, edition) {
         return Step::Nothing;
     }
     Step::Refused { number: 2, line: 1 }
@@ -158,7 +158,7 @@ pub fn step_at<'a>(
     if number == 1 {
         return heading_step(edition, line);
     }
-    let kind = sheet_kinds::classify(line, edition.size);
+    let kind = sheet_kinds::classify(line, edition);
     record_step(
         edition,
         number,

@@ -9,6 +9,7 @@ use lib.Dec.{leb}
 use lib.ListN.{length}
 use lib.Seq.{slice}
 use Rattle.model.specs.Text.{bytes}
+use Rattle.model.specs.declared.Edition.{Edition}
 use Rattle.text_grammar.specs.Grammar.{isLettered, RightCount}
 use Rattle.text_grammar.specs.RuleLaws as rule
 use Rattle.text_grammar.specs.declared.Form.{Form}
@@ -35,14 +36,14 @@ checkedBare form fs =
 unfoldable pub siteBare : ℕ → ℕ → List (List ℕ) → Line
 siteBare letter mark fs = judged (checkedBare (siteForm letter) fs) (Site 2 (2 + length (field fs 1)) mark)
 
-unfoldable pub linkBare : ℕ → List (List ℕ) → Line
-linkBare most fs = judged (checkedBare linkForm fs) (sizedLink most fs)
+unfoldable pub linkBare : Edition → List (List ℕ) → Line
+linkBare ed fs = judged (checkedBare (linkForm (ed .sizing)) fs) (sizedLink ed fs)
 
 -- what a line was
-unfoldable pub kindBare : ℕ → List ℕ → Line
-kindBare most l =
+unfoldable pub kindBare : Edition → List ℕ → Line
+kindBare ed l =
     let fs = fields l in
-    cond (same (field fs 0) (bytes "L")) (linkBare most fs)
+    cond (same (field fs 0) (bytes "L")) (linkBare ed fs)
     (cond (same (field fs 0) (bytes "T")) (siteBare 84 1 fs) (siteBare 78 0 fs))
 
 -- ---- the laws
@@ -71,19 +72,20 @@ module _ (form : Form) (fs : List (List ℕ)) where
   formed-are-counted e =
       ⊎-elim (λ s. rule.a-formed-line-keeps-the-rules form fs (sym s ∙ e) .counted) (λ h. h .counted) checked-as-before
 
-module _ (most : ℕ) (l : List ℕ) where
+module _ (ed : Edition) (l : List ℕ) where
   judged-as-before : (form : Form) (w : Line)
       → (judged (checkedBare form (fields l)) w ≡ judged (checked form (fields l)) w) ⊎ BareName form (fields l)
   judged-as-before form w = ⊎-elim (λ e. inl (ap (λ c. judged c w) e)) inr (checked-as-before form (fields l))
 
   -- a line is what it was, or a name of it is of digits alone
-  pub a-line-is-as-before-or-bare : (kindBare most l ≡ kind most l) ⊎ Broken BareName l
+  pub a-line-is-as-before-or-bare : (kindBare ed l ≡ kind ed l) ⊎ Broken (ed .sizing) BareName l
   unfolding kindBare kind kindOf siteBare linkBare siteLine linkLine
   a-line-is-as-before-or-bare =
-      by (same (field (fields l) 0) (bytes "L")) _ _ _ _ (⊎-elim inl (λ h. inr (inr h)) (judged-as-before linkForm _))
+      by (same (field (fields l) 0) (bytes "L")) _ _ _ _ (⊎-elim inl (λ h. inr (inr h)) (judged-as-before (linkForm (ed .sizing)) _))
       (by (same (field (fields l) 0) (bytes "T")) _ _ _ _ (⊎-elim inl (λ h. inr (inl (inr h))) (judged-as-before (siteForm 84) _))
       (⊎-elim inl (λ h. inr (inl (inl h))) (judged-as-before (siteForm 78) _)))
     where
-      by : (t : Bool) (v w x y : Line) → (v ≡ w) ⊎ Broken BareName l → (x ≡ y) ⊎ Broken BareName l → (cond t v x ≡ cond t w y) ⊎ Broken BareName l
+      by : (t : Bool) (v w x y : Line) → (v ≡ w) ⊎ Broken (ed .sizing) BareName l → (x ≡ y) ⊎ Broken (ed .sizing) BareName l
+          → (cond t v x ≡ cond t w y) ⊎ Broken (ed .sizing) BareName l
       by true v w x y h k = h
       by false v w x y h k = k

@@ -9,13 +9,15 @@ use native.Mathlib.Nat.{sub-zero}
 use native.Mathlib.Omega.{arith}
 use lib.ListN.{length, getD, take, drop}
 use Rattle.model.specs.Text.{bytes}
+use Rattle.model.specs.declared.Edition.{Edition}
+use Rattle.model.specs.declared.Sizing.{Sizing}
 use Rattle.text_grammar.specs.Grammar.{ends, split}
 use Rattle.text_grammar.specs.SplitLaws.{field-lies, length-of-field, end-of-split}
 use Rattle.text_grammar.specs.declared.Fields.{Fields}
 use Rattle.text_grammar.specs.declared.Check.the-variants as check
 use Rattle.sheet_kinds.specs.LineKinds.{same, fields, field, isName, checked, siteForm, plainForm, markedForm, linkForm, IsSite, IsLink}
-use Rattle.sheet_kinds.specs.LineKinds.{siteLine, usableSize, linkOf, sizedLink, linkLine, kindOf, kind}
-use Rattle.sheet_kinds.specs.LineKindLaws.{judged-cases, parts-of-a-site, site-parts, one-letter, link-parts, capacity-cases}
+use Rattle.sheet_kinds.specs.LineKinds.{siteLine, capacity, linkOf, sizedLink, linkLine, kindOf, kind}
+use Rattle.sheet_kinds.specs.LineKindLaws.{judged-cases, parts-of-a-site, site-parts, one-letter, link-parts, taken-is-within, capacity-cases}
 use Rattle.sheet_kinds.specs.declared.Line.{Line}
 use Rattle.sheet_kinds.specs.declared.Line.the-variants.{Site, Link, Fault}
 
@@ -59,17 +61,12 @@ module _ (l : List ℕ) where
         let n : 1 < length (fields l) = omega (arith, k .count) in
         (omega arith, omega (arith, field-lies 1 l 0 n .within, second-end n short), rw (part-of-field-1 n short) (k .name), h)
 
-    pub link-is-formed : IsLink (fields l) → (size : ℕ) → size ≤ most → Formed most l (Link 2 (2 + one) (3 + one) (3 + one + two) size)
-    link-is-formed e size h =
-        let k = link-parts (fields l) e in
+    pub link-is-formed : (z : Sizing) → IsLink z (fields l) → (size : ℕ) → size ≤ most → Formed most l (Link 2 (2 + one) (3 + one) (3 + one + two) size)
+    link-is-formed z e size h =
+        let k = link-parts z (fields l) e in
         let n : 2 < length (fields l) = omega (arith, k .enough) in
         let room : 3 + one + two ≤ length l = omega (arith, third-end n (ap length (k .letter)), field-lies 2 l 0 n .within) in
         (omega arith, omega arith, omega arith, room, h)
-
-    sized-is-formed : IsLink (fields l) → Formed most l (sizedLink most (fields l))
-    unfolding sizedLink
-    sized-is-formed e = capacity-cases (λ c. Formed most l (linkOf one two c)) most (field (fields l) 3) (field (fields l) 4)
-        (λ o. tt) (λ a b h. tt) (λ a b. link-is-formed e (usableSize (fields l)) (omega arith))
 
     as-site : Formed most l (siteLine 78 0 (fields l))
     unfolding siteLine
@@ -79,9 +76,16 @@ module _ (l : List ℕ) where
     unfolding siteLine
     as-marked = judged-cases (Formed most l) (checked markedForm (fields l)) _ (λ e. site-is-formed (inr e) 1 (omega arith)) (λ d. tt)
 
-    as-link : Formed most l (linkLine most (fields l))
+  module _ (ed : Edition) where
+    sized-is-formed : IsLink (ed .sizing) (fields l) → Formed (ed .size) l (sizedLink ed (fields l))
+    unfolding sizedLink
+    sized-is-formed e = capacity-cases (λ c. Formed (ed .size) l (linkOf one two c)) (ed .sizing) (ed .size) (field (fields l) 3) (field (fields l) 4)
+        (λ o. tt) (λ a b h. tt)
+        (λ a b h. link-is-formed (ed .size) (ed .sizing) e (capacity (ed .sizing) (fields l)) (taken-is-within (ed .sizing) _ _ (ed .size) a b))
+
+    as-link : Formed (ed .size) l (linkLine ed (fields l))
     unfolding linkLine
-    as-link = judged-cases (Formed most l) (checked linkForm (fields l)) _ sized-is-formed (λ d. tt)
+    as-link = judged-cases (Formed (ed .size) l) (checked (linkForm (ed .sizing)) (fields l)) _ sized-is-formed (λ d. tt)
 
 -- the ends of the names, as the code holds them, and that they lie within the line
 pub site-end : (l : List ℕ) (found : Fields) → found ≡ split l → (letter : ℕ) → checked (siteForm letter) (fields l) ≡ check.Formed
@@ -91,25 +95,25 @@ site-end l found e letter h =
     let n : 1 < length (fields l) = omega (arith, k .0) in
     rw e (end-of-split l 1 (omega arith) n ∙ second-end l n (ap length (k .1)))
 
-pub link-ends : (l : List ℕ) (found : Fields) → found ≡ split l → IsLink (fields l) → let one = length (field (fields l) 1) in
+pub link-ends : (l : List ℕ) (found : Fields) → found ≡ split l → (z : Sizing) → IsLink z (fields l) → let one = length (field (fields l) 1) in
     let two = length (field (fields l) 2) in
     (getD (found .end) 1 0 ≡ 2 + one) × (getD (found .end) 2 0 ≡ 3 + one + two) × (3 + one + two ≤ length l)
-link-ends l found e h =
-    let k = link-parts (fields l) h in
+link-ends l found e z h =
+    let k = link-parts z (fields l) h in
     let short = ap length (k .letter) in
     let n : 2 < length (fields l) = omega (arith, k .enough) in
     let m : 1 < length (fields l) = omega arith in
     rw e (
       end-of-split l 1 (omega arith) m ∙ second-end l m short,
       end-of-split l 2 (omega arith) n ∙ third-end l n short,
-      link-is-formed l 0 h 0 (omega arith) .3,
+      link-is-formed l 0 z h 0 (omega arith) .3,
     )
 
-pub kinds-are-formed : (most : ℕ) (l : List ℕ) → Formed most l (kind most l)
+pub kinds-are-formed : (ed : Edition) (l : List ℕ) → Formed (ed .size) l (kind ed l)
 unfolding kind kindOf
-kinds-are-formed most l = by (same (field (fields l) 0) (bytes "L")) (same (field (fields l) 0) (bytes "T"))
+kinds-are-formed ed l = by (same (field (fields l) 0) (bytes "L")) (same (field (fields l) 0) (bytes "T"))
   where
-    by : (u v : Bool) → let fs = fields l in Formed most l (cond u (linkLine most fs) (cond v (siteLine 84 1 fs) (siteLine 78 0 fs)))
-    by true v = as-link l most
-    by false true = as-marked l most
-    by false false = as-site l most
+    by : (u v : Bool) → let fs = fields l in Formed (ed .size) l (cond u (linkLine ed fs) (cond v (siteLine 84 1 fs) (siteLine 78 0 fs)))
+    by true v = as-link l ed
+    by false true = as-marked l (ed .size)
+    by false false = as-site l (ed .size)

@@ -7,3 +7,4 @@ pub mod BareNames
 pub mod Numbering
 pub mod Unmarked
 pub mod Unreserved
+pub mod RangeLines

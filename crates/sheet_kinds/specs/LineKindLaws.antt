@@ -3,12 +3,14 @@ use mathlib.Core.Bool.{Bool, true, false, cond, false≢true}
 use mathlib.Core.List.{List, [], _∷_}
 use mathlib.Core.Logic.{_⊎_, inl, inr, _↔_, _≢_, ⊎-elim}
 use mathlib.Core.Path.{_≡_, refl, sym, ap, _∙_}
-use Prim.Native.Nat.{ℕ, _-_, _≤_, _<_}
+use Prim.Native.Nat.{ℕ, _+_, _-_, _≤_, _<_}
 use native.Mathlib.Omega.{arith}
 use lib.Dec.{leb}
 use lib.ListN.{length, List·getD-eq-default}
 use borrow.Author.Tests.{eq-eqb, ne-eqb, leb-true, leb-false, le-leb}
 use Rattle.model.specs.Text.{bytes}
+use Rattle.model.specs.declared.Sizing.{Sizing}
+use Rattle.model.specs.declared.Sizing.the-variants.{Reserved, Low, High}
 use Rattle.text_grammar.specs.declared.Check.{Check}
 use Rattle.text_grammar.specs.declared.Check.the-variants as check
 use Rattle.text_grammar.specs.declared.Size.the-variants.{Within, Above}
@@ -16,7 +18,7 @@ use Rattle.text_grammar.specs.FormLaws.{formed-or-faulty}
 use Rattle.text_grammar.specs.RuleLaws as rule
 pub use Rattle.text_fields.specs.FieldLaws.{both, same-are-equal, equal-are-same, name-length}
 use Rattle.sheet_kinds.specs.LineKinds.{same, field, all, digitsAlone, isName, isNumber, value, checkedFields, checked, faultOf, siteForm, linkForm}
-use Rattle.sheet_kinds.specs.LineKinds.{IsSite, IsLink, judged, mark, reserve, valueFrom, sizeOf, capacityOf}
+use Rattle.sheet_kinds.specs.LineKinds.{IsSite, IsLink, judged, mark, reserve, valueFrom, sizeOf, leastNumbers, taken, paired, capacityOf}
 use Rattle.sheet_kinds.specs.declared.Line.{Line}
 use Rattle.sheet_kinds.specs.declared.Line.the-variants.{Fault}
 use Rattle.sheet_kinds.specs.declared.Capacity.{Capacity}
@@ -34,8 +36,9 @@ pub record SiteParts (fs : List (List ℕ)) : Type 0 where
   pub name : isName (field fs 1) ≡ true
   pub lettered : digitsAlone (field fs 1) ≡ false
 
--- four or five fields, `L`, two names, neither of digits alone, and a number, and a number where there is a fifth
-pub record LinkParts (fs : List (List ℕ)) : Type 0 where
+-- four or five fields, on a range sheet five, `L`, two names, neither of digits alone, and a number, and a number where there is a fifth
+pub record LinkParts (z : Sizing) (fs : List (List ℕ)) : Type 0 where
+  pub least : 3 + leastNumbers z ≤ length fs
   pub enough : 4 ≤ length fs
   pub no-more : length fs ≤ 5
   pub letter : field fs 0 ≡ bytes "L"
@@ -78,11 +81,19 @@ no-mark-tells-its-letter fs is = (
   λ e. rw e,
 )
 
-pub link-parts : (fs : List (List ℕ)) → IsLink fs → LinkParts fs
-link-parts fs e =
-    let k = rule.a-formed-line-keeps-the-rules linkForm fs e in
+-- there is at least one number, and at most two
+pub some-numbers : (z : Sizing) → (1 ≤ leastNumbers z) × (leastNumbers z ≤ 2)
+some-numbers Reserved = (omega arith, omega arith)
+some-numbers Low = (omega arith, omega arith)
+some-numbers High = (omega arith, omega arith)
+
+pub link-parts : (z : Sizing) (fs : List (List ℕ)) → IsLink z fs → LinkParts z fs
+link-parts z fs e =
+    let k = rule.a-formed-line-keeps-the-rules (linkForm z) fs e in
     let c = k .counted in
+    let some = some-numbers z .0 in
     record {
+      least = omega (arith, c .enough);
       enough = omega (arith, c .enough);
       no-more = omega (arith, c .no-more);
       letter = c .letter;
@@ -110,18 +121,19 @@ site-made fs k =
 pub site-is-its-parts : (fs : List (List ℕ)) → IsSite fs ↔ SiteParts fs
 site-is-its-parts fs = (site-parts fs, site-made fs)
 
-link-made : (fs : List (List ℕ)) → LinkParts fs → IsLink fs
+link-made : (z : Sizing) (fs : List (List ℕ)) → LinkParts z fs → IsLink z fs
 unfolding checked checkedFields all same
-link-made [] k = absurd (omega (arith, k .enough))
-link-made (a ∷ []) k = absurd (omega (arith, k .enough))
-link-made (a ∷ b ∷ []) k = absurd (omega (arith, k .enough))
-link-made (a ∷ b ∷ c ∷ []) k = absurd (omega (arith, k .enough))
-link-made (a ∷ b ∷ c ∷ d ∷ []) k = rw (k .letter, k .name, k .lettered, k .name2, k .lettered2, k .size)
-link-made (a ∷ b ∷ c ∷ d ∷ e ∷ []) k = rw (k .letter, k .name, k .lettered, k .name2, k .lettered2, k .size, k .reserve refl)
-link-made (a ∷ b ∷ c ∷ d ∷ e ∷ f ∷ fs) k = absurd (omega (arith, k .no-more))
+link-made z [] k = absurd (omega (arith, k .enough))
+link-made z (a ∷ []) k = absurd (omega (arith, k .enough))
+link-made z (a ∷ b ∷ []) k = absurd (omega (arith, k .enough))
+link-made z (a ∷ b ∷ c ∷ []) k = absurd (omega (arith, k .enough))
+link-made z (a ∷ b ∷ c ∷ d ∷ []) k = rw (k .letter, le-leb (3 + leastNumbers z) 4 (k .least), k .name, k .lettered, k .name2, k .lettered2, k .size)
+link-made z (a ∷ b ∷ c ∷ d ∷ e ∷ []) k =
+    rw (k .letter, le-leb (3 + leastNumbers z) 5 (k .least), k .name, k .lettered, k .name2, k .lettered2, k .size, k .reserve refl)
+link-made z (a ∷ b ∷ c ∷ d ∷ e ∷ f ∷ fs) k = absurd (omega (arith, k .no-more))
 
-pub link-is-its-parts : (fs : List (List ℕ)) → IsLink fs ↔ LinkParts fs
-link-is-its-parts fs = (link-parts fs, link-made fs)
+pub link-is-its-parts : (z : Sizing) (fs : List (List ℕ)) → IsLink z fs ↔ LinkParts z fs
+link-is-its-parts z fs = (link-parts z fs, link-made z fs)
 
 -- ---- as the code finds it
 
@@ -146,32 +158,79 @@ pub no-reserve : (most : ℕ) (fs : List (List ℕ)) → length fs < 5 → sizeO
 unfolding sizeOf
 no-reserve most fs h = rw (no-fifth fs h, le-leb 0 most (omega arith))
 
--- ---- by the size and the reserve
+-- ---- by the two numbers
 
-module _ (P : Capacity → Type 0) (most : ℕ) (f g : List ℕ) where
-  -- what holds of a capacity: either is above the limit; or neither, and the reserve is above the size; or it is not
-  pub capacity-cases : ((most < value f) ⊎ (most < value g) → P (Faulty 3)) → (value f ≤ most → value g ≤ most → value f < value g → P (Faulty 13))
-      → (value f ≤ most → value g ≤ value f → P (Usable (value f - value g))) → P (capacityOf (sizeOf most f) (sizeOf most g))
+-- two numbers that give a capacity: the reserve is not above the size; the low size is not above the high one
+abbrev pub Together : Sizing → ℕ → ℕ → Type 0
+Together Reserved a b = b ≤ a
+Together Low a b = a ≤ b
+Together High a b = a ≤ b
+
+-- two that give none, and the number of that fault
+abbrev pub Apart : Sizing → ℕ → ℕ → Type 0
+Apart Reserved a b = a < b
+Apart Low a b = b < a
+Apart High a b = b < a
+
+abbrev pub apartIs : Sizing → ℕ
+apartIs Reserved = 13
+apartIs Low = 19
+apartIs High = 19
+
+pub taken-is-within : (z : Sizing) (a b most : ℕ) → a ≤ most → b ≤ most → taken z a b ≤ most
+taken-is-within Reserved a b most h k = omega arith
+taken-is-within Low a b most h k = h
+taken-is-within High a b most h k = k
+
+pub not-both : (z : Sizing) (a b : ℕ) → Together z a b → Apart z a b → ⊥
+not-both Reserved a b h k = omega arith
+not-both Low a b h k = omega arith
+not-both High a b h k = omega arith
+
+paired-cases : (P : Capacity → Type 0) (z : Sizing) (a b : ℕ) → (Apart z a b → P (Faulty (apartIs z))) → (Together z a b → P (Usable (taken z a b)))
+    → P (paired z a b)
+paired-cases P Reserved a b apart together = by (leb b a) refl
+  where
+    by : (t : Bool) → leb b a ≡ t → P (cond t (Usable (a - b)) (Faulty 13))
+    by true e = together (leb-true _ _ e)
+    by false e = apart (leb-false _ _ e)
+paired-cases P Low a b apart together = by (leb a b) refl
+  where
+    by : (t : Bool) → leb a b ≡ t → P (cond t (Usable a) (Faulty 19))
+    by true e = together (leb-true _ _ e)
+    by false e = apart (leb-false _ _ e)
+paired-cases P High a b apart together = by (leb a b) refl
+  where
+    by : (t : Bool) → leb a b ≡ t → P (cond t (Usable b) (Faulty 19))
+    by true e = together (leb-true _ _ e)
+    by false e = apart (leb-false _ _ e)
+
+module _ (P : Capacity → Type 0) (z : Sizing) (most : ℕ) (f g : List ℕ) where
+  -- what holds of a capacity: either is above the limit; or neither, and the two give no capacity; or they do
+  pub capacity-cases : ((most < value f) ⊎ (most < value g) → P (Faulty 3))
+      → (value f ≤ most → value g ≤ most → Apart z (value f) (value g) → P (Faulty (apartIs z)))
+      → (value f ≤ most → value g ≤ most → Together z (value f) (value g) → P (Usable (taken z (value f) (value g))))
+      → P (capacityOf z (sizeOf most f) (sizeOf most g))
   unfolding capacityOf sizeOf
-  capacity-cases large held usable = by (leb (value f) most) refl (leb (value g) most) refl (leb (value g) (value f)) refl
+  capacity-cases large apart together = by (leb (value f) most) refl (leb (value g) most) refl
     where
-      by : (t : Bool) → leb (value f) most ≡ t → (u : Bool) → leb (value g) most ≡ u → (v : Bool) → leb (value g) (value f) ≡ v
-          → P (capacityOf (cond t (Within (value f)) Above) (cond u (Within (value g)) Above))
-      by false a u b v c = large (inl (leb-false _ _ a))
-      by true a false b v c = large (inr (leb-false _ _ b))
-      by true a true b false c = rw c (held (leb-true _ _ a) (leb-true _ _ b) (leb-false _ _ c))
-      by true a true b true c = rw c (usable (leb-true _ _ a) (leb-true _ _ c))
+      by : (t : Bool) → leb (value f) most ≡ t → (u : Bool) → leb (value g) most ≡ u
+          → P (capacityOf z (cond t (Within (value f)) Above) (cond u (Within (value g)) Above))
+      by false a u b = large (inl (leb-false _ _ a))
+      by true a false b = large (inr (leb-false _ _ b))
+      by true a true b = paired-cases P z (value f) (value g) (apart (leb-true _ _ a) (leb-true _ _ b)) (together (leb-true _ _ a) (leb-true _ _ b))
 
-module _ (most : ℕ) (f g : List ℕ) where
+module _ (z : Sizing) (most : ℕ) (f g : List ℕ) where
   -- and each of these makes it
-  pub above-is-3 : (most < value f) ⊎ (most < value g) → capacityOf (sizeOf most f) (sizeOf most g) ≡ Faulty 3
-  above-is-3 o = capacity-cases (λ c. c ≡ Faulty 3) most f g (λ p. refl) (λ a b l. absurd (⊎-elim (λ p. omega arith) (λ p. omega arith) o))
-      (λ a b. absurd (⊎-elim (λ p. omega arith) (λ p. omega arith) o))
+  pub above-is-3 : (most < value f) ⊎ (most < value g) → capacityOf z (sizeOf most f) (sizeOf most g) ≡ Faulty 3
+  above-is-3 o = capacity-cases (λ c. c ≡ Faulty 3) z most f g (λ p. refl) (λ a b l. absurd (⊎-elim (λ p. omega arith) (λ p. omega arith) o))
+      (λ a b l. absurd (⊎-elim (λ p. omega arith) (λ p. omega arith) o))
 
-  pub above-the-size-is-13 : value f ≤ most → value g ≤ most → value f < value g → capacityOf (sizeOf most f) (sizeOf most g) ≡ Faulty 13
-  above-the-size-is-13 a b l = capacity-cases (λ c. c ≡ Faulty 13) most f g (λ o. absurd (⊎-elim (λ p. omega arith) (λ p. omega arith) o))
-      (λ p q r. refl) (λ p q. absurd (omega arith))
+  pub apart-is-its-number : value f ≤ most → value g ≤ most → Apart z (value f) (value g) → capacityOf z (sizeOf most f) (sizeOf most g) ≡ Faulty (apartIs z)
+  apart-is-its-number a b l = capacity-cases (λ c. c ≡ Faulty (apartIs z)) z most f g (λ o. absurd (⊎-elim (λ p. omega arith) (λ p. omega arith) o))
+      (λ p q r. refl) (λ p q r. absurd (not-both z (value f) (value g) r l))
 
-  pub else-is-usable : value f ≤ most → value g ≤ value f → capacityOf (sizeOf most f) (sizeOf most g) ≡ Usable (value f - value g)
-  else-is-usable a b = capacity-cases (λ c. c ≡ Usable (value f - value g)) most f g (λ o. absurd (⊎-elim (λ p. omega arith) (λ p. omega arith) o))
-      (λ p q r. absurd (omega arith)) (λ p q. refl)
+  pub else-is-usable : value f ≤ most → value g ≤ most → Together z (value f) (value g)
+      → capacityOf z (sizeOf most f) (sizeOf most g) ≡ Usable (taken z (value f) (value g))
+  else-is-usable a b l = capacity-cases (λ c. c ≡ Usable (taken z (value f) (value g))) z most f g
+      (λ o. absurd (⊎-elim (λ p. omega arith) (λ p. omega arith) o)) (λ p q r. absurd (not-both z (value f) (value g) l r)) (λ p q r. refl)

@@ -1,5 +1,6 @@
 -- What a line of a network sheet is: the heading of an edition, and below it a site, a link or a fault, by its fields held against the forms.
--- Document 01, "The network sheet"; 02, Card 5 (the reserve of a link), Card 7 (the mark of a site), Card 8 (editions), Card 9 (no bare numbers as names).
+-- Document 01, "The network sheet"; 02, Card 5 (the reserve of a link), Card 7 (the mark of a site), Card 8 (editions), Card 9 (no bare numbers as names),
+-- Card 11 (the low and the high size of a link).
 use mathlib.Core.Bool.{Bool, cond, _&&_}
 use mathlib.Core.List.{List, [], _∷_}
 use mathlib.Core.Logic.{_⊎_}
@@ -12,6 +13,9 @@ use Rattle.sheet_kinds.specs.declared.Line.the-variants.{Site, Link, Fau
 use Rattle.sheet_kinds.specs.declared.Capacity.{Capacity}
 use Rattle.sheet_kinds.specs.declared.Capacity.the-variants.{Usable, Faulty}
 use Rattle.model.specs.Text.{bytes}
+use Rattle.model.specs.declared.Edition.{Edition}
+use Rattle.model.specs.declared.Sizing.{Sizing}
+use Rattle.model.specs.declared.Sizing.the-variants.{Reserved, Low, High}
 use Rattle.text_grammar.specs.declared.Form.{Form}
 use Rattle.text_grammar.specs.declared.Check.{Check}
 use Rattle.text_grammar.specs.declared.Check.the-variants as check
@@ -21,9 +25,15 @@ unfoldable pub use Rattle.text_fields.specs.Fields.{same, push, fields, all, is
 pub use Rattle.text_fields.specs.Fields.{field, isDigit, digitsAlone, isLetterOrDigit, value}
 unfoldable pub use Rattle.text_grammar.specs.Grammar.{checkedFields, checked, faultOf, sizeOf}
 
--- the heading of an edition: `network`, tab, the edition's digit
-unfoldable pub isHeading : ℕ → List (List ℕ) → Bool
-isHeading digit fs = eqb (length fs) 2 && same (field fs 0) (bytes "network") && same (field fs 1) (digit ∷ [])
+-- the word of a heading: `ranges` where link lines give a low and a high size (02, Card 11)
+abbrev pub headingWord : Sizing → List ℕ
+headingWord Reserved = bytes "network"
+headingWord Low = bytes "ranges"
+headingWord High = bytes "ranges"
+
+-- the heading of an edition: its word, tab, the edition's digit
+unfoldable pub isHeading : Edition → List (List ℕ) → Bool
+isHeading ed fs = eqb (length fs) 2 && same (field fs 0) (headingWord (ed .sizing)) && same (field fs 1) (ed .digit ∷ [])
 
 -- the letter of a site, tab, name
 abbrev pub siteForm : ℕ → Form
@@ -36,16 +46,22 @@ plainForm = siteForm 78
 abbrev pub markedForm : Form
 markedForm = siteForm 84
 
--- `L`, tab, name, tab, name, tab, size; and, where channels are held back, tab, reserve (02, Card 5)
-abbrev pub linkForm : Form
-linkForm = record { letter = 76; names = 2; least = 1; most = 2 }
+-- the least numbers of a link line
+abbrev pub leastNumbers : Sizing → ℕ
+leastNumbers Reserved = 1
+leastNumbers Low = 2
+leastNumbers High = 2
+
+-- `L`, tab, name, tab, name, tab, size; and, where channels are held back, tab, reserve (02, Card 5). On a range sheet (02, Card 11): low size, tab, high size
+abbrev pub linkForm : Sizing → Form
+linkForm z = record { letter = 76; names = 2; least = leastNumbers z; most = 2 }
 
 -- the fields have the form of a site, marked or not, and of a link
 abbrev pub IsSite : List (List ℕ) → Type 0
 IsSite fs = (checked plainForm fs ≡ check.Formed) ⊎ (checked markedForm fs ≡ check.Formed)
 
-abbrev pub IsLink : List (List ℕ) → Type 0
-IsLink fs = checked linkForm fs ≡ check.Formed
+abbrev pub IsLink : Sizing → List (List ℕ) → Type 0
+IsLink z fs = checked (linkForm z) fs ≡ check.Formed
 
 -- a line that is formed, or its fault
 unfoldable pub judged : Check → Line → Line
@@ -66,35 +82,55 @@ size fs = value (field fs 3)
 abbrev pub reserve : List (List ℕ) → ℕ
 reserve fs = value (field fs 4)
 
--- the usable size of a link line (02, Card 5: size minus reserve)
-abbrev pub usableSize : List (List ℕ) → ℕ
-usableSize fs = size fs - reserve fs
+-- the low and the high size of a link line of a range sheet (02, Card 11)
+abbrev pub low : List (List ℕ) → ℕ
+low fs = value (field fs 3)
 
--- the capacity that a size and a reserve give, each within the limit or above it: 3 where either is above, then 13 where the reserve is above the size
-unfoldable pub capacityOf : Size → Size → Capacity
-capacityOf Above r = Faulty 3
-capacityOf (Within s) Above = Faulty 3
-capacityOf (Within s) (Within r) = cond (leb r s) (Usable (s - r)) (Faulty 13)
+abbrev pub high : List (List ℕ) → ℕ
+high fs = value (field fs 4)
+
+-- the capacity that two numbers give: the usable size (02, Card 5: size minus reserve); on a range sheet the low, or the high size
+abbrev pub taken : Sizing → ℕ → ℕ → ℕ
+taken Reserved a b = a - b
+taken Low a b = a
+taken High a b = b
+
+-- the capacity of a link line
+abbrev pub capacity : Sizing → List (List ℕ) → ℕ
+capacity z fs = taken z (value (field fs 3)) (value (field fs 4))
+
+-- the capacity that two numbers within the limit give: 13 where the reserve is above the size; 19 where the low size is above the high one
+abbrev pub paired : Sizing → ℕ → ℕ → Capacity
+paired Reserved a b = cond (leb b a) (Usable (a - b)) (Faulty 13)
+paired Low a b = cond (leb a b) (Usable a) (Faulty 19)
+paired High a b = cond (leb a b) (Usable b) (Faulty 19)
+
+-- the capacity that two numbers give, each within the limit or above it: 3 where either is above, then 13 or 19
+unfoldable pub capacityOf : Sizing → Size → Size → Capacity
+capacityOf z Above b = Faulty 3
+capacityOf z (Within a) Above = Faulty 3
+capacityOf z (Within a) (Within b) = paired z a b
 
 -- the line of a link whose names have a and b bytes, by its capacity
 abbrev pub linkOf : ℕ → ℕ → Capacity → Line
 linkOf a b (Usable c) = Link 2 (2 + a) (3 + a) (3 + a + b) c
 linkOf a b (Faulty n) = Fault n
 
--- a line of the form of a link, with its usable size, or its fault
-unfoldable pub sizedLink : ℕ → List (List ℕ) → Line
-sizedLink most fs = linkOf (length (field fs 1)) (length (field fs 2)) (capacityOf (sizeOf most (field fs 3)) (sizeOf most (field fs 4)))
+-- a line of the form of a link, with its capacity, or its fault
+unfoldable pub sizedLink : Edition → List (List ℕ) → Line
+sizedLink ed fs =
+    linkOf (length (field fs 1)) (length (field fs 2)) (capacityOf (ed .sizing) (sizeOf (ed .size) (field fs 3)) (sizeOf (ed .size) (field fs 4)))
 
 -- a line as a link
-unfoldable pub linkLine : ℕ → List (List ℕ) → Line
-linkLine most fs = judged (checked linkForm fs) (sizedLink most fs)
+unfoldable pub linkLine : Edition → List (List ℕ) → Line
+linkLine ed fs = judged (checked (linkForm (ed .sizing)) fs) (sizedLink ed fs)
 
--- what a line below the heading is, by its fields: a link where the first is `L`, a marked site where it is `T`, else a site; sizes are at most `most`
-unfoldable pub kindOf : ℕ → List (List ℕ) → Line
-kindOf most fs =
-    cond (same (field fs 0) (bytes "L")) (linkLine most fs)
+-- what a line below the heading is, by its fields: a link where the first is `L`, a marked site where it is `T`, else a site
+unfoldable pub kindOf : Edition → List (List ℕ) → Line
+kindOf ed fs =
+    cond (same (field fs 0) (bytes "L")) (linkLine ed fs)
     (cond (same (field fs 0) (bytes "T")) (siteLine 84 1 fs) (siteLine 78 0 fs))
 
--- what a line below the heading is (01: a site, a link or a fault)
-unfoldable pub kind : ℕ → List ℕ → Line
-kind most l = kindOf most (fields l)
+-- what a line of a sheet of an edition is, below the heading (01: a site, a link or a fault)
+unfoldable pub kind : Edition → List ℕ → Line
+kind ed l = kindOf ed (fields l)

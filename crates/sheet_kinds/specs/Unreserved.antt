@@ -13,6 +13,8 @@ use lib.ListN.{length}
 use borrow.Author.Tests.{le-leb, lt-leb}
 use Rattle.lists.specs.Sums.{cases}
 use Rattle.model.specs.Text.{bytes}
+use Rattle.model.specs.declared.Edition.{Edition}
+use Rattle.model.specs.declared.Sizing.the-variants.{Reserved}
 use Rattle.text_grammar.specs.declared.Form.{Form}
 use Rattle.text_grammar.specs.declared.Check.{Check}
 use Rattle.text_grammar.specs.declared.Check.the-variants as check
@@ -30,17 +32,17 @@ abbrev pub linkFormBefore : Form
 linkFormBefore = record { letter = 76; names = 2; least = 1; most = 1 }
 
 -- a line of that form, or fault 3 where its size is above the limit
-unfoldable pub sizedBefore : ℕ → List (List ℕ) → Line
-sizedBefore most fs =
+unfoldable pub sizedBefore : Edition → List (List ℕ) → Line
+sizedBefore ed fs =
     let a = length (field fs 1) in
     let b = length (field fs 2) in
-    cond (leb (size fs) most) (Link 2 (2 + a) (3 + a) (3 + a + b) (size fs)) (Fault 3)
+    cond (leb (size fs) (ed .size)) (Link 2 (2 + a) (3 + a) (3 + a + b) (size fs)) (Fault 3)
 
 -- what a line was
-unfoldable pub kindUnreserved : ℕ → List ℕ → Line
-kindUnreserved most l =
+unfoldable pub kindUnreserved : Edition → List ℕ → Line
+kindUnreserved ed l =
     let fs = fields l in
-    cond (same (field fs 0) (bytes "L")) (judged (checkedBare linkFormBefore fs) (sizedBefore most fs)) (siteBare 78 0 fs)
+    cond (same (field fs 0) (bytes "L")) (judged (checkedBare linkFormBefore fs) (sizedBefore ed fs)) (siteBare 78 0 fs)
 
 -- ---- the laws
 
@@ -54,39 +56,40 @@ judged-alike check.Name v w h = refl
 judged-alike check.Digits v w h = refl
 judged-alike check.Number v w h = refl
 
-module _ (most : ℕ) (fs : List (List ℕ)) where
+-- of network sheets alone: a link line of a range sheet came with Card 11
+module _ (ed : Edition) (network : ed .sizing ≡ Reserved) (fs : List (List ℕ)) where
   -- a link line of at most four fields has its size for its capacity
-  sized-as-before : length fs < 5 → sizedLink most fs ≡ sizedBefore most fs
+  sized-as-before : length fs < 5 → sizedLink ed fs ≡ sizedBefore ed fs
   unfolding sizedLink sizedBefore
   sized-as-before h =
       let none = no-fifth fs h in
-      capacity-cases (λ c. linkOf (length (field fs 1)) (length (field fs 2)) c ≡ sizedBefore most fs) most (field fs 3) (field fs 4)
-      (λ o. rw (lt-leb (size fs) most (⊎-elim (λ p. p) (λ p. absurd (omega arith)) o)))
+      rw network (capacity-cases (λ c. linkOf (length (field fs 1)) (length (field fs 2)) c ≡ sizedBefore ed fs) Reserved (ed .size) (field fs 3) (field fs 4)
+      (λ o. rw (lt-leb (size fs) (ed .size) (⊎-elim (λ p. p) (λ p. absurd (omega arith)) o)))
       (λ p q r. absurd (omega arith))
-      (λ p q. rw (le-leb (size fs) most p, none, sub-zero (size fs)))
+      (λ p q r. rw (le-leb (size fs) (ed .size) p, none, sub-zero (size fs))))
 
   -- and it is held against its form as it was; more than five fields are too many for either form
-  counted-as-before : length fs ≢ 5 → checkedBare linkForm fs ≡ checkedBare linkFormBefore fs
+  counted-as-before : length fs ≢ 5 → checkedBare (linkForm (ed .sizing)) fs ≡ checkedBare linkFormBefore fs
   unfolding checkedBare
-  counted-as-before d = cases (decLe (length fs) 4)
+  counted-as-before d = rw network (cases (decLe (length fs) 4)
       (λ h. rw (le-leb (length fs) 5 (omega arith), le-leb (length fs) 4 h))
-      (λ h. rw (lt-leb (length fs) 5 (omega (arith, d)), lt-leb (length fs) 4 (omega arith)))
+      (λ h. rw (lt-leb (length fs) 5 (omega (arith, d)), lt-leb (length fs) 4 (omega arith))))
 
-  link-as-before : length fs ≢ 5 → linkBare most fs ≡ judged (checkedBare linkFormBefore fs) (sizedBefore most fs)
+  link-as-before : length fs ≢ 5 → linkBare ed fs ≡ judged (checkedBare linkFormBefore fs) (sizedBefore ed fs)
   unfolding linkBare
   link-as-before d =
-      judged-alike (checkedBare linkForm fs) (sizedLink most fs) (sizedBefore most fs)
-      (λ e. sized-as-before (omega (arith, d, formed-are-counted linkForm fs e .no-more)))
+      judged-alike (checkedBare (linkForm (ed .sizing)) fs) (sizedLink ed fs) (sizedBefore ed fs)
+      (λ e. sized-as-before (omega (arith, d, formed-are-counted (linkForm (ed .sizing)) fs e .no-more)))
       ∙ rw (counted-as-before d)
 
 -- a line that is no link line of five fields was the same up to Card 7
-pub a-line-without-reserve-is-as-before : (most : ℕ) (l : List ℕ) → (field (fields l) 0 ≡ bytes "L" → length (fields l) ≢ 5)
-    → kindUnreserved most l ≡ kindUnmarked most l
+pub a-line-without-reserve-is-as-before : (ed : Edition) → ed .sizing ≡ Reserved → (l : List ℕ) → (field (fields l) 0 ≡ bytes "L" → length (fields l) ≢ 5)
+    → kindUnreserved ed l ≡ kindUnmarked ed l
 unfolding kindUnreserved kindUnmarked
-a-line-without-reserve-is-as-before most l none = by (same (field (fields l) 0) (bytes "L")) refl
+a-line-without-reserve-is-as-before ed network l none = by (same (field (fields l) 0) (bytes "L")) refl
   where
     by : (u : Bool) → same (field (fields l) 0) (bytes "L") ≡ u → let fs = fields l in
-        cond u (judged (checkedBare linkFormBefore fs) (sizedBefore most fs)) (siteBare 78 0 fs)
-        ≡ cond u (linkBare most fs) (siteBare 78 0 fs)
-    by true e = sym (link-as-before most (fields l) (none (same-are-equal _ _ e)))
+        cond u (judged (checkedBare linkFormBefore fs) (sizedBefore ed fs)) (siteBare 78 0 fs)
+        ≡ cond u (linkBare ed fs) (siteBare 78 0 fs)
+    by true e = sym (link-as-before ed network (fields l) (none (same-are-equal _ _ e)))
     by false e = refl

@@ -1,9 +1,16 @@
-// What a line of a network sheet is (document 01, "The network sheet"; 02, Card 5, the reserve of a link; Card 7, the mark of a site), by the grammar of
-// lines.
+// What a line of a network sheet is (document 01, "The network sheet"; 02, Card 5, the reserve of a link; Card 7, the mark of a site; Card 11, the low and
+// the high size of a link), by the grammar of lines.
+ghost use mathlib.Core.Bool.{cond};
 ghost use mathlib.Core.Path.{_≡_};
-ghost use Rattle.text_fields.specs.Fields.{fields, field};
+ghost use lib.Dec.{leb};
+ghost use Rattle.model.specs.declared.Sizing.the-variants.{Reserved};
+ghost use Rattle.text_fields.specs.Fields.{same, fields, field};
 ghost use Rattle.text_grammar.specs.Grammar.{split, sizeOf};
-ghost use Rattle.sheet_kinds.specs.LineKinds.{siteForm, linkForm, isHeading, IsLink, siteLine, capacityOf, linkLine, kind};
+ghost use Rattle.sheet_kinds.specs.LineKinds.{headingWord, isHeading, siteForm, leastNumbers, linkForm, IsLink, siteLine, paired, capacityOf};
+ghost use Rattle.sheet_kinds.specs.LineKinds.{linkLine, kind};
+ghost use Rattle.sheet_kinds.specs.declared.Capacity.the-variants.{Usable, Faulty};
+use model::Edition;
+use model::Sizing;
 use text_grammar::Fields;
 use text_grammar::Form;
 use text_grammar::Size;
@@ -45,30 +52,53 @@ fn site_form(letter: u8) -> Form
     }
 }
 
+// The least numbers of a link line.
+fn least_numbers(sizing: Sizing) -> usize
+    ensures { λ r. ⌜ r ≡ leastNumbers sizing ⌝ }
+{
+    match sizing {
+        Sizing::Reserved => 1,
+        Sizing::Low => 2,
+        Sizing::High => 2,
+    }
+}
+
 // The form of a link line.
-fn link_form() -> Form
-    ensures { λ r. ⌜ r ≡ linkForm ⌝ }
+fn link_form(sizing: Sizing) -> Form
+    ensures { λ r. ⌜ r ≡ linkForm sizing ⌝ }
 {
     Form {
         letter: b'L',
         names: 2,
-        least: 1,
+        least: least_numbers(sizing),
         most: 2,
     }
 }
 
-// Whether a line is the heading of an edition, by the edition's digit.
-pub fn is_heading(line: &[u8], digit: u8) -> bool
-    ensures { λ r. ⌜ r ≡ isHeading digit (fields (now (line .entry))) ⌝ }
+// Whether a field is the word of a heading.
+fn is_heading_word(field: &[u8], sizing: Sizing) -> bool
+    ensures { λ r. ⌜ r ≡ same (now (field .entry)) (headingWord sizing) ⌝ }
 {
+    match sizing {
+        Sizing::Reserved => text_fields::same(field, b"network"),
+        Sizing::Low => text_fields::same(field, b"ranges"),
+        Sizing::High => text_fields::same(field, b"ranges"),
+    }
+}
+
+// Whether a line is the heading of an edition.
+pub fn is_heading(line: &[u8], edition: Edition) -> bool
+    ensures { λ r. ⌜ r ≡ isHeading edition (fields (now (line .entry))) ⌝ }
+{
+    let sizing = edition.sizing;
     let found = text_grammar::split(line);
     if found.count != 2 {
         return false;
     }
-    if !text_fields::same(text_grammar::field(line, found, 0), b"network") {
+    if !is_heading_word(text_grammar::field(line, found, 0), sizing) {
         return false;
     }
-    text_fields::is_byte(text_grammar::field(line, found, 1), digit)
+    text_fields::is_byte(text_grammar::field(line, found, 1), edition.digit)
 }
 
 // What a line is as a site with a letter and a mark.
@@ -88,8 +118,8 @@ fn site(line: &[u8], found: Fields, letter: u8, mark: u8) -> Line
     }
 }
 
-// The reserve of a link line, where it is within the limit; a line without a fifth field has none.
-fn reserve(line: &[u8], found: Fields, most: u64) -> Size
+// The second number of a link line, where it is within the limit; a line without a fifth field has none, and 0 stands for it.
+fn second(line: &[u8], found: Fields, most: u64) -> Size
     requires { ⌜ found ≡ split (now line) ⌝ }
     ensures { λ r. ⌜ r ≡ sizeOf most (field (fields (now (line .entry))) 4) ⌝ }
 {
@@ -100,40 +130,71 @@ fn reserve(line: &[u8], found: Fields, most: u64) -> Size
 }
 
 // The capacity that a size and a reserve give.
-fn capacity_of(size: Size, reserve: Size) -> Capacity
-    ensures { λ r. ⌜ r ≡ capacityOf size reserve ⌝ }
+fn less_reserve(size: u64, reserve: u64) -> Capacity
+    ensures { λ r. ⌜ r ≡ paired Reserved size reserve ⌝ }
 {
-    let Size::Within(given) = size else {
-        return Capacity::Faulty(3);
-    };
-    let Size::Within(held) = reserve else {
-        return Capacity::Faulty(3);
-    };
-    if held > given {
+    if reserve > size {
         return Capacity::Faulty(13);
     }
-    Capacity::Usable(given - held)
+    Capacity::Usable(size - reserve)
+}
+
+// The capacity that a low and a high size give, one of which is taken.
+fn of_range(low: u64, high: u64, taken: u64) -> Capacity
+    ensures { λ r. ⌜ r ≡ cond (leb low high) (Usable taken) (Faulty 19) ⌝ }
+{
+    if low > high {
+        return Capacity::Faulty(19);
+    }
+    Capacity::Usable(taken)
+}
+
+// The capacity that two numbers within the limit give.
+fn paired(sizing: Sizing, first: u64, second: u64) -> Capacity
+    ensures { λ r. ⌜ r ≡ paired sizing first second ⌝ }
+{
+    match sizing {
+        Sizing::Reserved => less_reserve(first, second),
+        Sizing::Low => of_range(first, second, first),
+        Sizing::High => of_range(first, second, second),
+    }
+}
+
+// The capacity that two numbers give.
+fn capacity_of(sizing: Sizing, first: Size, second: Size) -> Capacity
+    ensures { λ r. ⌜ r ≡ capacityOf sizing first second ⌝ }
+{
+    let Size::Within(a) = first else {
+        return Capacity::Faulty(3);
+    };
+    let Size::Within(b) = second else {
+        return Capacity::Faulty(3);
+    };
+    paired(sizing, a, b)
 }
 
 // The capacity of a link line.
-fn usable(line: &[u8], found: Fields, most: u64) -> Capacity
-    requires { ⌜ (found ≡ split (now line)) × IsLink (fields (now line)) ⌝ }
-    ensures { λ r. ⌜ r ≡ capacityOf (sizeOf most (field (fields (now (line .entry))) 3)) (sizeOf most (field (fields (now (line .entry))) 4)) ⌝ }
+fn usable(line: &[u8], found: Fields, edition: Edition) -> Capacity
+    requires { ⌜ (found ≡ split (now line)) × IsLink (edition .sizing) (fields (now line)) ⌝ }
+    ensures { λ r. ⌜ r ≡ capacityOf (edition .sizing) (sizeOf (edition .size) (field (fields (now (line .entry))) 3))
+        (sizeOf (edition .size) (field (fields (now (line .entry))) 4)) ⌝ }
 {
-    let size = text_grammar::size_of(text_grammar::field(line, found, 3), most);
-    capacity_of(size, reserve(line, found, most))
+    let sizing = edition.sizing;
+    let first = text_grammar::size_of(text_grammar::field(line, found, 3), edition.size);
+    capacity_of(sizing, first, second(line, found, edition.size))
 }
 
 // What a line is as a link.
-fn link(line: &[u8], found: Fields, most: u64) -> Line
+fn link(line: &[u8], found: Fields, edition: Edition) -> Line
     requires { ⌜ found ≡ split (now line) ⌝ }
-    ensures { λ r. ⌜ r ≡ linkLine most (fields (now (line .entry))) ⌝ }
+    ensures { λ r. ⌜ r ≡ linkLine edition (fields (now (line .entry))) ⌝ }
 {
-    let fault = text_grammar::fault(text_grammar::check_line(line, found, link_form()));
+    let sizing = edition.sizing;
+    let fault = text_grammar::fault(text_grammar::check_line(line, found, link_form(sizing)));
     if fault != 0 {
         return Line::Fault(fault);
     }
-    let capacity = usable(line, found, most);
+    let capacity = usable(line, found, edition);
     match capacity {
         Capacity::Faulty(number) => Line::Fault(number),
         Capacity::Usable(size) => {
@@ -150,13 +211,13 @@ fn link(line: &[u8], found: Fields, most: u64) -> Line
 }
 
 // What a line below the heading is.
-pub fn classify(line: &[u8], most: u64) -> Line
-    ensures { λ r. ⌜ r ≡ kind most (now (line .entry)) ⌝ }
+pub fn classify(line: &[u8], edition: Edition) -> Line
+    ensures { λ r. ⌜ r ≡ kind edition (now (line .entry)) ⌝ }
 {
     let found = text_grammar::split(line);
     let first = text_grammar::field(line, found, 0);
     if text_fields::is_byte(first, b'L') {
-        return link(line, found, most);
+        return link(line, found, edition);
     }
     if text_fields::is_byte(first, b'T') {
         return site(line, found, b'T', 1);

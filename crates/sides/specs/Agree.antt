@@ -1,23 +1,22 @@
 -- Two owners who show each other one number alone have what the exchange over both sheets has: for every accepted pair the first step shows the first trimmed
 -- size of the shared link, and the second gives what the exchange tells and leaves. Document 02, Card 10.
 use mathlib.Core.List.{List}
-use mathlib.Core.Logic.{_⊎_, inl, inr}
-use mathlib.Core.Path.{_≡_, refl, sym, _∙_}
+use mathlib.Core.Logic.{inl, inr}
+use mathlib.Core.Path.{_≡_, sym, _∙_}
 use Prim.Native.Nat.{ℕ, _≤_}
 use native.Mathlib.Omega.{arith}
 use lib.ListN.{length}
 use Rattle.lists.specs.Numbers.{look}
-use Rattle.lists.specs.Sums.{contradiction}
 use Rattle.model.specs.declared.Edition.{Edition}
 use Rattle.sheet.specs.Sheet.{Network}
-use Rattle.theory_regions.specs.Regions.{firstSize, given}
+use Rattle.theory_regions.specs.Regions.{firstSize}
 use Rattle.theory_regions.specs.JoinedTree.{Border}
 use Rattle.theory_regions.specs.Meeting.{link-sites}
 use Rattle.theory_regions.specs.Again.{trimmed-is-greatest}
-use Rattle.exchanges.specs.Shared.{regionOf, shown}
+use Rattle.exchanges.specs.Shared.{shown}
 use Rattle.exchanges.specs.Causes.{AcceptedPair}
 use Rattle.exchanges.specs.SharedLaws.{the-network-is-named, a-pair-is-neighbours, firstGiven}
-use Rattle.exchanges.specs.Outcome.{firstOf, secondOf, Exchanged, exchanged}
+use Rattle.exchanges.specs.Outcome.{firstOf, secondOf, exchanged}
 use Rattle.exchanges.specs.Told.{Room, both-are-answered}
 use Rattle.exchanges.specs.declared.Answer.{Answer}
 use Rattle.sides.specs.Outcome.{firstShown, Side, delivered, answered}

@@ -2,11 +2,11 @@
 -- between them, such a link is found.
 use mathlib.Core.List.{List, []}
 use mathlib.Core.Logic.{_≢_, _⊎_, inl, inr}
-use mathlib.Core.Path.{_≡_, refl, sym, _∙_}
+use mathlib.Core.Path.{_≡_, sym, _∙_}
 use Prim.Native.Nat.{ℕ, _*_, _≤_, _<_, max}
 use native.Mathlib.Omega.{arith}
 use lib.ListN.{length}
-use Rattle.lists.specs.Numbers.{pick, differ}
+use Rattle.lists.specs.Numbers.{differ}
 use Rattle.lists.specs.Sums.{same?, pick-same, pick-other, differ-same, differ-other, differ-le, product-one}
 use Rattle.model.specs.Flows.{Site, Tree, at}
 use Rattle.theory_trees.specs.Trees.{at-end, at-le}

@@ -14,7 +14,7 @@ use Rattle.model.specs.Flows.{Site}
 use Rattle.model.specs.declared.Edition.{Edition}
 use Rattle.text_fields.specs.Fields.{capitals}
 use Rattle.sheet.specs.Sheet.{Network, refused, accepted, readSheet}
-use Rattle.theory_regions.specs.Regions.{lone, firstSize, given}
+use Rattle.theory_regions.specs.Regions.{firstSize, given}
 use Rattle.theory_regions.specs.JoinedTree.{Border, Bordered}
 use Rattle.theory_regions.specs.Sharing.{Named}
 use Rattle.theory_regions.specs.Meeting.{link-sites}

@@ -1,5 +1,5 @@
--- How large the numbers are that the two steps tell: a number at most 18, a line of the sheet, a size within the limit, a place for each link, and a sum in which
--- each link counts at most twice.
+-- How large the numbers are that the two steps tell: a number at most 19, a line of the sheet, a size within the limit, a count of links, and a sum in
+-- which each link counts at most twice.
 use mathlib.Core.List.{List}
 use Prim.Native.Nat.{ℕ, _+_, _*_, _≤_, _<_}
 use native.Mathlib.Omega.{arith}
@@ -25,12 +25,12 @@ use Rattle.sides.specs.declared.First.{First}
 use Rattle.sides.specs.declared.Outcome.{Outcome}
 
 pub record FirstSmall (o : First) : Type 0 where
-  pub number-small : firstNumber o ≤ 18
+  pub number-small : firstNumber o ≤ 19
   pub line-small : firstLine o ≤ BYTES
   pub size-small : sizeOf o ≤ SIZE
 
 pub record SideSmall (o : Outcome) : Type 0 where
-  pub number-small : number o ≤ 18
+  pub number-small : number o ≤ 19
   pub line-small : lineOf o ≤ BYTES
   pub count-small : countOf o ≤ LINKS
   pub sum-small : sumOf o ≤ 2 * (LINKS * SIZE)
@@ -68,7 +68,7 @@ module _ {s : List ℕ} {net : Network} {name name′ : List ℕ} {p : Border} (
       sum-over-ends (B .tree) _ _ few (λ i l. omega (arith, no-size-is-passed B k i l, sized i l))
 
 module _ (s name name′ : List ℕ) where
-  a-cause-is-small : {k line : ℕ} → FirstCause editions s name name′ k line → (k ≤ 18) × (line ≤ BYTES)
+  a-cause-is-small : {k line : ℕ} → FirstCause editions s name name′ k line → (k ≤ 19) × (line ≤ BYTES)
   a-cause-is-small (of-the-sheet c) =
       (omega (arith, refusals-have-sheet-numbers (editionOf editions s) s c .known), a-line-at-fault-is-within-the-limit s c)
   a-cause-is-small (no-such-link e none) = (omega arith, omega arith)
@@ -86,7 +86,7 @@ module _ (s name name′ : List ℕ) where
       }
 
 module _ (s name name′ : List ℕ) (k : ℕ) (l : List ℕ) where
-  a-refusal-is-small : {n line : ℕ} → Cause editions s name name′ k l n line → (n ≤ 18) × (line ≤ BYTES)
+  a-refusal-is-small : {n line : ℕ} → Cause editions s name name′ k l n line → (n ≤ 19) × (line ≤ BYTES)
   a-refusal-is-small (of-the-first-step c) = a-cause-is-small s name name′ c
   a-refusal-is-small (number-too-large A h) = (omega arith, omega arith)
   a-refusal-is-small (list-too-short A h short) = (omega arith, omega arith)

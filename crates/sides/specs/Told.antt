@@ -18,7 +18,7 @@ use Rattle.theory_regions.specs.Regions.{Given, firstSize, given}
 use Rattle.theory_regions.specs.JoinedTree.{Border}
 use Rattle.exchanges.specs.Shared.{regionOf}
 use Rattle.exchanges.specs.SharedLaws.{the-network-is-named}
-use Rattle.sides.specs.Outcome.{firstNumber, firstLine, sizeOf, firstShown, number, lineOf, countOf, sumOf, Side, refusal, delivered, answered}
+use Rattle.sides.specs.Outcome.{firstNumber, firstLine, sizeOf, firstShown, number, lineOf, countOf, sumOf, Side, refusal, answered}
 use Rattle.sides.specs.Causes.{AcceptedSide, FirstCause, of-the-sheet, no-such-link, Cause, of-the-first-step, number-too-large, list-too-short}
 use Rattle.sides.specs.SideLaws.{meant?, a-sheet-refused-shows-nothing, a-sheet-refused-is-given-nothing}
 use Rattle.sides.specs.SideLaws.{without-a-link-nothing-is-shown, without-a-link-nothing-is-given, its-first-size-is-shown, a-size-for-each-link}
@@ -168,7 +168,10 @@ module _ (known : List Edition) (s name name′ : List ℕ) (told : ℕ) (l : Li
 
   -- 18 is no number of a sheet: it is told where the names mean no link, or the number passes the link's usable size, at line 0
   pub eighteen-is-no-number-of-a-sheet : {line : ℕ} → ¬ (Refusal (editionOf known s) s 18 line)
-  eighteen-is-no-number-of-a-sheet c = omega (arith, refusals-have-sheet-numbers (editionOf known s) s c .known)
+  eighteen-is-no-number-of-a-sheet c = elim (refusals-have-sheet-numbers (editionOf known s) s c .not-of-a-log (omega arith)) [
+    | inl e ↦ omega arith
+    | inr e ↦ omega arith
+  ]
 
   -- 0 is success alone
   pub a-refusal-has-a-number : {k line : ℕ} → Cause known s name name′ told l k line → 1 ≤ k

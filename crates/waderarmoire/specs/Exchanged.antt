@@ -1,5 +1,5 @@
 -- The number that `waderarmoire_regions` returns, taken apart, tells the outcome's sheet, number, line and counts, for every two sheets and lists.
--- Nothing is lost: a sheet is 0, 1 or 2, numbers are at most 18, a line at fault is one of its sheet, and a region has at most LINKS links.
+-- Nothing is lost: a sheet is 0, 1 or 2, numbers are at most 19, a line at fault is one of its sheet, and a region has at most LINKS links.
 use mathlib.Core.Path.{_≡_, ap}
 use mathlib.Core.List.{List}
 use Prim.Native.Nat.{ℕ, _≤_}
@@ -22,7 +22,7 @@ use Rattle.waderarmoire.specs.Packed.{packedRegions, unpackedText, unpac
 -- how large the numbers of an outcome are
 record Bounded (o : Outcome) : Type 0 where
   pub sheet-small : sheetOf o ≤ 2
-  pub number-small : number o ≤ 18
+  pub number-small : number o ≤ 19
   pub line-small : lineOf o ≤ BYTES
   pub first-small : firstOf o .count ≤ LINKS
   pub second-small : secondOf o .count ≤ LINKS
@@ -41,7 +41,7 @@ a-bounded-exchange-is-told (Answered u v) b =
     tells-answered {u = u} {v = v} (omega arith) (omega arith) (omega arith) (omega arith)
 a-bounded-exchange-is-told (Refused x k l) b =
     let two : x ≤ 2 = b .sheet-small in
-    let few : k ≤ 18 = b .number-small in
+    let few : k ≤ 19 = b .number-small in
     let near : l ≤ BYTES = b .line-small in
     tells-refused {x = x} {k = k} {l = l} (omega arith) (omega arith) (omega arith)
 
@@ -53,7 +53,7 @@ module _ (s t l m : List ℕ) where
   few-links : (r : List ℕ) (net : Network) → readSheet editions r ≡ accepted net → length (net .links) ≤ LINKS
   few-links r net e = let n = an-accepted-sheet-is-within-the-largest r net e in omega (arith, n .few, n .tree .links)
 
-  of-a-cause : {x k line : ℕ} → Cause editions s t l m x k line → (x ≤ 2) × (k ≤ 18) × (line ≤ BYTES)
+  of-a-cause : {x k line : ℕ} → Cause editions s t l m x k line → (x ≤ 2) × (k ≤ 19) × (line ≤ BYTES)
   of-a-cause (of-the-first c) =
       (omega arith, omega (arith, refusals-have-sheet-numbers (editionOf editions s) s c .known), a-line-at-fault-is-within-the-limit s c)
   of-a-cause (of-the-second net e c) =

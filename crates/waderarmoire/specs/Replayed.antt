@@ -16,7 +16,7 @@ use Rattle.waderarmoire.specs.Packed.{packedReplay, unpackedText, unpack
 -- how large the numbers of an outcome are
 record Bounded (o : Outcome) : Type 0 where
   pub text-small : textOf o ≤ 2
-  pub number-small : number o ≤ 17
+  pub number-small : number o ≤ 19
   pub line-small : lineOf o ≤ BYTES
   pub count-small : countOf o ≤ LOGLINES
 
@@ -34,7 +34,7 @@ a-bounded-replay-is-told (Answered n) b =
     record { told-text = omega arith; told-number = omega arith; told-line = omega arith; told-count = omega arith }
 a-bounded-replay-is-told (Refused t k l) b =
     let two : t ≤ 2 = b .text-small in
-    let few : k ≤ 17 = b .number-small in
+    let few : k ≤ 19 = b .number-small in
     let near : l ≤ BYTES = b .line-small in
     record { told-text = omega arith; told-number = omega arith; told-line = omega arith; told-count = omega arith }
 

@@ -1,5 +1,5 @@
--- The numbers that `waderarmoire_region_first` and `waderarmoire_region_answer` return, taken apart, tell what the steps come to, for all sheets, names, numbers
--- and lists. Nothing is lost: numbers are at most 18, a line at fault is one of the sheet, and sizes, counts and sums are within the limits.
+-- The numbers that `waderarmoire_region_first` and `waderarmoire_region_answer` return, taken apart, tell what the steps come to, for all sheets, names,
+-- numbers and lists. Nothing is lost: numbers are at most 19, a line at fault is one of the sheet, and sizes, counts and sums are within the limits.
 use mathlib.Core.List.{List}
 use mathlib.Core.Path.{_≡_}
 use Prim.Native.Nat.{ℕ, _*_, _≤_}
@@ -32,7 +32,7 @@ a-small-first-step-is-told (first.Shown size) b =
     let small : size ≤ SIZE = b .size-small in
     record { told-number = omega arith; told-line = omega arith; told-size = omega arith }
 a-small-first-step-is-told (first.Refused k line) b =
-    let few : k ≤ 18 = b .number-small in
+    let few : k ≤ 19 = b .number-small in
     let near : line ≤ BYTES = b .line-small in
     record { told-number = omega arith; told-line = omega arith; told-size = omega arith }
 
@@ -43,7 +43,7 @@ a-small-second-step-is-told (Answered count sum) b =
     let small : sum ≤ 2 * (LINKS * SIZE) = b .sum-small in
     (omega arith, omega arith, omega arith)
 a-small-second-step-is-told (Refused k line) b =
-    let few : k ≤ 18 = b .number-small in
+    let few : k ≤ 19 = b .number-small in
     let near : line ≤ BYTES = b .line-small in
     (omega arith, omega arith)
 

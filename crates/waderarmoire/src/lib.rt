@@ -8,6 +8,7 @@ ghost use Rattle.orders.specs.Outcome.{orderOf};
 ghost use Rattle.logs.specs.Outcome.{replayed};
 ghost use Rattle.exchanges.specs.Outcome.{exchanged};
 ghost use Rattle.sides.specs.Outcome.{firstShown, answered};
+ghost use Rattle.spans.specs.Outcome.{spanned};
 ghost use Rattle.waderarmoire.specs.Packed.{packed, asOutcome, packedReplay, packedRegions, sumsAfter};
 ghost use Rattle.waderarmoire.specs.PackedSides.{packedFirst, packedSide};
 
@@ -179,4 +180,13 @@ pub extern "C" fn waderarmoire_regions(
     let outcome = exchanges::exchange(first, second, sizes, sizes2);
     store_sums(outcome, sums);
     pack_regions(outcome)
+}
+
+// Writes the span of a range sheet into the caller's buffer, as spans::span does, and tells the outcome as one number.
+#[no_mangle]
+pub extern "C" fn waderarmoire_ranges(sheet: &[u8], report: &mut [u8]) -> u64
+    ensures told { λ r. ⌜ r ≡ packed (spanned (now (sheet .entry)) (now (report .entry)) .outcome) ⌝ }
+    ensures left { λ r. ⌜ now (report .exit) ≡ spanned (now (sheet .entry)) (now (report .entry)) .buffer ⌝ }
+{
+    pack(spans::span(sheet, report))
 }

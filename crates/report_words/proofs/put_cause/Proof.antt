@@ -117,14 +117,23 @@ slice-aggregate-put-bytes-15 : tie.Need-slice-aggregate-put-bytes-15
 slice-aggregate-put-bytes-15 c = search needs
 
 put-bytes-requires-15 : tie.Need-put-bytes-requires-15
-put-bytes-requires-15 c κs =
+unfolding cause pick ℕ-discrete
+put-bytes-requires-15 c κs = rw (c .before .before .match .keys16) at (c .before .before .before .before .pre)
+
+slice-aggregate-put-bytes-16 : tie.Need-slice-aggregate-put-bytes-16
+slice-aggregate-put-bytes-16 c = search needs
+
+put-bytes-requires-16 : tie.Need-put-bytes-requires-16
+put-bytes-requires-16 c κs =
     let s = c .before .before .before .before in
-    let all = c .before .before .match .rest in
+    let last = c .before .before .match .rest in
+    let all = last .0 in
     let rest = all .0 in
     let late = rest .0 in
     let early = late .0 .0 .0 .0 .0 .0 .0 in
     let none = no-cause (s .args .number) (early .0 .0 .0 .0 .0 .1) (early .0 .0 .0 .0 .1) (early .0 .0 .0 .1) (early .0 .0 .1) (early .0 .1) (early .1)
-    (late .0 .0 .0 .0 .0 .0 .1) (late .0 .0 .0 .0 .0 .1) (late .0 .0 .0 .0 .1) (late .0 .0 .0 .1) (late .0 .0 .1) (late .0 .1) (late .1) (rest .1) (all .1) in
+    (late .0 .0 .0 .0 .0 .0 .1) (late .0 .0 .0 .0 .0 .1) (late .0 .0 .0 .0 .1) (late .0 .0 .0 .1) (late .0 .0 .1) (late .0 .1) (late .1) (rest .1) (all .1)
+    (last .1) in
     rw none at (s .pre)
 
 same-length : tie.Need-same-length
@@ -236,16 +245,25 @@ same-length-16 : tie.Need-same-length-16
 same-length-16 c = search needs
 
 returns-16 : tie.Need-returns-16
-returns-16 c =
+unfolding cause pick ℕ-discrete
+returns-16 c = rw (c .before .before .before .before .before .match .keys16) (c .before .before .put-bytes15 .ensures)
+
+same-length-17 : tie.Need-same-length-17
+same-length-17 c = search needs
+
+returns-17 : tie.Need-returns-17
+returns-17 c =
     let at-match = c .before .before .before .before .before in
     let n = at-match .before .before .args .number in
-    let all = at-match .match .rest in
+    let last = at-match .match .rest in
+    let all = last .0 in
     let rest = all .0 in
     let late = rest .0 in
     let early = late .0 .0 .0 .0 .0 .0 .0 in
     let none = no-cause n (early .0 .0 .0 .0 .0 .1) (early .0 .0 .0 .0 .1) (early .0 .0 .0 .1) (early .0 .0 .1) (early .0 .1) (early .1)
-    (late .0 .0 .0 .0 .0 .0 .1) (late .0 .0 .0 .0 .0 .1) (late .0 .0 .0 .0 .1) (late .0 .0 .0 .1) (late .0 .0 .1) (late .0 .1) (late .1) (rest .1) (all .1) in
-    rw none (c .before .before .put-bytes15 .ensures)
+    (late .0 .0 .0 .0 .0 .0 .1) (late .0 .0 .0 .0 .0 .1) (late .0 .0 .0 .0 .1) (late .0 .0 .0 .1) (late .0 .0 .1) (late .0 .1) (late .1) (rest .1) (all .1)
+    (last .1) in
+    rw none (c .before .before .put-bytes16 .ensures)
 
 pub put-cause-spec : {M : Type 1} → statement M
 put-cause-spec =
@@ -283,6 +301,8 @@ put-cause-spec =
     put-bytes-requires-14
     slice-aggregate-put-bytes-15
     put-bytes-requires-15
+    slice-aggregate-put-bytes-16
+    put-bytes-requires-16
     same-length
     returns
     same-length-2
@@ -314,4 +334,6 @@ put-cause-spec =
     same-length-15
     returns-15
     same-length-16
-    returns-16)
+    returns-16
+    same-length-17
+    returns-17)

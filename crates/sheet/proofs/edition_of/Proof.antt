@@ -1,6 +1,7 @@
 -- `edition_of` meets its contract: by what the heading is found to be; one heading has one digit.
 use mathlib.Core.Bool.{false≢true}
 use mathlib.Core.Path.{_≡_, sym, _∙_}
+use Rattle.model.specs.Edition.{edition2}
 use Rattle.text_lines.specs.Lines.{lineAt}
 use Rattle.sheet_kinds.specs.LineKinds.{fields, isHeading}
 use Rattle.sheet.specs.Editions.{headed-as-edition-2, not-headed-as-edition-2}
@@ -9,7 +10,7 @@ use Rattle.sheet.proofs.edition_of.Statement.{statement}
 use Rattle.sheet.proofs.edition_of.Tie as tie
 
 -- what line 1 is found to be
-found : (c : tie.After-is-heading) → c .is-heading .result ≡ isHeading 50 (fields (lineAt (c .before .before .before .before .args .sheet .now) 0))
+found : (c : tie.After-is-heading) → c .is-heading .result ≡ isHeading edition2 (fields (lineAt (c .before .before .before .before .args .sheet .now) 0))
 found c = rw (c .before .line .ensures .bytes, c .before .before .second .ensures) at (c .is-heading .ensures)
 
 returns : tie.Need-returns

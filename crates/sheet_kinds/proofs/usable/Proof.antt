@@ -12,23 +12,28 @@ field-requires c κs =
     let s = c .before in (
       s .pre .0,
       omega arith,
-      omega (arith, count-of-split (s .args .line .now) (s .args .found) (s .pre .0), link-parts (fields (s .args .line .now)) (s .pre .1) .enough),
+      omega (
+        arith,
+        count-of-split (s .args .line .now) (s .args .found) (s .pre .0),
+        link-parts (s .args .edition .sizing) (fields (s .args .line .now))
+            (s .pre .1) .enough,
+      ),
     )
 
 size-of-requires : tie.Need-size-of-requires
 size-of-requires c κs = search needs
 
-reserve-requires : tie.Need-reserve-requires
-reserve-requires c κs = search needs
+second-requires : tie.Need-second-requires
+second-requires c κs = search needs
 
 capacity-of-requires : tie.Need-capacity-of-requires
 capacity-of-requires c κs = search needs
 
 returns : tie.Need-returns
 returns c =
-    rw (rw (c .before .before .before .field .ensures) at (c .before .before .size-of .ensures), c .before .reserve .ensures) at (c .capacity-of .ensures)
+    rw (rw (c .before .before .before .field .ensures) at (c .before .before .size-of .ensures), c .before .second .ensures) at (c .capacity-of .ensures)
 
 pub usable-spec : {M : Type 1} → statement M
 usable-spec =
     tie.close
-    (tie.spec field-requires size-of-requires reserve-requires capacity-of-requires returns)
+    (tie.spec field-requires size-of-requires second-requires capacity-of-requires returns)

@@ -16,7 +16,7 @@ ended : (c : tie.Else1) → let a = c .before .before .before .args in a .at + l
 ended c = rw (c .before .before .before .pre .3) at (c .if1 .left)
 
 kind-is : (c : tie.After-classify) → let a = c .before .before .before .before .before .args in
-    c .classify .result ≡ kind (a .edition .size) (lineAt (a .sheet .now) (a .at))
+    c .classify .result ≡ kind (a .edition) (lineAt (a .sheet .now) (a .at))
 kind-is c = rw (c .before .before .before .before .before .pre .3) at (c .classify .ensures)
 
 returns : tie.Need-returns
@@ -33,7 +33,7 @@ record-step-requires c κs =
       s .pre .0,
       s .pre .1,
       ended (c .before .before),
-      subst (Formed (s .args .edition .size) l) (sym (kind-is c)) (kinds-are-formed (s .args .edition .size) l),
+      subst (Formed (s .args .edition .size) l) (sym (kind-is c)) (kinds-are-formed (s .args .edition) l),
     )
 
 returns-3 : tie.Need-returns-3

@@ -1,12 +1,12 @@
--- `reserve` meets its contract: without a fifth field the reserve is 0 (`no-reserve`).
+-- `second` meets its contract: without a fifth field 0 stands for it (`no-reserve`).
 use mathlib.Core.Path.{sym}
 use native.Mathlib.Omega.{arith}
 use Rattle.text_fields.specs.Fields.{fields}
 use Rattle.text_grammar.specs.SplitLaws.{count-of-split}
 use Rattle.sheet_kinds.specs.LineKindLaws.{no-reserve}
 use borrow.Author.Needs.{needs}
-use Rattle.sheet_kinds.proofs.reserve.Statement.{statement}
-use Rattle.sheet_kinds.proofs.reserve.Tie as tie
+use Rattle.sheet_kinds.proofs.second.Statement.{statement}
+use Rattle.sheet_kinds.proofs.second.Tie as tie
 
 returns : tie.Need-returns
 returns c =
@@ -22,5 +22,5 @@ size-of-requires c κs = search needs
 returns-2 : tie.Need-returns-2
 returns-2 c = rw (c .before .field .ensures) at (c .size-of .ensures)
 
-pub reserve-spec : {M : Type 1} → statement M
-reserve-spec = tie.close (tie.spec returns field-requires size-of-requires returns-2)
+pub second-spec : {M : Type 1} → statement M
+second-spec = tie.close (tie.spec returns field-requires size-of-requires returns-2)

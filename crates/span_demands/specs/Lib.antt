@@ -1,0 +1,4 @@
+pub mod Printed
+pub mod Asked
+pub mod ReadBack
+pub mod Met

@@ -1,0 +1,3 @@
+pub mod Outcome
+pub mod Ready
+pub mod Answers
