@@ -1,4 +1,5 @@
 -- A log over the lists of an accepted sheet: their names are the network's and all different, and what a replay comes to, case by case.
+use mathlib.Core.Bool.{false}
 use mathlib.Core.List.{List, [], _++_}
 use mathlib.Core.Path.{_≡_, sym, ap, _∙_}
 use Prim.Native.Nat.{ℕ, _≤_, _<_}
@@ -19,7 +20,8 @@ use Rattle.sheet.specs.ListLaws.{names-are}
 use Rattle.sheet.specs.declared.Answer.the-variants as answered
 use Rattle.sheet.specs.declared.Lists.{Lists}
 use Rattle.planner.specs.Taken.{Listed, the-lists-are-taken-apart, the-marks-are-taken-apart, the-links-are-the-networks, the-ends-are-the-networks}
-use Rattle.logs.specs.Log.{lines, requests, answersOf}
+use Rattle.log_requests.specs.Requests.{lines, requests}
+use Rattle.logs.specs.Log.{answersOf}
 use Rattle.logs.specs.Outcome.{replayOver, replayRead, replayed}
 use Rattle.logs.specs.declared.Outcome.the-variants.{Answered, Refused}
 
@@ -36,7 +38,7 @@ refused-is-told s log l n k e = by (readSheet editions s) e
 -- the same answers over the same lists
 alike : (s log : List ℕ) {ls ks : Links} {c d : List ℕ} {names others : List (ℕ × ℕ)} {t u : ℕ → ℕ}
     → ls ≡ ks → c ≡ d → names ≡ others → t ≡ u
-    → answers ls (look c) [] (requests s names ls t log) ≡ answers ks (look d) [] (requests s others ks u log)
+    → answers ls (look c) [] (requests false s names ls t log) ≡ answers ks (look d) [] (requests false s others ks u log)
 alike s log e f g h = rw (e, f, g, h)
 
 module _ {s : List ℕ} {network : Lists} (r : Listed s network) where
@@ -71,7 +73,7 @@ module _ {s : List ℕ} {network : Lists} (r : Listed s network) where
   -- the answers over the lists are those over the network
   pub the-answers-are-the-networks : (log : List ℕ) → let m = network .links in let ls = links (take m (network .one)) (take m (network .two)) in
       answers ls (look (take m (network .capacity))) []
-      (requests s (ranges (network .start) (network .end) 0 (network .sites)) ls
+      (requests false s (ranges (network .start) (network .end) 0 (network .sites)) ls
       (look (ends ls (network .sites) (take (network .sites) (network .mark)))) log)
       ≡ answersOf s (r .net) log
   the-answers-are-the-networks log =

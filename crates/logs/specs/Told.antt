@@ -19,7 +19,8 @@ use Rattle.sheet.specs.Editions.{the-new-heading-was-refused-with-2, the-new-he
 use Rattle.sheet.specs.Answers.{SheetNumber, refusals-have-sheet-numbers}
 use Rattle.sheet.specs.SheetTheorem.{a-sheet-is-refused-for-its-cause}
 use Rattle.model.specs.Booking.{answers}
-use Rattle.logs.specs.Log.{linesFrom, lines, requests, answersOf}
+use Rattle.log_requests.specs.Requests.{linesFrom, lines, requests}
+use Rattle.logs.specs.Log.{answersOf}
 use Rattle.logs.specs.Outcome.{Replayed, textOf, number, lineOf, countOf, replayOver, replayRead, replayed}
 use Rattle.logs.specs.declared.Outcome.the-variants.{Answered, Refused}
 

@@ -5,10 +5,10 @@ use lib.ListN.{length}
 use Rattle.sheet_names.specs.Names.{part, ranges}
 use Rattle.sheet_names.specs.declared.Found.{Found}
 use Rattle.sheet_names.specs.LookupLaws.{length-ranges}
-use Rattle.logs.specs.Log.{between, requestBy, requestAt}
-use Rattle.logs.specs.LogLaws.{Named, found-is-a-site}
-use Rattle.logs.proofs.request_at.Statement.{statement}
-use Rattle.logs.proofs.request_at.Tie as tie
+use Rattle.log_requests.specs.Requests.{between, requestBy, requestAt}
+use Rattle.log_requests.specs.RequestLaws.{Named, found-is-a-site}
+use Rattle.log_requests.proofs.request_at.Statement.{statement}
+use Rattle.log_requests.proofs.request_at.Tie as tie
 
 find-requires : tie.Need-find-requires
 find-requires c κs =

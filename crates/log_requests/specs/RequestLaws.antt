@@ -1,4 +1,4 @@
--- The lines of a log one by one, and that what a line asks can be asked: two sites free to be joined and an amount within the limit.
+-- The lines of a text one by one, and that what a line asks can be asked: two sites free to be joined and an amount within the limit.
 use mathlib.Core.Bool.{Bool, true, false, cond}
 use mathlib.Core.List.{List, [], _∷_, map}
 use mathlib.Core.Logic.{_≢_}
@@ -23,66 +23,65 @@ use Rattle.theory_trees.specs.FreePairs.{free-parts, free-turned}
 use Rattle.theory_log.specs.Requests.{OpensOnly}
 use Rattle.text_lines.specs.Lines.{lineLength, lineAt, afterLine, hasLine}
 use Rattle.text_lines.specs.LineLaws.{length-of-line, no-line-past-the-sheet, after-line-is-later}
-use Rattle.text_fields.specs.Fields.{fields, field, value}
 use Rattle.sheet_names.specs.LookupLaws.{Says, lookup-says}
 use Rattle.sheet_names.specs.declared.Found.{Found}
 use Rattle.sheet_names.specs.declared.Found.the-variants.{At, Absent}
 use Rattle.sheet.specs.Sheet.{lookup}
-use Rattle.log_lines.specs.LogLines.{logLine}
-use Rattle.log_lines.specs.FaultyLogLines as line
+use Rattle.log_lines.specs.LogLines.{lineBy}
+use Rattle.log_lines.specs.FaultyPlanLines.{AmountTold, a-line-tells-its-amount}
 use Rattle.log_lines.specs.declared.Line.{Line}
 use Rattle.log_lines.specs.declared.Line.the-variants.{Booking, Fault}
-use Rattle.logs.specs.Log.{linesFrom, lines, lineOf, requestFor, between, requestBy, requestAt, requests}
+use Rattle.log_requests.specs.Requests.{linesFrom, lines, lineOf, requestFor, between, requestBy, requestAt, requests}
 
 -- ---- line by line
 
-module _ (log : List ℕ) where
-  pub after-within : (at : ℕ) → afterLine log at ≤ length log
+module _ (text : List ℕ) where
+  pub after-within : (at : ℕ) → afterLine text at ≤ length text
   unfolding afterLine
   after-within at = omega arith
 
-  pub lines-end : (fuel at : ℕ) → length log ≤ at → linesFrom log fuel at ≡ []
+  pub lines-end : (fuel at : ℕ) → length text ≤ at → linesFrom text fuel at ≡ []
   unfolding linesFrom
   lines-end zero at h = refl
-  lines-end (suc fuel) at h = rw (no-line-past-the-sheet log at h)
+  lines-end (suc fuel) at h = rw (no-line-past-the-sheet text at h)
 
-  line-here : (at : ℕ) → at < length log → hasLine log at ≡ true
+  line-here : (at : ℕ) → at < length text → hasLine text at ≡ true
   unfolding hasLine
-  line-here at h = lt-ltb at (length log) h
+  line-here at h = lt-ltb at (length text) h
 
   -- the fuel does not matter
-  enough-fuel : (f g at : ℕ) → length log ≤ at + f → length log ≤ at + g → linesFrom log f at ≡ linesFrom log g at
+  enough-fuel : (f g at : ℕ) → length text ≤ at + f → length text ≤ at + g → linesFrom text f at ≡ linesFrom text g at
   unfolding linesFrom
   enough-fuel zero g at h k = sym (lines-end g at (omega arith))
   enough-fuel (suc f) zero at h k = lines-end (suc f) at (omega arith)
   enough-fuel (suc f) (suc g) at h k =
-      by (hasLine log at) refl (λ later. ap (λ r. at ∷ r) (enough-fuel f g (afterLine log at) (omega arith) (omega arith)))
+      by (hasLine text at) refl (λ later. ap (λ r. at ∷ r) (enough-fuel f g (afterLine text at) (omega arith) (omega arith)))
     where
-      by : (t : Bool) → hasLine log at ≡ t → {x y : List ℕ} → (at < afterLine log at → x ≡ y) → cond t x [] ≡ cond t y []
-      by true e p = p (after-line-is-later log at e)
+      by : (t : Bool) → hasLine text at ≡ t → {x y : List ℕ} → (at < afterLine text at → x ≡ y) → cond t x [] ≡ cond t y []
+      by true e p = p (after-line-is-later text at e)
       by false e p = refl
 
   -- the line here, and those after it
-  pub lines-step : (at : ℕ) → at < length log → linesFrom log (length log - at) at ≡ at ∷ linesFrom log (length log - afterLine log at) (afterLine log at)
+  pub lines-step : (at : ℕ) → at < length text → linesFrom text (length text - at) at ≡ at ∷ linesFrom text (length text - afterLine text at) (afterLine text at)
   unfolding linesFrom
   lines-step at h =
       let here = line-here at h in
-      let later = after-line-is-later log at here in
-      let fuel : length log - at ≡ suc (length log - at - 1) = omega arith in
-      rw (fuel, here) (ap (λ r. at ∷ r) (enough-fuel (length log - at - 1) (length log - afterLine log at) (afterLine log at) (omega arith) (omega arith)))
+      let later = after-line-is-later text at here in
+      let fuel : length text - at ≡ suc (length text - at - 1) = omega arith in
+      rw (fuel, here) (ap (λ r. at ∷ r) (enough-fuel (length text - at - 1) (length text - afterLine text at) (afterLine text at) (omega arith) (omega arith)))
 
-  pub all-lines : lines log ≡ linesFrom log (length log - 0) 0
+  pub all-lines : lines text ≡ linesFrom text (length text - 0) 0
   unfolding lines
   all-lines = rw sub-zero
 
   -- an unended line, and an ended one
-  pub unended-line : (at : ℕ) → length log ≤ at + length (lineAt log at) → lineOf log at ≡ Fault 2
+  pub unended-line : (plan : Bool) (at : ℕ) → length text ≤ at + length (lineAt text at) → lineOf plan text at ≡ Fault 2
   unfolding lineOf
-  unended-line at h = rw (le-ltb (at + lineLength (drop at log)) (length log) (omega (arith, length-of-line log at)))
+  unended-line plan at h = rw (le-ltb (at + lineLength (drop at text)) (length text) (omega (arith, length-of-line text at)))
 
-  pub ended-line : (at : ℕ) → at + length (lineAt log at) < length log → lineOf log at ≡ logLine (lineAt log at)
+  pub ended-line : (plan : Bool) (at : ℕ) → at + length (lineAt text at) < length text → lineOf plan text at ≡ lineBy plan (lineAt text at)
   unfolding lineOf
-  ended-line at h = rw (lt-ltb (at + lineLength (drop at log)) (length log) (omega (arith, length-of-line log at)))
+  ended-line plan at h = rw (lt-ltb (at + lineLength (drop at text)) (length text) (omega (arith, length-of-line text at)))
 
 -- ---- the two sites
 
@@ -121,28 +120,26 @@ module _ (s : List ℕ) (names : List (ℕ × ℕ)) (ls : Links) (t : ℕ → �
       (record { first-site = g; second-site = h; different = free-parts ls t a b e .0; some = some; limited = limited }) e)
       (λ d. of-faults 6)
 
-  of-line : (l : List ℕ) (w : Line) → line.Tells l w → Q (requestBy s names ls t l w)
+  of-line : (l : List ℕ) (w : Line) → AmountTold w → Q (requestBy s names ls t l w)
   unfolding requestBy
-  of-line l (Booking opens a e b f x) (k, q) =
-      let amount : x ≡ value (field (fields l) 3) = cc in
-      of-between opens x (omega (arith, k .some)) (omega (arith, k .limited)) _ _ (found-is-a-site s _ names) (found-is-a-site s _ names)
+  of-line l (Booking opens a e b f x) (some, limited) = of-between opens x some limited _ _ (found-is-a-site s _ names) (found-is-a-site s _ names)
   of-line l (Fault k) h = of-faults k
 
-  pub of-a-request : (log : List ℕ) (at : ℕ) → Q (requestAt s names ls t log at)
+  pub of-a-request : (plan : Bool) (text : List ℕ) (at : ℕ) → Q (requestAt plan s names ls t text at)
   unfolding requestAt requestBy lineOf
-  of-a-request log at = by (ltb (at + lineLength (drop at log)) (length log))
+  of-a-request plan text at = by (ltb (at + lineLength (drop at text)) (length text))
     where
-      by : (z : Bool) → Q (requestBy s names ls t (lineAt log at) (cond z (logLine (lineAt log at)) (Fault 2)))
-      by true = of-line (lineAt log at) (logLine (lineAt log at)) (line.a-line-tells (lineAt log at))
+      by : (z : Bool) → Q (requestBy s names ls t (lineAt text at) (cond z (lineBy plan (lineAt text at)) (Fault 2)))
+      by true = of-line (lineAt text at) (lineBy plan (lineAt text at)) (a-line-tells-its-amount plan (lineAt text at))
       by false = of-faults 2
 
-  of-each : (log ats : List ℕ) → Each Q (map (requestAt s names ls t log) ats)
-  of-each log [] = tt
-  of-each log (at ∷ ats) = (of-a-request log at, of-each log ats)
+  of-each : (plan : Bool) (text ats : List ℕ) → Each Q (map (requestAt plan s names ls t text) ats)
+  of-each plan text [] = tt
+  of-each plan text (at ∷ ats) = (of-a-request plan text at, of-each plan text ats)
 
-  pub of-the-requests : (log : List ℕ) → Each Q (requests s names ls t log)
+  pub of-the-requests : (plan : Bool) (text : List ℕ) → Each Q (requests plan s names ls t text)
   unfolding requests
-  of-the-requests log = of-each log (lines log)
+  of-the-requests plan text = of-each plan text (lines text)
 
 asked-for : (n : ℕ) (opens : Bool) (e : Pair) → Proper n e → Asked n (requestFor opens e)
 asked-for n true e p = p
@@ -159,13 +156,13 @@ free-opened ls t true e f = same? (less (e .second) (e .first)) 1
     (λ d. rw (pick-other d) f)
 free-opened ls t false e f = tt
 
-module _ (s : List ℕ) (names : List (ℕ × ℕ)) (ls : Links) (t : ℕ → ℕ) (log : List ℕ) where
-  pub a-request-can-be-asked : (at : ℕ) → Asked (length names) (requestAt s names ls t log at)
-  a-request-can-be-asked at = of-a-request s names ls t (Asked (length names)) (λ k. tt) (λ opens e p f. asked-for (length names) opens e p) log at
+module _ (plan : Bool) (s : List ℕ) (names : List (ℕ × ℕ)) (ls : Links) (t : ℕ → ℕ) (text : List ℕ) where
+  pub a-request-can-be-asked : (at : ℕ) → Asked (length names) (requestAt plan s names ls t text at)
+  a-request-can-be-asked at = of-a-request s names ls t (Asked (length names)) (λ k. tt) (λ opens e p f. asked-for (length names) opens e p) plan text at
 
-  pub the-requests-can-be-asked : Each (Asked (length names)) (requests s names ls t log)
-  the-requests-can-be-asked = of-the-requests s names ls t (Asked (length names)) (λ k. tt) (λ opens e p f. asked-for (length names) opens e p) log
+  pub the-requests-can-be-asked : Each (Asked (length names)) (requests plan s names ls t text)
+  the-requests-can-be-asked = of-the-requests s names ls t (Asked (length names)) (λ k. tt) (λ opens e p f. asked-for (length names) opens e p) plan text
 
   -- only pairs of ends free to be joined are opened
-  pub the-requests-open-free-pairs-only : Each (OpensOnly (Free ls t)) (requests s names ls t log)
-  the-requests-open-free-pairs-only = of-the-requests s names ls t (OpensOnly (Free ls t)) (λ k. tt) (λ opens e p f. free-opened ls t opens e f) log
+  pub the-requests-open-free-pairs-only : Each (OpensOnly (Free ls t)) (requests plan s names ls t text)
+  the-requests-open-free-pairs-only = of-the-requests s names ls t (OpensOnly (Free ls t)) (λ k. tt) (λ opens e p f. free-opened ls t opens e f) plan text

@@ -6,10 +6,10 @@ use borrow.Author.Tests.{eqb-true, eqb-false, not-true, not-false}
 use Rattle.lists.specs.Numbers.{look}
 use Rattle.model.specs.Booking.{pair}
 use Rattle.tree.specs.Offer.{links}
-use Rattle.logs.specs.Log.{requestFor, between}
-use Rattle.logs.specs.LogLaws.{Named, a-free-pair-is-asked-for, a-pair-that-is-not-free-gets-6}
-use Rattle.logs.proofs.between.Statement.{statement}
-use Rattle.logs.proofs.between.Tie as tie
+use Rattle.log_requests.specs.Requests.{requestFor, between}
+use Rattle.log_requests.specs.RequestLaws.{Named, a-free-pair-is-asked-for, a-pair-that-is-not-free-gets-6}
+use Rattle.log_requests.proofs.between.Statement.{statement}
+use Rattle.log_requests.proofs.between.Tie as tie
 
 returns : tie.Need-returns
 unfolding between
