@@ -1,0 +1,4 @@
+pub mod HandPlan
+pub mod Largest
+pub mod Accounts
+pub mod Loads
