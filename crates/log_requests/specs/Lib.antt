@@ -1,3 +1,4 @@
 pub mod Requests
 pub mod RequestLaws
 pub mod TwoEnds
+pub mod Names

@@ -46,6 +46,7 @@ module _ {n : ℕ} {one two rows : List ℕ} (m : Mapped n one two rows) {p : Pa
       said = sym (pick-other {A = ℕ} {u = placesOf (p .first) (p .second) es} {v = 0} (λ z. omega (arith, told)) 0 20);
       holds = λ z. absurd (omega arith);
       amount = λ z. absurd (omega arith);
+      limited = omega arith;
     }
 
     -- one place more
@@ -82,6 +83,7 @@ module _ {n : ℕ} {one two rows : List ℕ} (m : Mapped n one two rows) {p : Pa
         loads = loaded path by raising;
       };
       amount = λ z. refl;
+      limited = w .limited;
     }
 
 -- ---- the line
@@ -96,12 +98,13 @@ module _ {ls : Links} {es : List Pair} {q : Request} {given l : List ℕ} where
     said = rw y at (h .said);
     holds = λ o. rw y at (h .holds o);
     totals = λ o. omega (arith, h .amount o, ap (λ x. x .amount) y);
+    limited = h .limited;
   })
 
   pub a-giving-up-gets-2 : {e : Pair} → q ≡ GiveUp e → LineEntered ls es q given l (record { number = 2; amount = 0 })
   unfolding lineAnswer
-  a-giving-up-gets-2 z = rw z (record { said = refl; holds = λ o. absurd (omega arith); totals = λ o. absurd (omega arith) })
+  a-giving-up-gets-2 z = rw z (record { said = refl; holds = λ o. absurd (omega arith); totals = λ o. absurd (omega arith); limited = omega arith })
 
   pub a-fault-gets-its-number : {k : ℕ} → q ≡ Fault k → Holding ls es given l → LineEntered ls es q given l (record { number = k; amount = 0 })
   unfolding lineAnswer entered
-  a-fault-gets-its-number z h = rw z (record { said = refl; holds = λ o. h; totals = λ o. omega arith })
+  a-fault-gets-its-number z h = rw z (record { said = refl; holds = λ o. h; totals = λ o. omega arith; limited = omega arith })

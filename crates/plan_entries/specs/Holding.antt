@@ -4,7 +4,7 @@ use mathlib.Core.Path.{_≡_}
 use mathlib.Core.List.{List, _∷_}
 use Prim.Native.Nat.{ℕ, suc, _+_, _*_, _≤_, _<_}
 use lib.ListN.{length}
-use Rattle.model.specs.Limits.{AMOUNT, ROWS, SITES, LOGLINES}
+use Rattle.model.specs.Limits.{AMOUNT, ROWS, SITES, PLANLINES}
 use Rattle.lists.specs.Numbers.{pick, look}
 use Rattle.model.specs.Flows.{Links, load, total}
 use Rattle.model.specs.Booking.{placesOf}
@@ -18,7 +18,7 @@ use Rattle.plan_entries.specs.declared.Entered.{Entered}
 pub record Roomy (given l : List ℕ) : Type 0 where
   pub rows : length given ≡ ROWS
   pub places : length l ≡ SITES
-  pub small : (j : ℕ) → look l j ≤ LOGLINES * AMOUNT
+  pub small : (j : ℕ) → look l j ≤ PLANLINES * AMOUNT
 
 -- they hold the entries es: bit k of the row of site a tells whether the pair a, k + 1 is given, place j has the load of link j
 pub record Holding (ls : Links) (es : List Pair) (given l : List ℕ) : Type 0 where
@@ -32,9 +32,11 @@ pub record PairEntered (ls : Links) (es : List Pair) (p : Pair) (given l : List 
   pub said : r .number ≡ pick (placesOf (p .first) (p .second) es) 0 0 20
   pub holds : r .number ≡ 0 → Holding ls (p ∷ es) given l
   pub amount : r .number ≡ 0 → r .amount ≡ p .amount
+  pub limited : r .amount ≤ AMOUNT
 
 -- a line is entered, or gets its number
 pub record LineEntered (ls : Links) (es : List Pair) (q : Request) (given l : List ℕ) (r : Entered) : Type 0 where
   pub said : r .number ≡ lineAnswer es q
   pub holds : r .number ≡ 0 → Holding ls (entered es q) given l
   pub totals : r .number ≡ 0 → total (entered es q) ≡ r .amount + total es
+  pub limited : r .amount ≤ AMOUNT

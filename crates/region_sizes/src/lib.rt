@@ -69,7 +69,14 @@ fn own_at(
 }
 
 // The sum of sizes over the links of a region's own ends, each end counting each of its links; the far site counts for the other region.
-fn own_sum(n: usize, one: &[usize], two: &[usize], marks: &[u8], far: usize, sizes: &[u64]) -> u64
+pub fn own_sum(
+    n: usize,
+    one: &[usize],
+    two: &[usize],
+    marks: &[u8],
+    far: usize,
+    sizes: &[u64],
+) -> u64
     requires { ⌜ MarkedTree largest n (now one) (now two) (now marks) (now sizes) ⌝ }
     ensures { λ r. ⌜ r ≡ ownSum (regionBy n (now (one .entry)) (now (two .entry)) (now (marks .entry)) []) far (now (sizes .entry)) ⌝ }
 {
@@ -98,7 +105,14 @@ fn resized(capacity: &[u64], link: usize, size: u64) -> [u64; SITES]
 }
 
 // The trimmed sizes of a region at the front of a lent list with a place for each link.
-fn trim(n: usize, one: &[usize], two: &[usize], marks: &[u8], capacity: &[u64], sizes: &mut [u64])
+pub fn trim(
+    n: usize,
+    one: &[usize],
+    two: &[usize],
+    marks: &[u8],
+    capacity: &[u64],
+    sizes: &mut [u64],
+)
     requires { ⌜ MarkedTree largest n (now one) (now two) (now marks) (now capacity) × (length (now one) ≤ length (now sizes)) ⌝ }
     ensures { λ _. ⌜ now (sizes .exit) ≡ trimmed (regionBy n (now (one .entry)) (now (two .entry)) (now (marks .entry)) (now (capacity .entry)))
         ++ drop (length (now (one .entry))) (now (sizes .entry)) ⌝ }

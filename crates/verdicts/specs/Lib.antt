@@ -1,0 +1,5 @@
+pub mod Outcome
+pub mod Progress
+pub mod Loaded
+pub mod OverNetwork
+pub mod Laws
