@@ -2,3 +2,4 @@ pub mod Requests
 pub mod RequestLaws
 pub mod TwoEnds
 pub mod Names
+pub mod Sheets

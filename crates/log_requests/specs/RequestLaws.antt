@@ -8,8 +8,8 @@ use native.Mathlib.Nat.{sub-zero}
 use native.Mathlib.Omega.{arith}
 use borrow.Author.Tests.{lt-ltb, le-ltb}
 use lib.Dec.{ltb}
-use lib.ListN.{length, drop}
-use Rattle.lists.specs.Numbers.{less, Each}
+use lib.ListN.{length, drop, getD, length-map}
+use Rattle.lists.specs.Numbers.{less, look, Each}
 use Rattle.lists.specs.Sums.{pick-same, pick-other, pick-cases, same?}
 use Rattle.model.specs.Limits.{AMOUNT}
 use Rattle.model.specs.Flows.{Links, Site}
@@ -141,6 +141,12 @@ module _ (s : List ℕ) (names : List (ℕ × ℕ)) (ls : Links) (t : ℕ → �
   unfolding requests
   of-the-requests plan text = of-each plan text (lines text)
 
+-- the element at a place of a list that is mapped
+at-place : (f : ℕ → Request) (l : List ℕ) (i : ℕ) (d : Request) → i < length l → getD (map f l) i d ≡ f (look l i)
+at-place f [] i d h = absurd (omega arith)
+at-place f (x ∷ l) zero d h = refl
+at-place f (x ∷ l) (suc i) d h = at-place f l i d (omega arith)
+
 asked-for : (n : ℕ) (opens : Bool) (e : Pair) → Proper n e → Asked n (requestFor opens e)
 asked-for n true e p = p
 asked-for n false e p = p
@@ -166,3 +172,13 @@ module _ (plan : Bool) (s : List ℕ) (names : List (ℕ × ℕ)) (ls : Links) (
   -- only pairs of ends free to be joined are opened
   pub the-requests-open-free-pairs-only : Each (OpensOnly (Free ls t)) (requests plan s names ls t text)
   the-requests-open-free-pairs-only = of-the-requests s names ls t (OpensOnly (Free ls t)) (λ k. tt) (λ opens e p f. free-opened ls t opens e f) plan text
+
+  -- the line at place i
+  pub what-a-line-asks : (i : ℕ) → i < length (lines text)
+      → getD (requests plan s names ls t text) i (request.Fault 0) ≡ requestAt plan s names ls t text (look (lines text) i)
+  unfolding requests
+  what-a-line-asks i h = at-place (requestAt plan s names ls t text) (lines text) i (request.Fault 0) h
+
+  pub as-many-requests-as-lines : length (requests plan s names ls t text) ≡ length (lines text)
+  unfolding requests
+  as-many-requests-as-lines = length-map (lines text) (requestAt plan s names ls t text)

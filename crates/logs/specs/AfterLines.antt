@@ -25,16 +25,10 @@ use Rattle.sheet.specs.Sheet.{Network, readSheet, accepted, editionOf}
 use Rattle.sheet.specs.SheetTheorem.{an-accepted-sheet-is-a-tree}
 use Rattle.log_requests.specs.Requests.{lines, requestAt, requests, isEnd}
 use Rattle.logs.specs.Log.{requestsOf, answersOf}
-use Rattle.log_requests.specs.RequestLaws.{Free, the-requests-can-be-asked, the-requests-open-free-pairs-only}
+use Rattle.log_requests.specs.RequestLaws.{Free, the-requests-can-be-asked, the-requests-open-free-pairs-only, what-a-line-asks}
 use Rattle.logs.specs.Causes as cause
 use Rattle.logs.specs.Outcome.{Replayed}
 use Rattle.logs.specs.Told.{AllAnswered}
-
--- the element at a place of a list that is mapped
-at-place : (f : ℕ → Request) (l : List ℕ) (i : ℕ) (d : Request) → i < length l → getD (map f l) i d ≡ f (look l i)
-at-place f [] i d h = absurd (omega arith)
-at-place f (x ∷ l) zero d h = refl
-at-place f (x ∷ l) (suc i) d h = at-place f l i d (omega arith)
 
 module _ (s : List ℕ) (net : Network) (log : List ℕ) where
   abbrev capacityOf : ℕ → ℕ
@@ -115,11 +109,11 @@ module _ (s : List ℕ) (net : Network) (log : List ℕ) where
     -- its answer is that to what it asks, where the lines before it are done
     pub the-answer-to-a-line : look (answersOf s net log) i
         ≡ answer (net .links) capacityOf (openAfter i) (requestAt false s (net .names) (net .links) (isEnd net) log (look (lines log) i))
-    unfolding openAfter requests
+    unfolding openAfter
     the-answer-to-a-line =
         theory.a-line-is-answered-after-those-before-it (net .links) capacityOf [] (requestsOf s net log) i counted
         ∙ ap (answer (net .links) capacityOf (openAfter i))
-        (at-place (requestAt false s (net .names) (net .links) (isEnd net) log) (lines log) i (request.Fault 0) here)
+        (what-a-line-asks false s (net .names) (net .links) (isEnd net) log i here)
 
     -- why it gets a number
     abbrev pub Cause : ℕ → Type 0

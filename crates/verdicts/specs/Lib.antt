@@ -3,3 +3,5 @@ pub mod Progress
 pub mod Loaded
 pub mod OverNetwork
 pub mod Laws
+pub mod Causes
+pub mod Told
