@@ -1,0 +1,4 @@
+pub mod Offsets
+pub mod Decimals
+pub mod Entered
+pub mod PairLines
