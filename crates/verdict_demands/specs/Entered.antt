@@ -1,12 +1,12 @@
 -- A list of pairs entered one by one, the lower site first in each and no pair twice: no line gets 20, and total and loads are those of the list.
-use mathlib.Core.Path.{_≡_, refl, sym, ap, _∙_}
+use mathlib.Core.Path.{_≡_, refl, ap, _∙_}
 use mathlib.Core.List.{List, [], _∷_, map}
 use Prim.Native.Nat.{ℕ, suc, _+_, _*_, _≤_, _<_}
 use native.Mathlib.Omega.{arith}
 use Rattle.lists.specs.Numbers.{is, less, Each}
-use Rattle.lists.specs.Sums.{pick-same, pick-other, pick-cases, same?, is-same, is-other, is-le, less-lt}
+use Rattle.lists.specs.Sums.{pick-same, pick-other, same?, is-same, is-other, less-lt}
 use Rattle.lists.specs.Tallies.{tally}
-use Rattle.model.specs.Flows.{Links, load, total}
+use Rattle.model.specs.Flows.{Links, separates, load, total}
 use Rattle.model.specs.Pairing.{lowerFirst, joins}
 use Rattle.model.specs.Booking.{placesOf, same}
 use Rattle.model.specs.declared.Pair.{Pair}
@@ -44,16 +44,21 @@ unfolding account drawn lineAnswer entered placesOf
 no-pair-is-given-twice i acc [] low once = refl
 no-pair-is-given-twice i acc (e ∷ es) low once =
     let stays = lower-stays e (low .0) in
-    let here : placesOf (e .first) (e .second) acc ≡ 0 = omega (arith, once (e .first) (e .second), same-is (e .first) (e .second) e refl refl) in
-    rw (stays, stays, stays) (rw (pick-same {A = ℕ} here 0 20)
-    (pick-same {A = ℕ} refl _ _ ∙ no-pair-is-given-twice (suc i) (e ∷ acc) es (low .1) (λ a b. omega (arith, once a b))))
+    let none : placesOf (e .first) (e .second) acc ≡ 0 = omega (arith, once (e .first) (e .second), same-is (e .first) (e .second) e refl refl) in
+    let new : lineAnswer acc (Open e) ≡ 0 = pick-same (ap (λ p. placesOf (p .first) (p .second) acc) stays ∙ none) 0 20 in
+    pick-same new _ _
+    ∙ no-pair-is-given-twice (suc i) (lowerFirst e ∷ acc) es (low .1) (λ a b. omega (arith, once a b, ap (same a b) stays))
 
 pub entered-total : (acc es : List Pair) → LowerFirst es → total (drawn acc (map Open es)) ≡ total acc + total es
 unfolding drawn entered total
 entered-total acc [] low = omega arith
-entered-total acc (e ∷ es) low = rw (lower-stays e (low .0)) (omega (arith, entered-total (e ∷ acc) es (low .1)))
+entered-total acc (e ∷ es) low = omega (arith, entered-total (lowerFirst e ∷ acc) es (low .1), ap (λ p. p .amount) (lower-stays e (low .0)))
 
 pub entered-load : (ls : Links) (j : ℕ) (acc es : List Pair) → LowerFirst es → load ls (drawn acc (map Open es)) j ≡ load ls acc j + load ls es j
 unfolding drawn entered load
 entered-load ls j acc [] low = omega arith
-entered-load ls j acc (e ∷ es) low = rw (lower-stays e (low .0)) (omega (arith, entered-load ls j (e ∷ acc) es (low .1)))
+entered-load ls j acc (e ∷ es) low = omega (
+  arith,
+  entered-load ls j (lowerFirst e ∷ acc) es (low .1),
+  ap (λ p. p .amount * separates ls j (p .first) (p .second)) (lower-stays e (low .0)),
+)

@@ -52,8 +52,8 @@ unfolding checked checkedFields all same
 formed a b d na nb la lb nd = rw (na, nb) (rw (la, lb) (rw nd refl))
 
 -- nothing is left of a text where nothing goes on
-nothing-left : {text : List ℕ} {at : ℕ} → drop at text ≡ [] → at ≤ length text → length text ≤ at
-nothing-left {text} {at} h l = omega (arith, ap length h, length-drop at text)
+nothing-left : (text : List ℕ) (at : ℕ) → drop at text ≡ [] → at ≤ length text → length text ≤ at
+nothing-left text at h l = omega (arith, ap length h, length-drop at text)
 
 -- the site that is found has the number
 found-at : (w : Found) (v : ℕ) → 1 ≤ v → siteFound w ≡ v → w ≡ At v
@@ -80,7 +80,7 @@ module _ (ed : Edition) (s : List ℕ) (net : Network) (N : IsNetwork ed s net) 
     pub limited : e .amount ≤ AMOUNT
 
   plain : (e : Pair) → Each Plain (pairFields name e)
-  plain e = (omega arith, site-name-is-plain N (e .first), site-name-is-plain N (e .second), decimal-plain (e .amount), tt)
+  plain e = (omega arith, (site-name-is-plain N (e .first), (site-name-is-plain N (e .second), (decimal-plain (e .amount), tt))))
 
   module _ (text : List ℕ) where
     -- a line that is written of a pair asks for it
@@ -114,7 +114,7 @@ module _ (ed : Edition) (s : List ℕ) (net : Network) (N : IsNetwork ed s net) 
     pair-lines-ask : (at : ℕ) (es : List Pair) → Each Good es → drop at text ≡ lines (pairLine name) es → at ≤ length text
         → map (requestAt true s (net .names) (net .links) (isEnd net) text) (linesFrom text (length text - at) at) ≡ map Open es
     unfolding lines pairLine
-    pair-lines-ask at [] g h l = ap (map (requestAt true s (net .names) (net .links) (isEnd net) text)) (lines-end text (length text - at) at (nothing-left h l))
+    pair-lines-ask at [] g h l = ap (map (requestAt true s (net .names) (net .links) (isEnd net) text)) (lines-end text (length text - at) at (nothing-left text at h l))
     pair-lines-ask at (e ∷ es) g h l =
         let rest = name (e .first) ∷ name (e .second) ∷ decimal (e .amount) ∷ [] in
         let x = lines (pairLine name) es in
