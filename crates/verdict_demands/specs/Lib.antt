@@ -2,3 +2,4 @@ pub mod Offsets
 pub mod Decimals
 pub mod Entered
 pub mod PairLines
+pub mod Judged
