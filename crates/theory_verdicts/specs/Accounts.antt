@@ -139,6 +139,14 @@ drawn-is-a-multiflow ls n terminal ends es w =
 
 -- ---- amounts stay small
 
+-- a line enters at most one pair
+pub entries-are-few : (es : List Pair) (rs : List Request) → length (drawn es rs) ≤ length es + length rs
+unfolding drawn entered
+entries-are-few es [] = omega arith
+entries-are-few es (Open e ∷ rs) = omega (arith, entries-are-few (lowerFirst e ∷ es) rs)
+entries-are-few es (GiveUp e ∷ rs) = omega (arith, entries-are-few es rs)
+entries-are-few es (Fault k ∷ rs) = omega (arith, entries-are-few es rs)
+
 pub total-is-limited : (es : List Pair) → Each (λ e. e .amount ≤ AMOUNT) es → total es ≤ length es * AMOUNT
 unfolding total
 total-is-limited [] h = omega arith

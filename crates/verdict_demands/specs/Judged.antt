@@ -30,7 +30,7 @@ use Rattle.text_writers.specs.Fields.{line}
 use Rattle.sheet.specs.Editions.{an-accepted-sheet-is-within-the-largest}
 use Rattle.sheet.specs.Sheet.{Network, accepted, readSheet, editionOf}
 use Rattle.sheet.specs.SheetTheorem.{IsNetwork, an-accepted-sheet-is-a-tree}
-use Rattle.report.specs.Report.{Plan, lines, pairLine, reportOf, report, wholeReport}
+use Rattle.report.specs.Report.{lines, headRecord, linkLine, siteLine, cutLine, pairLine, reportOf, report, wholeReport}
 use Rattle.planner.specs.Figures.{Figures, halves, wholes, pairsBy, planShowing, Showable, figures-have-sound-pairs, halves-can-be-shown}
 use Rattle.planner.specs.Figures.{the-report-shows-halves, the-whole-report-shows-wholes}
 use Rattle.planner.specs.WholeFigures.{wholes-can-be-shown}
@@ -91,7 +91,15 @@ module _ (s : List ℕ) (net : Network) (accepts : readSheet editions s ≡ acce
     -- they are no longer than the report
     short : length text ≤ PLANBYTES
     unfolding reportOf
-    short = omega (arith, figures-are-small (an-accepted-sheet-is-within-the-largest s net accepts) f h, length-append _ text)
+    short =
+        let p = planShowing net s f in
+        let front =
+        headRecord (p .word) (total (p .pairs)) (length (p .pairs))
+        ++ lines (linkLine (p .names) (p .ones) (p .twos) (p .capacities) (p .shown)) (upfrom 0 (length (p .ones)))
+        ++ lines (siteLine (p .names) (p .owners)) (sites (p .size))
+        ++ lines (cutLine (p .names) (p .ends) (p .cutSizes) (p .cutCounts)) (sites (p .size))
+        ++ p .before in
+        omega (arith, figures-are-small (an-accepted-sheet-is-within-the-largest s net accepts) f h, length-append front text)
 
     good : Each (Good (editionOf editions s) s net N accepts) es
     good =

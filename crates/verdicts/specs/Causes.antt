@@ -101,6 +101,14 @@ module _ (s : List ℕ) (net : Network) (plan : List ℕ) where
   fault-is-some (bad-number h) = omega arith
   fault-is-some (wrong-amount h) = omega arith
 
+  fault-is-small : {l : List ℕ} {k : ℕ} → PlanFault l k → k ≤ 20
+  fault-is-small (no-letter h) = omega arith
+  fault-is-small (wrong-count h) = omega arith
+  fault-is-small (bad-name h) = omega arith
+  fault-is-small (bare-name h) = omega arith
+  fault-is-small (bad-number h) = omega arith
+  fault-is-small (wrong-amount h) = omega arith
+
   malformed-asks : (p : ℕ) {k : ℕ} → start p + length (lineAt plan (start p)) < length plan → PlanFault (lineAt plan (start p)) k → asks (start p) ≡ request.Fault k
   unfolding requestAt requestBy
   malformed-asks p {k} h f =
@@ -194,6 +202,12 @@ module _ (s : List ℕ) (net : Network) (plan : List ℕ) where
     a-cause-is-some (malformed h f) = fault-is-some f
     a-cause-is-some (not-two-ends k none) = omega arith
     a-cause-is-some (given-before k z e) = omega arith
+
+    pub a-cause-is-small : {k : ℕ} → Cause p k → k ≤ 20
+    a-cause-is-small (unended h) = omega arith
+    a-cause-is-small (malformed h f) = fault-is-small f
+    a-cause-is-small (not-two-ends k none) = omega arith
+    a-cause-is-small (given-before k z e) = omega arith
 
     -- a line has a cause, or gets 0
     pub decided : ((k : ℕ) × Cause p k) ⊎ (numberAt p ≡ 0)

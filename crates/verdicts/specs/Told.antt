@@ -4,7 +4,7 @@ use mathlib.Core.Bool.{true}
 use mathlib.Core.Path.{_≡_, refl, sym, ap, _∙_}
 use mathlib.Core.Logic.{_⊎_, inl, inr, _≢_, _↔_}
 use mathlib.Core.List.{List, []}
-use Prim.Native.Nat.{ℕ, suc, _+_, _≤_, _<_}
+use Prim.Native.Nat.{ℕ, _+_, _*_, _≤_, _<_}
 use native.Mathlib.Omega.{arith}
 use native.Mathlib.Decide.{decLe}
 use borrow.Author.Tests.{le-leb, lt-leb, eqb-true, eq-eqb}
@@ -12,7 +12,7 @@ use lib.Dec.{eqb}
 use lib.ListN.{length}
 use Rattle.lists.specs.Numbers.{look, Each}
 use Rattle.lists.specs.Sums.{cases, same?, pick-same, pick-other}
-use Rattle.model.specs.Limits.{PLANLINES, PLANBYTES}
+use Rattle.model.specs.Limits.{AMOUNT, PLANLINES, PLANBYTES}
 use Rattle.model.specs.Edition.{editions}
 use Rattle.model.specs.Flows.{Links, Multiflow, Fits, load, total}
 use Rattle.model.specs.Booking.{placesOf}
@@ -20,7 +20,7 @@ use Rattle.model.specs.declared.Edition.{Edition}
 use Rattle.model.specs.declared.Pair.{Pair}
 use Rattle.theory_verdicts.specs.HandPlan.{Account, entries, account, overloaded, largestTotal}
 use Rattle.theory_verdicts.specs.Accounts.{Lowest, drawn, answerAt, Drawn, no-entries, a-lowest-faulty-line-or-none, the-lowest-faulty-line-decides}
-use Rattle.theory_verdicts.specs.Accounts.{lines-without-a-fault-are-entered, all-entries-are-drawn, drawn-is-a-multiflow}
+use Rattle.theory_verdicts.specs.Accounts.{lines-without-a-fault-are-entered, all-entries-are-drawn, drawn-is-a-multiflow, entries-are-few, total-is-limited}
 use Rattle.theory_verdicts.specs.Loads.{Overloaded, an-overloaded-link-counts, without-an-overloaded-link-it-fits, what-fits-overloads-nothing}
 use Rattle.theory_verdicts.specs.Largest.{NoneGreater, a-plan-has-the-largest-total-exactly-if-none-is-greater}
 use Rattle.sheet.specs.Sheet.{Network, Read, refused, accepted, readSheet, editionOf}
@@ -50,6 +50,7 @@ Clean s net plan = (p : ℕ) → p < length (lines plan) → (k : ℕ) → ¬ (C
 
 -- an accepted plan: what is told of it, and what holds of its entries es
 pub record Accepted (net : Network) (es : List Pair) (o : Outcome) : Type 0 where
+  pub judged-told : o ≡ Judged (totalOf o) (yesOf o)
   pub text-told : textOf o ≡ 0
   pub number-told : number o ≡ 0
   pub line-told : lineOf o ≡ 0
@@ -58,6 +59,7 @@ pub record Accepted (net : Network) (es : List Pair) (o : Outcome) : Type 0 wher
   pub fits : Fits (net .links) 2 (look (net .capacities)) es
   pub once : (a b : ℕ) → placesOf a b es ≤ 1
   pub total-told : totalOf o ≡ total es
+  pub small : total es ≤ PLANLINES * AMOUNT
   -- yes exactly if no fitting plan, however finely cut, has a greater total
   pub yes : (yesOf o ≡ true) ↔ NoneGreater (net .links) (length (net .names)) (isEnd net) (net .capacities) (total es)
 
@@ -128,6 +130,15 @@ module _ (known : List Edition) (s plan : List ℕ) where
       unfolding verdict
       told-as z = entered ∙ pick-same z _ _
 
+      small-total : total (planDrawn s net plan) ≤ PLANLINES * AMOUNT
+      small-total = omega (
+        arith,
+        total-is-limited (planDrawn s net plan) (are-drawn .limited),
+        entries-are-few [] (requests true s (net .names) (net .links) (isEnd net) plan),
+        as-many,
+        short .few,
+      )
+
       is-accepted : loaded ≡ 0 → Accepted net (planDrawn s net plan) (judged known s plan)
       is-accepted z =
           let es = planDrawn s net plan in
@@ -136,6 +147,7 @@ module _ (known : List Edition) (s plan : List ℕ) where
           let f = without-an-overloaded-link-it-fits (net .links) (look (net .capacities)) es z in
           let law = a-plan-has-the-largest-total-exactly-if-none-is-greater T (isEnd net) (net .capacities) es m f in
           rw (told-as z) (record {
+            judged-told = refl;
             text-told = refl;
             number-told = refl;
             line-told = refl;
@@ -143,6 +155,7 @@ module _ (known : List Edition) (s plan : List ℕ) where
             fits = f;
             once = are-drawn .once;
             total-told = refl;
+            small = small-total;
             yes = (λ y. law .0 (eqb-true (total es) most y), λ none. eq-eqb (total es) most (law .1 none));
           })
 

@@ -1,4 +1,5 @@
 -- An outcome as one number, for callers in other languages.
+use mathlib.Core.Bool.{cond}
 use Prim.Native.Nat.{ℕ, _+_, _*_, _/_, _%_}
 use Rattle.planner.specs.declared.Outcome.{Outcome}
 use Rattle.planner.specs.declared.Outcome.the-variants.{Report, Refused}
@@ -6,6 +7,8 @@ use Rattle.orders.specs.declared.Outcome.{Outcome as Order}
 use Rattle.orders.specs.declared.Outcome.the-variants as order
 use Rattle.logs.specs.declared.Outcome.{Outcome as Replay}
 use Rattle.logs.specs.declared.Outcome.the-variants as replay
+use Rattle.verdicts.specs.declared.Outcome.{Outcome as Verdict}
+use Rattle.verdicts.specs.declared.Outcome.the-variants as verdict
 
 -- the refusal's number times 2 ^ 40, its line times 2 ^ 20, and the report's length. No remainder loses anything, and each can be read off: `Unpacked`.
 unfoldable pub packed : Outcome → ℕ
@@ -21,6 +24,11 @@ asOutcome (order.Refused k l) = Refused k l
 unfoldable pub packedReplay : Replay → ℕ
 packedReplay (replay.Answered n) = n % 1048576
 packedReplay (replay.Refused t k l) = t % 4096 * 4503599627370496 + k % 4096 * 1099511627776 + l % 1048576 * 1048576
+
+-- what judging a plan comes to (02, Card 12): a refusal as of a replay; else twice the total, and 1 more for yes
+unfoldable pub packedVerdict : Verdict → ℕ
+packedVerdict (verdict.Judged x largest) = x % 4294967296 * 2 + cond largest 1 0
+packedVerdict (verdict.Refused t k l) = t % 4096 * 4503599627370496 + k % 4096 * 1099511627776 + l % 1048576 * 1048576
 
 -- ---- taken apart, as the C header does (c/waderarmoire.h)
 
@@ -39,3 +47,10 @@ unpackedLine value = value / 1048576 % 1048576
 -- the length: value & 0xfffff
 unfoldable pub unpackedLength : ℕ → ℕ
 unpackedLength value = value % 1048576
+
+-- of a verdict, the total: value >> 1; and whether it is yes: value & 1
+unfoldable pub unpackedTotal : ℕ → ℕ
+unpackedTotal value = value / 2
+
+unfoldable pub unpackedYes : ℕ → ℕ
+unpackedYes value = value % 2
