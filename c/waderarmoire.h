@@ -3,7 +3,7 @@
  *
  * One call reads a network sheet and writes the report of its plan, in halves of a circuit or in
  * whole circuits, or lists its sites in the order of work, or replays a booking log over it, or
- * tells why the sheet or the log is refused. Link with libwaderarmoire.a, which is built for x86-64
+ * judges a plan drawn by hand, or tells why the sheet or the other text is refused. Link with libwaderarmoire.a, which is built for x86-64
  * Linux.
  *
  * The library allocates nothing, keeps nothing between calls, has no global state and calls
@@ -43,6 +43,10 @@ extern "C" {
 /* The largest log that is replayed, in bytes and in lines; a list of so many answers is enough. */
 #define WADERARMOIRE_LOG_BYTES 65536
 #define WADERARMOIRE_LOG_LINES 4096
+
+/* The largest plan drawn by hand that is judged, in bytes and in lines. */
+#define WADERARMOIRE_PLAN_BYTES 65536
+#define WADERARMOIRE_PLAN_LINES 1024
 
 /* A thread with a stack of this length can plan every sheet. */
 #define WADERARMOIRE_STACK_BYTES 196608
@@ -111,6 +115,22 @@ uint64_t waderarmoire_replay(const uint8_t *sheet, size_t sheet_len, const uint8
                              size_t log_len, uint64_t *answers, size_t answers_len);
 
 /*
+ * Judges a plan drawn by hand, of plan_len bytes, over the network of a sheet. A line is "P", then the
+ * names of two ends free to be joined, in either order, and an amount in halves from 1 to 2,000,000,
+ * parted by tabs; each pair stands on one line. The caller owes the same for sheet and plan; neither
+ * is changed.
+ *
+ * On success waderarmoire_text of the answer is 0, waderarmoire_total has the plan's total in halves,
+ * and waderarmoire_largest is 1 exactly if no fitting plan, however finely cut, has a greater total.
+ * Else the text is 1 for the sheet or 2 for the plan, with its number and line. The sheet's refusals
+ * come first; a plan gets 1 at line 0 for more bytes or lines than those above; then its lowest faulty
+ * line decides, with 2, 10, 11, 17, 12, 3, 6 as of a log, then 20 for a pair given on an earlier line
+ * in either order; then 21 at line 0 for a load above twice the usable size of its link.
+ */
+uint64_t waderarmoire_judge(const uint8_t *sheet, size_t sheet_len, const uint8_t *plan,
+                            size_t plan_len);
+
+/*
  * The number of the refusal, or 0 for success:
  *   1  no bytes, or more than 16,384 (edition 2: 24,576)
  *   2  wrong heading, letter or line ending
@@ -135,7 +155,7 @@ static inline unsigned waderarmoire_number(uint64_t answer)
     return (unsigned)(answer >> 40) & 0xfffu;
 }
 
-/* Of a replay, the text that is refused: 1 the sheet, 2 the log; 0 for success. */
+/* Of a replay or a verdict, the text that is refused: 1 the sheet, 2 the other; 0 for success. */
 static inline unsigned waderarmoire_text(uint64_t answer)
 {
     return (unsigned)(answer >> 52);
@@ -151,6 +171,18 @@ static inline unsigned waderarmoire_line(uint64_t answer)
 static inline size_t waderarmoire_length(uint64_t answer)
 {
     return (size_t)(answer & 0xfffffu);
+}
+
+/* Of a verdict, where the text is 0: the total in halves. */
+static inline uint64_t waderarmoire_total(uint64_t answer)
+{
+    return answer >> 1;
+}
+
+/* Of a verdict, where the text is 0: 1 if no fitting plan has a greater total, else 0. */
+static inline unsigned waderarmoire_largest(uint64_t answer)
+{
+    return (unsigned)(answer & 1u);
 }
 
 #ifdef __cplusplus
