@@ -11,6 +11,8 @@ pub struct Edition {
     pub bytes: usize,
     /// The most sites a sheet may have.
     pub sites: usize,
+    /// Whether link lines have a low and a high size.
+    pub(crate) has_ranges: bool,
 }
 
 impl Edition {
@@ -19,12 +21,20 @@ impl Edition {
         heading: b"network\t1\n",
         bytes: 16_384,
         sites: 256,
+        has_ranges: false,
     };
     /// Sheets headed `network`, tab, `2`.
     pub const TWO: Edition = Edition {
         heading: b"network\t2\n",
         bytes: 24_576,
         sites: 384,
+        has_ranges: false,
+    };
+    /// Range sheets, headed `ranges`, tab, `1`: they go by the limits of edition 2.
+    pub(crate) const RANGES: Edition = Edition {
+        heading: b"ranges\t1\n",
+        has_ranges: true,
+        ..Edition::TWO
     };
     /// All editions.
     pub const ALL: [Edition; 2] = [Edition::ONE, Edition::TWO];
@@ -48,6 +58,28 @@ impl Edition {
             return Edition::TWO;
         }
         Edition::ONE
+    }
+
+    /// What the program for ranges knows: range sheets alone.
+    pub(crate) fn known_for_ranges() -> Vec<Edition> {
+        let headed = |edition: Edition| Edition {
+            heading: edition.heading,
+            ..Edition::RANGES
+        };
+        if planted(Error::RangesByFirst) {
+            let limits = Edition::ONE;
+            return vec![Edition {
+                bytes: limits.bytes,
+                sites: limits.sites,
+                ..Edition::RANGES
+            }];
+        }
+        if planted(Error::EditionAsRanges) {
+            return [Edition::RANGES, Edition::ONE, Edition::TWO]
+                .map(headed)
+                .to_vec();
+        }
+        vec![Edition::RANGES]
     }
 
     /// Where line 2 of a sheet starts.

@@ -14,24 +14,34 @@ const BAD_NUMBER: u8 = 12;
 const BARE_NUMBER: u8 = 17;
 
 /// Where the names of a line with a letter stand among its fields, and how many fields it may have.
-/// What stands behind the names are numbers.
-fn layout(letter: &[u8]) -> Option<(Range<usize>, RangeInclusive<usize>)> {
+/// What stands behind the names are numbers: of a link in a range sheet just two.
+fn layout(letter: &[u8], has_ranges: bool) -> Option<(Range<usize>, RangeInclusive<usize>)> {
     match letter {
         b"T" if planted(Error::MarkRefused) => None,
         b"N" | b"T" => Some((1..2, 2..=2)),
+        b"L" if has_ranges => {
+            let fewest = if planted(Error::OneSizeAccepted) {
+                4
+            } else {
+                5
+            };
+            let most = if planted(Error::RangeReserve) { 6 } else { 5 };
+            Some((1..3, fewest..=most))
+        }
         b"L" => Some((1..3, 4..=5)),
         _ => None,
     }
 }
 
-/// The number of the fault of form in the line at the start of `rest`, which must have one.
+/// The number of the fault of form in the line at the start of `rest`, of a range sheet or another, which must
+/// have one.
 #[cold]
-pub fn fault(rest: &[u8]) -> u8 {
+pub fn fault(rest: &[u8], has_ranges: bool) -> u8 {
     let Some(length) = rest.iter().position(|&byte| byte == b'\n') else {
         return unended(rest);
     };
     let fields: Vec<&[u8]> = rest[..length].split(|&byte| byte == b'\t').collect();
-    let Some((names, counts)) = layout(fields[0]) else {
+    let Some((names, counts)) = layout(fields[0], has_ranges) else {
         let is_planted = planted(Error::CountBeforeLetter) && ![2, 4, 5].contains(&fields.len());
         return if is_planted {
             FIELD_COUNT
@@ -98,7 +108,7 @@ fn is_number(field: &[u8]) -> bool {
 /// The fault of a line that no byte 10 ends, whatever else is wrong with it.
 fn unended(line: &[u8]) -> u8 {
     let fields: Vec<&[u8]> = line.split(|&byte| byte == b'\t').collect();
-    match layout(fields[0]) {
+    match layout(fields[0], false) {
         Some((_, counts)) if planted(Error::UnendedAsCount) && !counts.contains(&fields.len()) => {
             FIELD_COUNT
         }

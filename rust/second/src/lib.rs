@@ -2,7 +2,8 @@
 //!
 //! It reads a network sheet and writes the report headed `plan`, or that headed `whole`, or lists the
 //! sites in the order of work, or replays a booking log over it, or trims it with the sheet of a
-//! neighbouring region, or tells why the sheet is refused. It was written from the scope document and
+//! neighbouring region, or tells within what totals and trimmed sizes lie for sizes between two, or tells
+//! why the sheet is refused. It was written from the scope document and
 //! the cards alone and shares nothing with the proved planner, so that comparing the two can find a
 //! mistake in either.
 //!
@@ -13,7 +14,7 @@
 //! | module | step |
 //! |---|---|
 //! | `edition` | tells the edition of a sheet, which has the limits |
-//! | `network` | reads the sheet: sites, links, refusals 1 to 8, 10 to 13 and 17 |
+//! | `network` | reads the sheet: sites, links, refusals 1 to 8, 10 to 13, 17 and 19 |
 //! | `form` | tells what is off in a line of the wrong form: refusals 2, 10, 11, 17, 12 |
 //! | `names` | finds a site by its name, in either case |
 //! | `neighbours` | lists the neighbours of every site |
@@ -28,6 +29,7 @@
 //! | `order` | takes the sites in the order of work |
 //! | `replay` | replays a booking log over the network |
 //! | `regions` | trims two regions that share one link |
+//! | `ranges` | the report on sizes between two |
 //! | `program` | what the programs do |
 //!
 //! Sites and links are numbered from 0 inside, in the order of their lines. The capacity of a link is
@@ -49,6 +51,7 @@ mod pairs;
 mod pieces;
 pub mod planted;
 pub mod program;
+mod ranges;
 mod regions;
 mod replay;
 mod report;
@@ -60,6 +63,7 @@ pub use edition::Edition;
 use forest::Forest;
 use network::Network;
 use planted::{Error, planted};
+pub use ranges::ranges;
 pub use regions::{Answer, Exchanged, first_step, region_text, regions, regions_text, second_step};
 pub use replay::{AMOUNT, LOG_BYTES, LOG_LINES, OPEN_PAIRS, Replayed, replay};
 use report::Shown;
@@ -92,7 +96,7 @@ pub enum Outcome {
     },
     /// There is none, and the buffer or list is as it was.
     Refused {
-        /// The number of the cause, 1 to 13 or 17.
+        /// The number of the cause, 1 to 13, 17 or 19.
         number: u8,
         /// The line at fault, from 1, or 0 when no line is.
         line: u32,
@@ -117,7 +121,7 @@ pub fn plan(sheet: &[u8], buffer: &mut [u8]) -> Outcome {
 
 /// The same by a planner that knows some editions, to which the heading of another is none.
 pub fn plan_knowing(known: &[Edition], sheet: &[u8], buffer: &mut [u8]) -> Outcome {
-    answer(sheet, known, buffer, |network, tree| {
+    answer(&mut Network::new(sheet), known, buffer, |network, tree| {
         let balanced = trim::balance(tree);
         let cuts = cuts::terminal_cuts(network, tree, &balanced);
         let shown = Shown {
@@ -135,12 +139,17 @@ pub fn plan_knowing(known: &[Edition], sheet: &[u8], buffer: &mut [u8]) -> Outco
 /// Plans the network of `sheet` in whole circuits and writes the report headed `whole` into
 /// `buffer`, as [`plan`] does the other.
 pub fn whole(sheet: &[u8], buffer: &mut [u8]) -> Outcome {
-    answer(sheet, &Edition::ALL, buffer, |network, tree| {
-        if planted(Error::WholeFromHighest) {
-            return write_whole(network, &RootedTree::rooted(network, true));
-        }
-        write_whole(network, tree)
-    })
+    answer(
+        &mut Network::new(sheet),
+        &Edition::ALL,
+        buffer,
+        |network, tree| {
+            if planted(Error::WholeFromHighest) {
+                return write_whole(network, &RootedTree::rooted(network, true));
+            }
+            write_whole(network, tree)
+        },
+    )
 }
 
 /// The report in whole circuits.
@@ -193,9 +202,12 @@ pub fn order(sheet: &[u8], list: &mut [usize]) -> Outcome {
 /// Writes a line for each site of `sheet` in the order taken into `buffer`: its number, tab, its
 /// name.
 pub fn order_lines(sheet: &[u8], buffer: &mut [u8]) -> Outcome {
-    answer(sheet, &Edition::ALL, buffer, |network, _| {
-        order::lines(network)
-    })
+    answer(
+        &mut Network::new(sheet),
+        &Edition::ALL,
+        buffer,
+        |network, _| order::lines(network),
+    )
 }
 
 /// The `P` lines of the walk over an accepted sheet, with loads of its links, in the order of
@@ -220,19 +232,19 @@ pub fn pair_lines(sheet: &[u8], loads: &[u32]) -> Option<Vec<u8>> {
     Some(text)
 }
 
-/// Reads a sheet by the editions that are known, lets its report be written, and puts that into `buffer`.
+/// Reads the sheet of an empty network by the editions that are known, lets its report be written, and puts that
+/// into `buffer`.
 #[inline]
 fn answer(
-    sheet: &[u8],
+    network: &mut Network,
     known: &[Edition],
     buffer: &mut [u8],
     write: impl FnOnce(&Network, &RootedTree) -> Vec<u8>,
 ) -> Outcome {
-    let mut network = Network::new(sheet);
     if let Err(Refusal { number, line }) = network.read(known) {
         return Outcome::Refused { number, line };
     }
-    let report = write(&network, &RootedTree::new(&network));
+    let report = write(network, &RootedTree::new(network));
     let length = report.len();
     if length > buffer.len() || (planted(Error::FullBuffer) && length == buffer.len()) {
         return Outcome::Refused { number: 9, line: 0 };

@@ -10,7 +10,7 @@ use crate::{CAPACITY, PLACES, Refusal, Site};
 #[derive(Clone, Copy)]
 pub struct Link {
     pub sites: [Site; 2],
-    /// The usable size: the size less the reserve.
+    /// The usable size: the size less the reserve; of a range the low size.
     pub capacity: u32,
     /// Where its line starts in the sheet.
     start: u16,
@@ -39,6 +39,8 @@ pub struct Network<'sheet> {
     site_count: usize,
     links: [Link; PLACES],
     link_count: usize,
+    /// The high sizes of the links of a range sheet.
+    highs: Vec<u32>,
     folds: [Fold; PLACES],
 }
 
@@ -57,13 +59,14 @@ const NAME_TAKEN: Fault = Fault::Cause(5);
 const UNKNOWN_NAME: Fault = Fault::Cause(6);
 const ALREADY_JOINED: Fault = Fault::Cause(7);
 const RESERVE_ABOVE_SIZE: Fault = Fault::Cause(13);
+const LOW_ABOVE_HIGH: Fault = Fault::Cause(19);
 
 impl Fault {
-    /// The number of the fault of the line at the start of `rest`.
+    /// The number of the fault of the line at the start of `rest`, of a range sheet or another.
     #[cold]
-    fn number(self, rest: &[u8]) -> u8 {
+    fn number(self, rest: &[u8], has_ranges: bool) -> u8 {
         match self {
-            Fault::Form => form::fault(rest),
+            Fault::Form => form::fault(rest, has_ranges),
             Fault::Cause(number) => number,
         }
     }
@@ -87,8 +90,18 @@ impl<'sheet> Network<'sheet> {
             site_count: 0,
             links: [no_link; PLACES],
             link_count: 0,
+            highs: Vec::new(),
             folds: [Fold::default(); PLACES],
         }
+    }
+
+    /// The same over a range sheet, which is measured by edition 2 under any heading.
+    pub fn of_ranges(sheet: &'sheet [u8]) -> Self {
+        let mut network = Network::new(sheet);
+        if !planted(Error::UnheadedRangesByFirst) {
+            network.edition = Edition::RANGES;
+        }
+        network
     }
 
     /// Reads the whole sheet by the editions that are known, or tells its refusal.
@@ -123,7 +136,8 @@ impl<'sheet> Network<'sheet> {
             match read {
                 Ok(next) => position = next,
                 Err(fault) => {
-                    let number = fault.number(&self.sheet[position..]);
+                    let has_ranges = self.edition.has_ranges;
+                    let number = fault.number(&self.sheet[position..], has_ranges);
                     return Err(Refusal { number, line });
                 }
             }
@@ -171,12 +185,21 @@ impl<'sheet> Network<'sheet> {
     ) -> Result<usize, Fault> {
         let (first_name, position) = read_name(self.sheet, start + 2, b'\t', Place::Link(0))?;
         let (second_name, position) = read_name(self.sheet, position, b'\t', Place::Link(1))?;
-        let (size, reserve, next) = read_sizes(self.sheet, position)?;
+        let has_ranges = self.edition.has_ranges;
+        let (size, other, next) = if has_ranges {
+            read_range(self.sheet, position)?
+        } else {
+            read_sizes(self.sheet, position)?
+        };
         let found = (
             table.find(&self.names, first_name, Error::LinksByBytes),
             table.find(&self.names, second_name, Error::LinksByBytes),
         );
-        let capacity = usable_size(size, reserve);
+        let capacity = if has_ranges {
+            low_size(size, other)
+        } else {
+            usable_size(size, other)
+        };
         if let Err(fault) = capacity
             && !is_told_late(fault)
         {
@@ -190,7 +213,8 @@ impl<'sheet> Network<'sheet> {
             return Err(ALREADY_JOINED);
         }
         let is_spelt_alike = self.name(first) == first_name && self.name(second) == second_name;
-        let is_printed = reserve.is_none() && (is_spelt_alike || planted(Error::TypedNames));
+        let is_printed =
+            (other.is_none() || has_ranges) && (is_spelt_alike || planted(Error::TypedNames));
         let length = if is_printed { next - 1 - start } else { 0 };
         // Each link joined two parts of the network, so there are fewer links than sites.
         self.links[self.link_count] = Link {
@@ -199,6 +223,9 @@ impl<'sheet> Network<'sheet> {
             start: start as u16,
             length: length as u16,
         };
+        if has_ranges {
+            self.highs.extend(other);
+        }
         let number = self.link_count as Site;
         self.link_count += 1;
         self.fold(first, second, number);
@@ -247,6 +274,11 @@ impl<'sheet> Network<'sheet> {
     #[inline]
     pub fn capacity(&self, link: Site) -> u32 {
         self.links[usize::from(link)].capacity
+    }
+
+    /// The high sizes of the links of a range sheet, in the order of their lines; their capacities are the low ones.
+    pub fn highs(&self) -> &[u32] {
+        &self.highs
     }
 
     /// The line of a link as it stands in the sheet, byte 10 left off, if the report prints the same:
@@ -367,11 +399,54 @@ fn usable_size(size: u32, reserve: Option<u32>) -> Result<u32, Fault> {
     Ok(size - held_back)
 }
 
+/// Reads the low and the high size that end a link line of a range sheet; returns them and the position past the
+/// line.
+#[inline]
+fn read_range(sheet: &[u8], position: usize) -> Result<(u32, Option<u32>, usize), Fault> {
+    let (low, after, next) = read_number(sheet, position)?;
+    if planted(Error::OneSizeAccepted) && after == b'\n' {
+        return Ok((low, Some(low), next));
+    }
+    if after != b'\t' {
+        return Err(Fault::Form);
+    }
+    let (high, after, next) = read_number(sheet, next)?;
+    if planted(Error::RangeReserve) && after == b'\t' {
+        let (reserve, after, next) = read_number(sheet, next)?;
+        let [low, high] = [low, high].map(|size| size.saturating_sub(reserve));
+        return (after == b'\n')
+            .then_some((low, Some(high), next))
+            .ok_or(Fault::Form);
+    }
+    if after != b'\n' {
+        return Err(Fault::Form);
+    }
+    Ok((low, Some(high), next))
+}
+
+/// The low size of a range. A number that is too large is told before a low size above the high one.
+#[inline]
+fn low_size(low: u32, high: Option<u32>) -> Result<u32, Fault> {
+    let high = high.unwrap_or(low);
+    let is_above = low > high || (planted(Error::EqualRangeRefused) && low == high);
+    if is_above && planted(Error::RangeBeforeLarge) {
+        return Err(LOW_ABOVE_HIGH);
+    }
+    if low > CAPACITY || high > CAPACITY {
+        return Err(TOO_LARGE);
+    }
+    if is_above {
+        return Err(LOW_ABOVE_HIGH);
+    }
+    Ok(low)
+}
+
 /// Whether a fault of the sizes is told after an unknown name, which is an error that can be planted.
 #[inline(always)]
 fn is_told_late(fault: Fault) -> bool {
     (planted(Error::UnknownFirst) && fault == TOO_LARGE)
         || (planted(Error::UnknownBeforeReserve) && fault == RESERVE_ABOVE_SIZE)
+        || (planted(Error::UnknownBeforeRange) && fault == LOW_ABOVE_HIGH)
 }
 
 /// Reads a number; returns it, the byte behind it and the position past that byte. Every number
@@ -539,7 +614,7 @@ mod tests {
     fn the_reserve_comes_off() {
         let usable = |size, reserve| match usable_size(size, reserve) {
             Ok(usable) => Ok(usable),
-            Err(fault) => Err(fault.number(b"")),
+            Err(fault) => Err(fault.number(b"", false)),
         };
         for size in [0, 1, 2, 999_999, CAPACITY] {
             assert_eq!(usable(size, None), Ok(size));

@@ -214,10 +214,30 @@ pub enum Error {
     FarOnOneSide = 103,
     /// The far site may have several links.
     FarWithLinks = 104,
+    /// The least total is that of the low sizes at the ends, not trimmed.
+    UntrimmedLeast = 105,
+    /// The greatest trimmed size of a link is that among the low sizes of all others.
+    GreatestAmongLow = 106,
+    /// An unknown name is told before a low size above the high one.
+    UnknownBeforeRange = 107,
+    /// A range of one size, low and high, is refused.
+    EqualRangeRefused = 108,
+    /// A link line with one size is accepted, which is low and high.
+    OneSizeAccepted = 109,
+    /// A link line of a range sheet may have a reserve, which is taken off both sizes.
+    RangeReserve = 110,
+    /// A sheet under the heading of an edition is read as a range sheet.
+    EditionAsRanges = 111,
+    /// Range sheets go by the limits of edition 1.
+    RangesByFirst = 112,
+    /// A low size above the high one is told before a number that is too large.
+    RangeBeforeLarge = 113,
+    /// A sheet that is not headed `ranges` is measured by edition 1 when ranges are asked for.
+    UnheadedRangesByFirst = 114,
 }
 
 /// All errors, in the order of their numbers.
-pub const ERRORS: [Error; 104] = [
+pub const ERRORS: [Error; 114] = [
     Error::RoundedHalf,
     Error::HighestRoot,
     Error::UpwardSets,
@@ -322,6 +342,16 @@ pub const ERRORS: [Error; 104] = [
     Error::MarkedCountedOnce,
     Error::FarOnOneSide,
     Error::FarWithLinks,
+    Error::UntrimmedLeast,
+    Error::GreatestAmongLow,
+    Error::UnknownBeforeRange,
+    Error::EqualRangeRefused,
+    Error::OneSizeAccepted,
+    Error::RangeReserve,
+    Error::EditionAsRanges,
+    Error::RangesByFirst,
+    Error::RangeBeforeLarge,
+    Error::UnheadedRangesByFirst,
 ];
 
 #[cfg(feature = "planted")]

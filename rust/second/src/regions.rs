@@ -7,7 +7,7 @@ use crate::edition::Edition;
 use crate::names::{Name, NameTable};
 use crate::network::Network;
 use crate::planted::{Error, planted};
-use crate::report::{push_name, push_number};
+use crate::report::{push_ends, push_number};
 use crate::tree::RootedTree;
 use crate::trim::{self, Balanced};
 use crate::{PLACES, Refusal, SITES, Site};
@@ -110,11 +110,7 @@ fn push_links(text: &mut Vec<u8>, sheet: &[u8], sizes: &[u64]) {
     let is_accepted = network.read(&Edition::ALL).is_ok();
     debug_assert!(is_accepted);
     for (link, &size) in network.links().iter().zip(sizes) {
-        text.push(b'L');
-        for site in link.sites {
-            text.push(b'\t');
-            push_name(text, network.name(site));
-        }
+        push_ends(text, &network, link);
         text.push(b'\t');
         push_number(text, size as u32);
         text.push(b'\n');

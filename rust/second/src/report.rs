@@ -43,9 +43,11 @@ pub fn write(network: &Network, tree: &RootedTree, shown: &Shown) -> Vec<u8> {
     text.push(b'\n');
 
     for link in network.links() {
-        match network.line(link) {
-            Some(line) => text.extend_from_slice(line),
-            None => push_link(&mut text, network, link),
+        if let Some(line) = network.line(link) {
+            text.extend_from_slice(line);
+        } else {
+            push_ends(&mut text, network, link);
+            push_size(&mut text, network, link);
         }
         text.push(b'\t');
         push_number(&mut text, balanced.capacity(tree.child(link.sites)));
@@ -86,13 +88,17 @@ pub fn write(network: &Network, tree: &RootedTree, shown: &Shown) -> Vec<u8> {
     text
 }
 
-/// Writes the letter of a link, the names of its sites and its usable size.
-fn push_link(text: &mut Vec<u8>, network: &Network, link: &Link) {
+/// Writes the letter of a link and the names of its sites.
+pub fn push_ends(text: &mut Vec<u8>, network: &Network, link: &Link) {
     text.push(b'L');
     for site in link.sites {
         text.push(b'\t');
         push_name(text, network.name(site));
     }
+}
+
+/// Writes the usable size of a link.
+fn push_size(text: &mut Vec<u8>, network: &Network, link: &Link) {
     text.push(b'\t');
     let size = if planted(Error::GivenPrinted) {
         network.given_size(link)
@@ -148,7 +154,7 @@ pub fn push_number(text: &mut Vec<u8>, number: u32) {
 
 /// Writes a number in decimal that is seldom 100,000,000 or more: an end may have many links.
 #[inline(always)]
-fn push_sum(text: &mut Vec<u8>, number: u32) {
+pub fn push_sum(text: &mut Vec<u8>, number: u32) {
     if number < 100_000_000 {
         push_number(text, number);
     } else {

@@ -6,7 +6,7 @@ use crate::tried::tabbed;
 use crate::{Edition, Layout, Names, Network, Random, SHAPES, Shape, Sizes};
 
 /// First lines: the headings of both editions, and such as look much like them.
-const FIRST_LINES: [&str; 44] = [
+pub(crate) const FIRST_LINES: [&str; 44] = [
     "network 1",
     "network 2",
     "network 3",
@@ -58,7 +58,7 @@ const TREE: &str = "N a\nN b\nL a b 4\n";
 const REPORT: &str = "plan 8 1\nL a b 4 4\nN a a\nN b b\nX a 4 1\nX b 4 1\nP a b 8\n";
 
 /// Lengths of sheets at the limits of both editions.
-const LENGTHS: [usize; 8] = [
+pub(crate) const LENGTHS: [usize; 8] = [
     16_383, 16_384, 16_385, 20_000, 24_575, 24_576, 24_577, 70_000,
 ];
 

@@ -175,7 +175,7 @@ pub fn joined(networks: [&Network; 2]) -> Option<Joined> {
 }
 
 /// The trimmed sizes: heavy links are cut at joints until there is none.
-fn trimmed(network: &Network) -> Vec<u64> {
+pub(crate) fn trimmed(network: &Network) -> Vec<u64> {
     let usable = network.usable_sizes();
     let mut sizes: Vec<u64> = usable.into_iter().map(u64::from).collect();
     let around = network.around();
@@ -216,7 +216,11 @@ pub fn due(networks: [&Network; 2]) -> Due {
 }
 
 /// The sum of sizes over the links of those sites that are ends, one with several counting each.
-fn sum_at_ends(network: &Network, sizes: &[u64], sites: impl Iterator<Item = usize>) -> u64 {
+pub(crate) fn sum_at_ends(
+    network: &Network,
+    sizes: &[u64],
+    sites: impl Iterator<Item = usize>,
+) -> u64 {
     let around = network.around();
     let ends = sites.filter(|&site| around[site].len() == 1 || network.marks[site]);
     ends.flat_map(|end| &around[end])

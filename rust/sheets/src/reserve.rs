@@ -6,10 +6,10 @@ use crate::tried::tabbed;
 
 /// Names on link lines: those of the two sites, one of them in the other case, one that is not given,
 /// one that is a bare number and one that is bad.
-const NAMES: [&str; 6] = ["a", "b", "B", "q", "7", "-"];
+pub(crate) const NAMES: [&str; 6] = ["a", "b", "B", "q", "7", "-"];
 
 /// Numbers around every border, and texts that are no numbers.
-const NUMBERS: [&str; 24] = [
+pub(crate) const NUMBERS: [&str; 24] = [
     "0",
     "1",
     "2",
@@ -117,7 +117,7 @@ fn due(names: [&str; 2], numbers: &[&str], is_joined: bool) -> Due {
 }
 
 /// The value of a number that is well written: in decimal, without a leading zero.
-fn value(text: &str) -> Option<u128> {
+pub(crate) fn value(text: &str) -> Option<u128> {
     let is_decimal = !text.is_empty() && text.chars().all(|it| it.is_ascii_digit());
     let has_leading_zero = text.starts_with('0') && text != "0";
     (is_decimal && !has_leading_zero).then(|| text.parse().ok())?
