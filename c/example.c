@@ -1,9 +1,10 @@
 /*
  * Reads one sheet on standard input and writes the report, or the line "refused", tab, number,
  * tab, line. With the word "whole" behind its name it plans in whole circuits; with the word
- * "order" it writes the numbers of the sites in the order of work, one a line. With the word
- * "replay" and two file names, a sheet and a booking log, it writes the answer to each line of the
- * log, or "refused", tab, text, tab, number, tab, line.
+ * "ranges" it writes the report headed "span" on a range sheet; with the word "order" it writes the
+ * numbers of the sites in the order of work, one a line. With the word "replay" and two file names,
+ * a sheet and a booking log, it writes the answer to each line of the log, or "refused", tab, text,
+ * tab, number, tab, line.
  *
  * With the word "regions" and two file names, the sheets of two regions that share one link, it
  * writes of each "region", tab, its number, tab, its sum, and its trimmed sizes, one a line; or
@@ -147,6 +148,8 @@ int main(int count, char **words)
         answer = waderarmoire_order(sheet, sheet_len, list, WADERARMOIRE_SITES);
     else if (strcmp(word, "whole") == 0)
         answer = waderarmoire_whole(sheet, sheet_len, report, sizeof report);
+    else if (strcmp(word, "ranges") == 0)
+        answer = waderarmoire_ranges(sheet, sheet_len, report, sizeof report);
     else
         answer = waderarmoire_plan(sheet, sheet_len, report, sizeof report);
 

@@ -3,8 +3,9 @@
  *
  * One call reads a network sheet and writes the report of its plan, in halves of a circuit or in
  * whole circuits, or lists its sites in the order of work, or replays a booking log over it, or
- * trims it with the sheet of a neighbouring region, or tells why a sheet or the log is refused. Link
- * with libwaderarmoire.a, which is built for x86-64 Linux.
+ * trims it with the sheet of a neighbouring region, or tells within what its total and trimmed sizes
+ * lie for sizes still under survey, or tells why a sheet or the log is refused. Link with
+ * libwaderarmoire.a, which is built for x86-64 Linux.
  *
  * The library allocates nothing, keeps nothing between calls, has no global state and calls
  * nothing but memcpy and memset: any number of threads may call it at once, each with a buffer
@@ -73,6 +74,17 @@ uint64_t waderarmoire_plan(const uint8_t *sheet, size_t sheet_len, uint8_t *repo
  */
 uint64_t waderarmoire_whole(const uint8_t *sheet, size_t sheet_len, uint8_t *report,
                             size_t report_len);
+
+/*
+ * Writes the report headed "span" on a range sheet: the least and the greatest total in halves, then
+ * for each link its names, its low and its high size, and its least and its greatest trimmed size.
+ * For every choice of sizes from low to high, total and trimmed sizes lie within these, and both
+ * ends of each are reached. A range sheet is headed "ranges", tab, "1"; its link lines have a low and
+ * a high size and no reserve. It is measured by edition 2, and so is any other sheet here. The caller
+ * owes the same as of waderarmoire_plan, and the answer is of the same form.
+ */
+uint64_t waderarmoire_ranges(const uint8_t *sheet, size_t sheet_len, uint8_t *report,
+                             size_t report_len);
 
 /*
  * Writes the numbers of all sites of a sheet, counted from 1 by their lines, into a list of list_len
@@ -180,9 +192,10 @@ uint64_t waderarmoire_region_answer(const uint8_t *sheet, size_t sheet_len, cons
  *  13  reserve above the size
  *  17  name of digits only
  *  18  the two sheets do not share one link
+ *  19  of ranges, low size above the high size
  * A sheet whose line 1 is no heading is measured by edition 1. The lowest line with a fault
- * decides; within a line the order is 2, 10, 11, 17, then 4, 5 for a site and 12, 3, 13, 6, 7 for
- * a link.
+ * decides; within a line the order is 2, 10, 11, 17, then 4, 5 for a site and 12, 3, 13 or 19, 6, 7
+ * for a link.
  */
 static inline unsigned waderarmoire_number(uint64_t answer)
 {

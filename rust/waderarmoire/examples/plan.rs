@@ -1,8 +1,9 @@
 //! Reads one sheet on standard input and writes the report, or the line `refused`, tab, number,
-//! tab, line. With the word `whole` behind its name it plans in whole circuits; with the word `order`
-//! it writes the numbers of the sites in the order of work, one a line. With the word `replay` and the
-//! names of two files, a sheet and a booking log, it writes the answers to the lines of the log, one a
-//! line, or the line `refused`, tab, text, tab, number, tab, line.
+//! tab, line. With the word `whole` behind its name it plans in whole circuits; with the word `ranges` it
+//! writes the report headed `span` on a range sheet; with the word `order` it writes the numbers of the
+//! sites in the order of work, one a line. With the word `replay` and the names of two files, a sheet and a
+//! booking log, it writes the answers to the lines of the log, one a line, or the line `refused`, tab, text,
+//! tab, number, tab, line.
 //!
 //! With the word `regions` and the names of two files, the sheets of two regions that share one link, it writes
 //! of each `region`, tab, its number, tab, its sum, and its trimmed sizes, one a line; or the line `refused`,
@@ -13,7 +14,7 @@
 use std::io::{Read, Write, stdin, stdout};
 use waderarmoire::{LINKS, RegionsRefusal, region_answer, region_first, regions};
 use waderarmoire::{LOG_LINES, ReplayRefusal, replay};
-use waderarmoire::{REPORT_BYTES, Refusal, SHEET_BYTES, SITES, order, plan, whole};
+use waderarmoire::{REPORT_BYTES, Refusal, SHEET_BYTES, SITES, order, plan, ranges, whole};
 
 fn main() -> std::io::Result<()> {
     let words: Vec<String> = std::env::args().skip(1).collect();
@@ -39,6 +40,7 @@ fn main() -> std::io::Result<()> {
         .read_to_end(&mut sheet)?;
     let answer = match words.first().map(String::as_str) {
         Some("order") => numbers(&sheet),
+        Some("ranges") => ranges(&sheet, &mut [0; REPORT_BYTES]).map(<[u8]>::to_vec),
         Some("whole") => whole(&sheet, &mut [0; REPORT_BYTES]).map(<[u8]>::to_vec),
         _ => plan(&sheet, &mut [0; REPORT_BYTES]).map(<[u8]>::to_vec),
     };

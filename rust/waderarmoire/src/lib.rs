@@ -95,6 +95,17 @@
 //! # Ok::<(), waderarmoire::RegionsRefusal>(())
 //! ```
 //!
+//! Before a survey a link is known as between two sizes. [`ranges`] tells of a range sheet, whose links have a low
+//! and a high size, within what the total and the trimmed sizes lie:
+//!
+//! ```
+//! let sheet = b"ranges\t1\nN\ta\nN\th\nN\tb\nL\ta\th\t0\t5\nL\th\tb\t1\t2\n";
+//! let mut buffer = [0; waderarmoire::REPORT_BYTES];
+//! let report = waderarmoire::ranges(sheet, &mut buffer)?;
+//! assert_eq!(report, b"span\t0\t4\nL\ta\th\t0\t5\t0\t2\nL\th\tb\t1\t2\t0\t2\n");
+//! # Ok::<(), waderarmoire::Refusal>(())
+//! ```
+//!
 //! The heading of a sheet tells its edition, and that its limits: under `network`, tab, `1` it may have 256
 //! sites and 16,384 bytes, under `network`, tab, `2` 384 sites and 24,576 bytes. Nothing else differs:
 //!
@@ -171,6 +182,13 @@ unsafe extern "C" {
         report_len: usize,
     ) -> u64;
 
+    fn waderarmoire_ranges(
+        sheet: *const u8,
+        sheet_len: usize,
+        report: *mut u8,
+        report_len: usize,
+    ) -> u64;
+
     fn waderarmoire_order(
         sheet: *const u8,
         sheet_len: usize,
@@ -200,10 +218,11 @@ pub struct Refusal {
     /// - 13: reserve above the size
     /// - 17: name of digits only
     /// - 18: of [`region_first`] and [`region_answer`], the two names are not those of a link that can be shared
+    /// - 19: of [`ranges`], low size above the high size
     ///
     /// A sheet whose line 1 is no heading is measured by edition 1. Names are read in either case for 5, 6 and
     /// 7. The lowest line with a fault decides; within a line the order is 2, 10, 11, 17, then 4, 5 for a site
-    /// and 12, 3, 13, 6, 7 for a link.
+    /// and 12, 3, 13 or 19, 6, 7 for a link.
     pub number: u8,
     /// The line at fault, counted from 1, or 0 when no line is.
     pub line: u32,
@@ -229,6 +248,7 @@ impl Refusal {
             13 => "reserve above the size",
             17 => "name of digits only",
             18 => "the two sheets do not share one link",
+            19 => "low size above the high size",
             _ => "a cause without words",
         }
     }
@@ -273,6 +293,24 @@ pub fn plan<'buffer>(sheet: &[u8], buffer: &'buffer mut [u8]) -> Result<&'buffer
 /// a sheet the same as [`plan`] tells. The whole buffer then keeps its values.
 pub fn whole<'buffer>(sheet: &[u8], buffer: &'buffer mut [u8]) -> Result<&'buffer [u8], Refusal> {
     call(waderarmoire_whole, sheet, buffer)
+}
+
+/// Writes the report headed `span` on a range sheet to the start of `buffer` and returns it: within what the
+/// total and the trimmed sizes lie when each link has any size from its low to its high one.
+///
+/// A range sheet is headed `ranges`, tab, `1`, and has the limits of edition 2. Its link lines have a low and a
+/// high size and no reserve; everything else is as in other sheets. The report gives the least and the greatest
+/// total in halves, then for each link its names, low and high size, and its least and greatest trimmed size.
+///
+/// The bytes after the report keep their values. Nothing is allocated, and threads may call this at once.
+///
+/// # Errors
+///
+/// The refusal, if the sheet has a fault or its report is longer than the buffer. The whole buffer then keeps
+/// its values. Of the causes that [`plan`] tells there is no 13; in its place is 19, a low size above the high
+/// one. Every sheet is measured by edition 2, whatever its line 1 is.
+pub fn ranges<'buffer>(sheet: &[u8], buffer: &'buffer mut [u8]) -> Result<&'buffer [u8], Refusal> {
+    call(waderarmoire_ranges, sheet, buffer)
 }
 
 /// Writes the numbers of all sites of `sheet`, counted from 1 by their lines, to the start of `list`

@@ -3,7 +3,7 @@
 use sheets::logs::long_log;
 use sheets::{Layout, Names, Network, Random, SITES, Shape, Sizes};
 use waderarmoire::{
-    LINKS, LOG_LINES, REPORT_BYTES, order, plan, region_first, regions, replay, whole,
+    LINKS, LOG_LINES, REPORT_BYTES, order, plan, ranges, region_first, regions, replay, whole,
 };
 
 /// The resident pages of this process.
@@ -21,6 +21,9 @@ fn nothing_is_kept() {
     let sheet = network.sheet(Layout::Mixed, random);
     let case = long_log(Shape::Prufer, SITES, random);
     let mut buffer = vec![0; REPORT_BYTES];
+    let [ranged, ..] = &sheets::surveys::longest()[..] else {
+        panic!("there are range sheets");
+    };
     let mut list = vec![0; SITES];
     let mut answers = vec![0; LOG_LINES];
     let mut lists = [[0; LINKS]; 2];
@@ -29,6 +32,7 @@ fn nothing_is_kept() {
         for _ in 0..times {
             assert!(plan(&sheet, &mut buffer).is_ok());
             assert!(whole(&sheet, &mut buffer).is_ok());
+            assert!(ranges(ranged, &mut buffer).is_ok());
             assert!(order(&sheet, &mut list).is_ok());
             assert!(replay(&case.sheet, &case.log, &mut answers).is_ok());
             let [sizes, sizes2] = &mut lists;

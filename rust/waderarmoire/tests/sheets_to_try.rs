@@ -4,7 +4,7 @@
 use sheets::Edition;
 use sheets::tried::{ACCEPTED, largest_sums, largest_sums_printed, refused, star};
 use sheets::whole::TRIED;
-use waderarmoire::{REPORT_BYTES, Refusal, SITES, order, plan, whole};
+use waderarmoire::{REPORT_BYTES, Refusal, SITES, order, plan, ranges, whole};
 
 type Planner = for<'buffer> fn(&[u8], &'buffer mut [u8]) -> Result<&'buffer [u8], Refusal>;
 const PLANNERS: [Planner; 2] = [plan, whole];
@@ -53,6 +53,22 @@ fn reports_in_whole_circuits() {
     for tried in &TRIED {
         let report = report(whole, &tried.sheet());
         assert!(tried.agrees(&report), "{}", tried.title);
+    }
+}
+
+#[test]
+fn reports_on_ranges() {
+    for tried in &sheets::ranges::TRIED {
+        let due = tried.text();
+        for length in [REPORT_BYTES, due.len(), due.len() - 1] {
+            let mut buffer = vec![0xee; length];
+            let text = match ranges(&tried.sheet(), &mut buffer) {
+                Ok(report) => report.to_vec(),
+                Err(Refusal { number: 9, line: 0 }) if length < due.len() => due.clone(),
+                Err(Refusal { number, line }) => format!("refused\t{number}\t{line}\n").into(),
+            };
+            assert_eq!(text, due, "{}", tried.title);
+        }
     }
 }
 

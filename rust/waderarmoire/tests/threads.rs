@@ -3,7 +3,7 @@
 use sheets::{Edition, Layout, Names, Network, Random, SHAPES, SITES, SIZE, Shape, Spelling};
 use std::env;
 use std::thread::{self, Builder};
-use waderarmoire::{REPORT_BYTES, STACK_BYTES, order, plan, whole};
+use waderarmoire::{REPORT_BYTES, STACK_BYTES, order, plan, ranges, whole};
 
 /// The sheet of a tree of a shape, its sites in the order of the shape or the other way round, and then
 /// every third one marked; every second link has a reserve.
@@ -88,6 +88,27 @@ fn little_stack() {
         }
     }
     in_thread(sheet(Shape::Star, 4, 1, false), stack);
+}
+
+/// The range sheets with the longest reports, of every shape. `STACK` sets another number of bytes here too.
+#[test]
+fn little_stack_for_ranges() {
+    let given = env::var("STACK").map(|text| text.parse().expect("a number of bytes"));
+    let stack = given.unwrap_or(STACK_BYTES);
+    let mut longest = 0;
+    for sheet in sheets::surveys::longest() {
+        let report = |sheet: &[u8]| {
+            let mut buffer = vec![0; REPORT_BYTES];
+            ranges(sheet, &mut buffer).map(<[u8]>::to_vec)
+        };
+        let alone = report(&sheet);
+        longest = longest.max(alone.as_ref().map_or(0, Vec::len));
+        let thread = Builder::new()
+            .stack_size(stack)
+            .spawn(move || report(&sheet));
+        assert_eq!(thread.unwrap().join().unwrap(), alone);
+    }
+    assert_eq!(longest, 23_005);
 }
 
 /// Threads that plan at once get the answers that one alone gets.

@@ -40,7 +40,7 @@ fn told(number: u8) -> String {
 
 #[test]
 fn causes() {
-    for number in (1..=13).chain([17, 18]) {
+    for number in (1..=13).chain(17..=19) {
         let refusal = Refusal { number, line: 0 };
         assert_eq!(refusal.cause(), told(number));
     }
