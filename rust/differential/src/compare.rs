@@ -158,6 +158,19 @@ impl Planners {
         lent.alike("plan", waderarmoire::plan, second::plan, sheet, length)
     }
 
+    /// Lets both planners write the report headed `span` on a range sheet with a buffer of `length` bytes, and
+    /// compares what they answer, byte by byte.
+    pub fn ranges(&mut self, sheet: &[u8], length: usize) -> Result<Answer<&[u8]>, String> {
+        let lent = &mut self.reports;
+        lent.alike(
+            "ranges",
+            waderarmoire::ranges,
+            second::ranges,
+            sheet,
+            length,
+        )
+    }
+
     /// Lets both planners list the order of work with a list of `length` places, and compares what
     /// they answer, place by place.
     pub fn order(&mut self, sheet: &[u8], length: usize) -> Result<Answer<&[usize]>, String> {

@@ -3,16 +3,19 @@
 use crate::Failure;
 use std::cell::Cell;
 use std::path::Path;
-use std::sync::Mutex;
 use std::sync::atomic::{AtomicU64, Ordering};
+use std::sync::{Mutex, Once};
 use std::thread::ScopedJoinHandle;
 
 /// The threads that compare.
 const THREADS: u64 = 2;
 
+/// Panics tell their case from the first comparison on.
+static TELLING: Once = Once::new();
+
 thread_local! {
-    /// The index of the case a thread compares.
-    static CURRENT: Cell<Option<u64>> = const { Cell::new(None) };
+    /// The option, the seed and the index of the case a thread compares.
+    static CURRENT: Cell<Option<(&str, u64, u64)>> = const { Cell::new(None) };
 }
 
 /// Two texts on which something is wrong: a sheet, and another with the extension of the file that keeps it.
@@ -54,7 +57,7 @@ pub fn compare_all<Kept: Send, Found: Send>(
     new: impl Fn() -> Kept + Sync,
     compare: impl Fn(&mut Kept, u64) -> Result<(), Found> + Sync,
 ) -> Result<Vec<Kept>, Found> {
-    tell_case_on_panic(seed, option);
+    TELLING.call_once(tell_case_on_panic);
     // The lowest case with a difference.
     let lowest = AtomicU64::new(count);
     let found: Mutex<Vec<(u64, Found)>> = Mutex::new(Vec::new());
@@ -62,7 +65,7 @@ pub fn compare_all<Kept: Send, Found: Send>(
         let mut kept = new();
         let mut index = first;
         while index < lowest.load(Ordering::Relaxed) {
-            CURRENT.set(Some(index));
+            CURRENT.set(Some((option, seed, index)));
             if let Err(different) = compare(&mut kept, index) {
                 lowest.fetch_min(index, Ordering::Relaxed);
                 let mut found = found.lock().expect("no thread panics");
@@ -88,11 +91,11 @@ pub fn compare_all<Kept: Send, Found: Send>(
 }
 
 /// Lets a panic tell the case it comes from.
-fn tell_case_on_panic(seed: u64, option: &'static str) {
+fn tell_case_on_panic() {
     let usual = std::panic::take_hook();
     std::panic::set_hook(Box::new(move |panic| {
         usual(panic);
-        if let Some(index) = CURRENT.get() {
+        if let Some((option, seed, index)) = CURRENT.get() {
             eprintln!("made again by: --seed {seed} --{option} {index}");
         }
     }));

@@ -5,6 +5,7 @@
 //!              [--runs N] [--program FILE] [--whole FILE] [--order FILE] [--example FILE]...
 //!              [--logs N] [--log INDEX] [--replay FILE]
 //!              [--pairs N] [--pair INDEX] [--regions FILE] [--region FILE]
+//!              [--surveys N] [--survey INDEX] [--ranges FILE]
 //! ```
 //!
 //! The sheets of the scope document come first, then small sheets with names in either case, with
@@ -16,8 +17,8 @@
 //! them. Orders of work are compared place for place, and some checked against the card's rule. The
 //! first sheet with a difference is kept in a file, and the seed and index that make it again are
 //! printed. With an error planted in the second planner, which needs the feature `planted`, only the
-//! random sheets are compared, to show that they find it, or the random logs or pairs of regions for an
-//! error in these.
+//! random sheets are compared, to show that they find it, or the random logs, pairs of regions or range
+//! sheets for an error in these.
 //!
 //! Then come booking logs: some with answers written by hand, all small ones over a short list of lines,
 //! such with bare numbers as names, random ones, and the programs over files. Answers are compared line
@@ -26,6 +27,9 @@
 //! Then come pairs of regions that share one link, or do not: some with answers written by hand, all small
 //! ones, random ones, and the programs over files. Answers and lists are compared place by place, with what is
 //! due on the joined tree, and with the plan of the joined sheet.
+//!
+//! Last come range sheets: some with answers written by hand, small ones and such at the limits, all small trees
+//! with every choice of sizes, random ones, and the programs over standard input and output.
 
 mod bare;
 mod card;
@@ -46,6 +50,7 @@ mod region_programs;
 mod regions;
 mod search;
 mod small;
+mod spans;
 mod spelling;
 mod steps;
 mod tally;
@@ -71,6 +76,9 @@ struct Options {
     pairs: u64,
     only_pair: Option<u64>,
     region_programs: region_programs::Programs,
+    surveys: u64,
+    only_survey: Option<u64>,
+    range_programs: spans::Programs,
 }
 
 /// A sheet on which something is wrong.
@@ -115,6 +123,12 @@ fn options() -> Result<Options, String> {
             proved: ["target/bin/regions", "target/bin/region"].map(PathBuf::from),
             second: ["second-regions", "second-region"].map(beside_this_program),
         },
+        surveys: 40_000,
+        only_survey: None,
+        range_programs: spans::Programs {
+            proved: PathBuf::from("target/bin/ranges"),
+            second: beside_this_program("second-ranges"),
+        },
     };
     let mut arguments = std::env::args().skip(1);
     while let Some(option) = arguments.next() {
@@ -147,6 +161,9 @@ fn options() -> Result<Options, String> {
             "--pair" => options.only_pair = Some(number()?),
             "--regions" => options.region_programs.proved[0] = value.into(),
             "--region" => options.region_programs.proved[1] = value.into(),
+            "--surveys" => options.surveys = number()?,
+            "--survey" => options.only_survey = Some(number()?),
+            "--ranges" => options.range_programs.proved = value.into(),
             _ => return Err(format!("unknown option {option}")),
         }
     }
@@ -178,6 +195,8 @@ fn run(options: &Options) -> ExitCode {
         compare_logs(options)
     } else if options.only_pair.is_some() || options.planted.is_some_and(is_of_regions) {
         compare_regions(options)
+    } else if options.only_survey.is_some() || options.planted.is_some_and(is_of_ranges) {
+        compare_ranges(options)
     } else if options.planted.is_some() {
         random::compare_all(options.seed, options.sheets)
     } else {
@@ -193,6 +212,7 @@ fn run(options: &Options) -> ExitCode {
             .and_then(|()| options.programs.compare(options.seed, options.runs))
             .and_then(|()| compare_logs(options))
             .and_then(|()| compare_regions(options))
+            .and_then(|()| compare_ranges(options))
     };
     let Err(failure) = outcome else {
         println!("no difference in {:.1} s", start.elapsed().as_secs_f64());
@@ -222,6 +242,12 @@ fn is_of_logs(number: u64) -> bool {
 fn is_of_regions(number: u64) -> bool {
     use second::planted::Error::{FarWithLinks, GreaterShared};
     (GreaterShared as u64..=FarWithLinks as u64).contains(&number)
+}
+
+/// Whether a planted error is one in range sheets.
+fn is_of_ranges(number: u64) -> bool {
+    use second::planted::Error::{UnheadedRangesByFirst, UntrimmedLeast};
+    (UntrimmedLeast as u64..=UnheadedRangesByFirst as u64).contains(&number)
 }
 
 /// Compares the planners on booking logs: on a single one, on random ones, or on all.
@@ -260,6 +286,22 @@ fn compare_regions(options: &Options) -> Result<(), Failure> {
             })
     };
     compared.map_err(|different: Different| different.keep(&options.keep))
+}
+
+/// Compares the planners on range sheets: on a single one, on random ones, or on all.
+fn compare_ranges(options: &Options) -> Result<(), Failure> {
+    let seed = options.seed;
+    if let Some(index) = options.only_survey {
+        return spans::compare_one(seed, index);
+    }
+    if options.planted.is_some() {
+        return spans::compare_all(seed, options.surveys);
+    }
+    let runs = options.runs as u64;
+    spans::small()?;
+    spans::compare_all(seed, options.surveys)?;
+    let programs = &options.range_programs;
+    programs.compare(seed, runs, &options.programs.examples)
 }
 
 /// Keeps a sheet in the file for it.

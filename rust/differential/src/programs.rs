@@ -37,7 +37,7 @@ pub enum Words {
 
 impl Expected {
     /// What is due when a planner answers so on a sheet.
-    fn new(planner: impl FnOnce(&[u8], &mut [u8]) -> Outcome, sheet: &[u8]) -> Self {
+    pub fn new(planner: impl FnOnce(&[u8], &mut [u8]) -> Outcome, sheet: &[u8]) -> Self {
         let mut buffer = vec![0; REPORT_BYTES];
         match planner(sheet, &mut buffer) {
             Outcome::Report { length } => {
@@ -73,6 +73,15 @@ impl Expected {
             printed: self.printed.clone(),
             words: Words::None,
         }
+    }
+
+    /// The same of a program that says a refusal in any words, in one line.
+    pub fn in_any_words(&self) -> Self {
+        let mut due = self.clone();
+        if due.words != Words::None {
+            due.words = Words::OneLine;
+        }
+        due
     }
 
     /// Compares what a program prints, if it came to its end, and what it says.
@@ -182,7 +191,7 @@ fn some_sheets(seed: u64, count: usize) -> Vec<Vec<u8>> {
 }
 
 /// Runs a program on a sheet and compares what it prints, and says on standard error.
-fn run(program: &Path, word: Option<&str>, sheet: &[u8], due: &Expected) -> Result<(), String> {
+pub fn run(program: &Path, word: Option<&str>, sheet: &[u8], due: &Expected) -> Result<(), String> {
     let told = |what: &str| format!("{}: {what}", program.display());
     let mut child = Command::new(program)
         .args(word)
