@@ -11,7 +11,10 @@
  * "refused", tab, sheet, tab, number, tab, line. With the word "region", the file name of a sheet
  * and the two shared names it writes "first", tab, its first trimmed size of the shared link; with
  * the neighbour's number behind them its own part of the answer, headed "region", tab, its sum.
- * Build, from the root of the repository:
+ *
+ * With the word "judge" and two file names, a sheet and a plan drawn by hand, it writes "judged", tab,
+ * the total in halves, tab, "yes" or "no", or a refusal as of a log. Build, from the root of the
+ * repository:
  *
  *   gcc -O2 -Ic c/example.c target/staticlib/libwaderarmoire.a -o example
  */
@@ -26,6 +29,7 @@ static uint8_t sheet[WADERARMOIRE_SHEET_BYTES + 1];
 static uint8_t report[WADERARMOIRE_REPORT_BYTES];
 static size_t list[WADERARMOIRE_SITES];
 static uint8_t log_text[WADERARMOIRE_LOG_BYTES + 1];
+static uint8_t plan_text[WADERARMOIRE_PLAN_BYTES + 1];
 static uint64_t answers[WADERARMOIRE_LOG_LINES];
 static uint8_t sheet2[WADERARMOIRE_SHEET_BYTES + 1];
 static uint64_t sizes[WADERARMOIRE_LINKS];
@@ -126,6 +130,23 @@ static int region(const char *file, const char *one, const char *other, const ch
     return end_output();
 }
 
+/* Judges a plan over a sheet, both files. */
+static int judge(const char *sheet_name, const char *plan_name)
+{
+    size_t sheet_len, plan_len;
+    if (read_file(sheet_name, sheet, sizeof sheet, &sheet_len) != 0
+        || read_file(plan_name, plan_text, sizeof plan_text, &plan_len) != 0)
+        return 1;
+    uint64_t answer = waderarmoire_judge(sheet, sheet_len, plan_text, plan_len);
+    if (waderarmoire_text(answer) != 0)
+        printf("refused\t%u\t%u\t%u\n", waderarmoire_text(answer), waderarmoire_number(answer),
+               waderarmoire_line(answer));
+    else
+        printf("judged\t%llu\t%s\n", (unsigned long long)waderarmoire_total(answer),
+               waderarmoire_is_largest(answer) ? "yes" : "no");
+    return end_output();
+}
+
 int main(int count, char **words)
 {
     if (count == 4 && strcmp(words[1], "replay") == 0)
@@ -134,6 +155,8 @@ int main(int count, char **words)
         return regions(words[2], words[3]);
     if ((count == 5 || count == 6) && strcmp(words[1], "region") == 0)
         return region(words[2], words[3], words[4], count == 6 ? words[5] : NULL);
+    if (count == 4 && strcmp(words[1], "judge") == 0)
+        return judge(words[2], words[3]);
 
     size_t sheet_len = fread(sheet, 1, sizeof sheet, stdin);
     if (ferror(stdin)) {

@@ -4,8 +4,8 @@
  * One call reads a network sheet and writes the report of its plan, in halves of a circuit or in
  * whole circuits, or lists its sites in the order of work, or replays a booking log over it, or
  * trims it with the sheet of a neighbouring region, or tells within what its total and trimmed sizes
- * lie for sizes still under survey, or tells why a sheet or the log is refused. Link with
- * libwaderarmoire.a, which is built for x86-64 Linux.
+ * lie for sizes still under survey, or judges a plan drawn by hand, or tells why one of the texts is
+ * refused. Link with libwaderarmoire.a, which is built for x86-64 Linux.
  *
  * The library allocates nothing, keeps nothing between calls, has no global state and calls
  * nothing but memcpy and memset: any number of threads may call it at once, each with a buffer
@@ -48,6 +48,10 @@ extern "C" {
 /* The largest log that is replayed, in bytes and in lines; a list of so many answers is enough. */
 #define WADERARMOIRE_LOG_BYTES 65536
 #define WADERARMOIRE_LOG_LINES 4096
+
+/* The largest plan drawn by hand that is judged, in bytes and in lines. */
+#define WADERARMOIRE_PLAN_BYTES 65536
+#define WADERARMOIRE_PLAN_LINES 1024
 
 /* A thread with a stack of this length can plan every sheet. */
 #define WADERARMOIRE_STACK_BYTES 196608
@@ -177,6 +181,31 @@ uint64_t waderarmoire_region_answer(const uint8_t *sheet, size_t sheet_len, cons
                                     uint64_t number, uint64_t *sizes, size_t sizes_len);
 
 /*
+ * Judges a plan drawn by hand, of plan_len bytes, over the network of a sheet. A line of the plan is
+ * "P", then the names of two ends in either order and an amount in halves from 1 to 2,000,000,
+ * parted by tabs; the lines of a report that begin with "P" are such. A plan of 0 bytes has no lines
+ * and is accepted. The plan is refused for
+ *   1  more bytes or lines than those above, at line 0
+ *   2  first field other than "P", or a line that is not ended
+ *  10  wrong number of fields
+ *  11  a name is not 1 to 12 letters or digits
+ *  17  name of digits only
+ *  12  a number is not written in decimal without a leading zero
+ *   3  amount 0 or above 2,000,000
+ *   6  the names are not those of two different ends (a-z read as A-Z), or another
+ *      end stands on the path between them
+ *  20  the pair is given on an earlier line, in either order
+ *  21  after the last line, at line 0: some link would carry more than twice its usable size
+ * The sheet's refusals come first. The lowest line at fault decides, within a line in this order.
+ *
+ * The caller owes the same for sheet and plan, neither of which is written. On a refusal the answer
+ * holds the text that is refused (1 the sheet, 2 the plan), its number and line; on success the total
+ * and whether it is the largest, taken out by waderarmoire_total and waderarmoire_is_largest.
+ */
+uint64_t waderarmoire_judge(const uint8_t *sheet, size_t sheet_len, const uint8_t *plan,
+                            size_t plan_len);
+
+/*
  * The number of the refusal, or 0 for success:
  *   1  no bytes, or more than 16,384 (edition 2: 24,576)
  *   2  wrong heading, letter or line ending
@@ -205,8 +234,8 @@ static inline unsigned waderarmoire_number(uint64_t answer)
 }
 
 /*
- * Of a replay, the text that is refused: 1 the sheet, 2 the log; of two regions, the sheet, or 0
- * with 18; 0 for success.
+ * Of a replay or a judgement, the text that is refused: 1 the sheet, 2 the other; of two regions, the
+ * sheet, or 0 with 18; 0 for success.
  */
 static inline unsigned waderarmoire_text(uint64_t answer)
 {
@@ -245,6 +274,18 @@ static inline size_t waderarmoire_region_count(uint64_t answer)
 static inline uint64_t waderarmoire_region_sum(uint64_t answer)
 {
     return answer & 0x3fffffffu;
+}
+
+/* The total in halves of a plan that is accepted. */
+static inline uint64_t waderarmoire_total(uint64_t answer)
+{
+    return answer >> 1;
+}
+
+/* Whether no fitting plan has a greater total than one that is accepted: 1, or else 0. */
+static inline int waderarmoire_is_largest(uint64_t answer)
+{
+    return (int)(answer & 1u);
 }
 
 #ifdef __cplusplus

@@ -20,21 +20,21 @@ use Rattle.text_grammar.specs.declared.Check.the-variants as check
 use Rattle.text_grammar.specs.declared.Size.{Size}
 use Rattle.text_grammar.specs.declared.Size.the-variants.{Within, Above}
 use Rattle.sheet_kinds.specs.FormedLines.{second-end, third-end, part-of-field-1, part-of-field-2}
-use Rattle.log_lines.specs.LogLines.{logForm, judged, booking, lineAs, logLine}
+use Rattle.log_lines.specs.LogLines.{sign, logForm, amountForm, planLetter, judged, booking, lineAs, logLine, planLine}
 use Rattle.log_lines.specs.declared.Line.{Line}
 use Rattle.log_lines.specs.declared.Line.the-variants.{Booking, Fault}
 
--- the fields have one of the forms
-abbrev pub IsFormed : Bool → List (List ℕ) → Type 0
-IsFormed opens fs = checked (logForm opens) fs ≡ check.Formed
+-- the fields have the form with a letter
+abbrev pub IsFormed : ℕ → List (List ℕ) → Type 0
+IsFormed letter fs = checked (amountForm letter) fs ≡ check.Formed
 
 -- what the rules say of them
-pub formed-keeps : (opens : Bool) (fs : List (List ℕ)) → IsFormed opens fs → rule.Kept (logForm opens) fs
-formed-keeps opens fs e = rule.a-formed-line-keeps-the-rules (logForm opens) fs e
+pub formed-keeps : (letter : ℕ) (fs : List (List ℕ)) → IsFormed letter fs → rule.Kept (amountForm letter) fs
+formed-keeps letter fs e = rule.a-formed-line-keeps-the-rules (amountForm letter) fs e
 
 -- the line asks for an amount within the limit
-pub record Asks (opens : Bool) (l : List ℕ) : Type 0 where
-  pub formed : IsFormed opens (fields l)
+pub record Asks (letter : ℕ) (l : List ℕ) : Type 0 where
+  pub formed : IsFormed letter (fields l)
   pub some : 1 ≤ value (field (fields l) 3)
   pub limited : value (field (fields l) 3) ≤ AMOUNT
 
@@ -51,26 +51,32 @@ unfolding judged faultOf
 judged-cases P c w f g = ⊎-elim (λ e. rw e (f e)) (λ h. rw (h .1) (g (h .0))) (formed-or-faulty c)
 
 -- the letter chooses the form
-pub letter-tells : (opens : Bool) (l : List ℕ) → field (fields l) 0 ≡ logForm opens .letter ∷ [] → logLine l ≡ lineAs opens (fields l)
+pub letter-tells : (opens : Bool) (l : List ℕ) → field (fields l) 0 ≡ logForm opens .letter ∷ [] → logLine l ≡ lineAs (sign opens) opens (fields l)
 unfolding logLine same
 letter-tells true l e = rw e
 letter-tells false l e = rw e
 
 module _ (l : List ℕ) where
   -- a line that asks is one
-  pub asks-makes : (opens : Bool) → Asks opens l → logLine l ≡ asking opens l
+  asks-as : (letter : ℕ) (opens : Bool) → Asks letter l → lineAs letter opens (fields l) ≡ asking opens l
   unfolding lineAs booking judged faultOf
+  asks-as letter opens h = rw (h .formed, le-leb _ _ (h .some), le-leb _ _ (h .limited))
+
+  pub asks-makes : (opens : Bool) → Asks (sign opens) l → logLine l ≡ asking opens l
   asks-makes opens h =
-      letter-tells opens l (formed-keeps opens (fields l) (h .formed) .counted .letter)
-      ∙ rw (h .formed, le-leb _ _ (h .some), le-leb _ _ (h .limited))
+      letter-tells opens l (formed-keeps (sign opens) (fields l) (h .formed) .counted .letter) ∙ asks-as (sign opens) opens h
+
+  pub asks-makes-plan : Asks planLetter l → planLine l ≡ asking true l
+  unfolding planLine
+  asks-makes-plan h = asks-as planLetter true h
 
   -- its names
-  module _ (opens : Bool) (h : IsFormed opens (fields l)) where
+  module _ (letter : ℕ) (h : IsFormed letter (fields l)) where
     counted : length (fields l) ≡ 4
-    counted = let k = formed-keeps opens (fields l) h .counted in omega (arith, k .enough, k .no-more)
+    counted = let k = formed-keeps letter (fields l) h .counted in omega (arith, k .enough, k .no-more)
 
     short : length (field (fields l) 0) ≡ 1
-    short = ap length (formed-keeps opens (fields l) h .counted .letter)
+    short = ap length (formed-keeps letter (fields l) h .counted .letter)
 
     pub name-is-field-1 : take (2 + length (field (fields l) 1) - 2) (drop 2 l) ≡ field (fields l) 1
     name-is-field-1 = part-of-field-1 l (omega (arith, counted)) short

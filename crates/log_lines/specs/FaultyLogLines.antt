@@ -19,7 +19,7 @@ use Rattle.text_grammar.specs.declared.Check.the-variants as check
 use Rattle.text_grammar.specs.Grammar.{checked, faultOf, WrongCount, BadName, BareName, BadNumber}
 use Rattle.text_grammar.specs.FormLaws.{another-letter}
 use Rattle.text_grammar.specs.RuleLaws as rule
-use Rattle.log_lines.specs.LogLines.{logForm, judged, booking, lineAs, logLine}
+use Rattle.log_lines.specs.LogLines.{sign, logForm, judged, booking, lineAs, logLine}
 use Rattle.log_lines.specs.BookingLaws.{IsFormed, formed-keeps, Asks, asking, judged-cases, letter-tells}
 use Rattle.log_lines.specs.declared.Line.{Line}
 use Rattle.log_lines.specs.declared.Line.the-variants.{Booking, Fault}
@@ -39,7 +39,7 @@ pub record Broken (Rule : Form → List (List ℕ) → Type 0) (l : List ℕ) : 
 -- the line is formed, and its amount is 0 or above the limit
 pub record WrongAmount (l : List ℕ) : Type 0 where
   pub opens : Bool
-  pub formed : IsFormed opens (fields l)
+  pub formed : IsFormed (sign opens) (fields l)
   pub amount : (value (field (fields l) 3) < 1) ⊎ (AMOUNT < value (field (fields l) 3))
 
 -- why a line of a log by itself is at fault, with its number; what the rules are, `Grammar` tells
@@ -55,10 +55,10 @@ module _ (l : List ℕ) where
   -- ---- a line tells what it is: a fault its cause, and any other what it asks for
 
   abbrev pub Tells : Line → Type 0
-  Tells (Booking opens a e b f x) = Asks opens l × (Booking opens a e b f x ≡ asking opens l)
+  Tells (Booking opens a e b f x) = Asks (sign opens) l × (Booking opens a e b f x ≡ asking opens l)
   Tells (Fault n) = LineFault l n
 
-  booking-tells : (opens : Bool) → IsFormed opens (fields l) → Tells (booking opens (fields l))
+  booking-tells : (opens : Bool) → IsFormed (sign opens) (fields l) → Tells (booking opens (fields l))
   unfolding booking
   booking-tells opens g = by (leb 1 (value (field (fields l) 3))) refl (leb (value (field (fields l) 3)) AMOUNT) refl
     where
@@ -97,7 +97,7 @@ module _ (l : List ℕ) where
 
   amount : (h : WrongAmount l) → logLine l ≡ Fault 3
   unfolding lineAs judged faultOf booking
-  amount h = letter-tells (h .opens) l (formed-keeps (h .opens) (fields l) (h .formed) .counted .letter) ∙ rw (h .formed) (⊎-elim few many (h .amount))
+  amount h = letter-tells (h .opens) l (formed-keeps (sign (h .opens)) (fields l) (h .formed) .counted .letter) ∙ rw (h .formed) (⊎-elim few many (h .amount))
     where
       few : value (field (fields l) 3) < 1 → booking (h .opens) (fields l) ≡ Fault 3
       few z = rw (lt-leb 1 (value (field (fields l) 3)) z)

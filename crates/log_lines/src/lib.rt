@@ -1,8 +1,8 @@
-// What a line of a booking log is (document 02, Card 6), by the grammar of lines.
+// What a line of a booking log is (document 02, Card 6), and a line of a plan drawn by hand (Card 12), by the grammar of lines.
 ghost use mathlib.Core.Path.{_≡_};
 ghost use Rattle.text_fields.specs.Fields.{fields};
 ghost use Rattle.text_grammar.specs.Grammar.{split};
-ghost use Rattle.log_lines.specs.LogLines.{logForm, lineAs, logLine};
+ghost use Rattle.log_lines.specs.LogLines.{amountForm, lineAs, logLine, planLine};
 use model::AMOUNT;
 use text_grammar::Fields;
 use text_grammar::Form;
@@ -22,24 +22,24 @@ pub enum Line {
     Fault(u64),
 }
 
-// The form of a line that opens, or of one that gives up.
-fn form(opens: bool) -> Form
-    ensures { λ r. ⌜ r ≡ logForm opens ⌝ }
+// The form of a line with a letter.
+fn form(letter: u8) -> Form
+    ensures { λ r. ⌜ r ≡ amountForm letter ⌝ }
 {
     Form {
-        letter: if opens { b'+' } else { b'-' },
+        letter,
         names: 2,
         least: 1,
         most: 1,
     }
 }
 
-// What a line is, held against one of the two forms.
-fn line_as(line: &[u8], found: Fields, opens: bool) -> Line
+// What a line is, held against the form with a letter.
+fn line_as(line: &[u8], found: Fields, letter: u8, opens: bool) -> Line
     requires { ⌜ found ≡ split (now line) ⌝ }
-    ensures { λ r. ⌜ r ≡ lineAs opens (fields (now (line .entry))) ⌝ }
+    ensures { λ r. ⌜ r ≡ lineAs letter opens (fields (now (line .entry))) ⌝ }
 {
-    let fault = text_grammar::fault(text_grammar::check_line(line, found, form(opens)));
+    let fault = text_grammar::fault(text_grammar::check_line(line, found, form(letter)));
     if fault != 0 {
         return Line::Fault(fault);
     }
@@ -67,5 +67,15 @@ pub fn classify(line: &[u8]) -> Line
 {
     let found = text_grammar::split(line);
     let opens = text_fields::is_byte(text_grammar::field(line, found, 0), b'+');
-    line_as(line, found, opens)
+    if opens {
+        return line_as(line, found, b'+', opens);
+    }
+    line_as(line, found, b'-', opens)
+}
+
+// What a line of a plan is: its letter is `P`, and its amount is told as one to open.
+pub fn plan_line(line: &[u8]) -> Line
+    ensures { λ r. ⌜ r ≡ planLine (now (line .entry)) ⌝ }
+{
+    line_as(line, text_grammar::split(line), b'P', true)
 }

@@ -10,12 +10,12 @@ use lib.ListN.{length, set, length-set, List·getD-eq-default}
 use lib.Seq.{getD-set-same, getD-set-other}
 use Rattle.model.specs.Limits.{SITES, WORDS}
 use Rattle.lists.specs.Numbers.{is, differ, look}
-use Rattle.lists.specs.Sums.{same?, cases}
+use Rattle.lists.specs.Sums.{same?, cases, is-same, is-other, differ-other}
 use Rattle.tree_sets.specs.Members.{bit, member}
 use Rattle.log_paths.specs.Tables.{inTable, PathBy}
-use Rattle.log_paths.specs.Rows.{single, Extended}
+use Rattle.log_paths.specs.Rows.{single, Extended, Put}
 use Rattle.log_paths.specs.Laws.{what-is-no-link-separates-nothing, separates-from}
-use Rattle.log_paths.proofs.Bits.{bit-xor, bit-single}
+use Rattle.log_paths.proofs.Bits.{bit-xor, bit-single, differ-none}
 
 -- f stands at q places from b on, the rest is as it was
 pub record Patch (f : ℕ → ℕ) (b q : ℕ) (was now : List ℕ) : Type 0 where
@@ -52,6 +52,31 @@ patch-extended near far j was now t = record {
       (λ z. t .low (v * WORDS + k / 64) (omega arith))
       (λ z. t .high (v * WORDS + k / 64) (omega arith)));
 }
+
+-- one number more in a row that did not have it
+pub put-row : (was : List ℕ) (site j : ℕ) → site * WORDS + j / 64 < length was → j < SITES → inTable was j site ≡ 0
+    → let place = site * WORDS + j / 64 in Put site j was (set was place (bitXor (look was place) (single (j / 64) j)))
+unfolding inTable
+put-row was site j room low none =
+    let place = site * WORDS + j / 64 in
+    let word = bitXor (look was place) (single (j / 64) j) in
+    record {
+      long = length-set was place word;
+      rows = λ v k l. same? v site
+          (λ e. same? (k / 64) (j / 64)
+          (λ q. let here : v * WORDS + k / 64 ≡ place = omega arith in
+          let whole : j / 64 * 64 + k % 64 ≡ k = omega arith in
+          ap (λ i. bit (look (set was place word) i) (k % 64)) here
+          ∙ ap (λ x. bit x (k % 64)) (getD-set-same was place word 0 room)
+          ∙ bit-single (look was place) (j / 64) j (k % 64) (omega arith)
+          ∙ ap (λ i. differ (bit (look was place) (k % 64)) (is i j)) whole
+          ∙ same? k j
+          (λ z. rw (z, is-same {u = j} {v = j} refl, is-same e, e) (rw none (differ-other {u = 0} {v = 1} (λ w. omega arith) ∙ omega arith)))
+          (λ z. rw (is-other z, here, differ-none (bit (look was place) (k % 64)) (omega arith)) (omega arith)))
+          (λ q. rw (is-other {u = k} {v = j} (λ z. q (ap (λ i. i / 64) z)), getD-set-other was place (v * WORDS + k / 64) word 0 (λ z. q (omega arith)))
+          (omega arith)))
+          (λ d. rw (is-other d, getD-set-other was place (v * WORDS + k / 64) word 0 (λ z. d (omega arith))) (omega arith));
+    }
 
 -- ---- two rows set against each other
 

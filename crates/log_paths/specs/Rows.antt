@@ -2,7 +2,7 @@
 use mathlib.Core.Path.{_≡_}
 use mathlib.Core.Logic.{_≢_}
 use mathlib.Core.List.{List}
-use Prim.Native.Nat.{ℕ, suc, _/_, _%_, _^_, _≤_, _<_}
+use Prim.Native.Nat.{ℕ, suc, _+_, _*_, _/_, _%_, _^_, _≤_, _<_}
 use lib.ListN.{length}
 use Rattle.model.specs.Limits.{ROWS, SITES}
 use Rattle.lists.specs.Numbers.{pick, is, differ, look}
@@ -18,6 +18,11 @@ pub record Extended (near far j : ℕ) (was now : List ℕ) : Type 0 where
   pub long : length now ≡ length was
   pub new : (k : ℕ) → k < SITES → inTable now k far ≡ differ (inTable was k near) (is k j)
   pub kept : (v k : ℕ) → v ≢ far → k < SITES → inTable now k v ≡ inTable was k v
+
+-- the row of `site` has the number j more; the other rows stay
+pub record Put (site j : ℕ) (was now : List ℕ) : Type 0 where
+  pub long : length now ≡ length was
+  pub rows : (v k : ℕ) → k < SITES → inTable now k v ≡ inTable was k v + is v site * is k j
 
 -- the number of the link to the parent, at the place of its child; zeros elsewhere
 pub record LinksUp (links : ℕ) (child up : List ℕ) : Type 0 where

@@ -20,8 +20,8 @@ ghost use Rattle.lists.specs.Numbers.{look};
 ghost use Rattle.theory_trees.specs.Leaves.{Outer};
 ghost use Rattle.tree.specs.Accepted.{MarkedTree};
 ghost use Rattle.tree.specs.Offer.{links};
-ghost use Rattle.log_paths.specs.Tables.{Table, Mapped, PathBy};
-ghost use Rattle.log_paths.specs.Rows.{single, Extended, LinksUp, Outward, Spread};
+ghost use Rattle.log_paths.specs.Tables.{inTable, Table, Mapped, PathBy};
+ghost use Rattle.log_paths.specs.Rows.{single, Extended, Put, LinksUp, Outward, Spread};
 
 // Word q of the set that has only the number j.
 fn single_word(q: usize, j: usize) -> u64
@@ -42,6 +42,23 @@ fn extend(rows: &mut [u64; ROWS], near: usize, far: usize, j: usize)
         let word = rows[near * WORDS + q];
         rows[far * WORDS + q] = word ^ single_word(q, j);
     }
+}
+
+// The row of a site with one number more, which it did not have.
+pub fn put(rows: &mut [u64; ROWS], site: usize, j: usize)
+    requires { ⌜ (length (now rows) ≡ ROWS) × (site ≤ SITES) × (j < SITES) × (inTable (now rows) j site ≡ 0) ⌝ }
+    ensures { λ _. ⌜ Put site j (now (rows .entry)) (now (rows .exit)) ⌝ }
+{
+    let place = site * WORDS + j / 64;
+    rows[place] = rows[place] ^ single_word(j / 64, j);
+}
+
+// Whether a number is in the row of a site.
+pub fn has(rows: &[u64; ROWS], site: usize, j: usize) -> bool
+    requires { ⌜ (site ≤ SITES) × (j < SITES) ⌝ }
+    ensures { λ r. ⌜ r ≡ eqb (inTable (now (rows .entry)) j site) 1 ⌝ }
+{
+    (rows[site * WORDS + j / 64] >> (j % 64)) % 2 == 1
 }
 
 // The number of the link to the parent of each site that is a link's child.

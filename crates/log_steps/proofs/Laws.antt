@@ -81,7 +81,7 @@ module _ {n count : ℕ} {one two c rows f s m l : List ℕ} (g : Given n one tw
       measured = record { few = let v = g .within in omega arith; links = links-only; capacities = g .within .limited; loads = load-small; small = w .limited }
 
       pub raising : Raising path (p .amount) l
-      raising = record { places = t .holds .places; loads = load-small; small = w .limited }
+      raising = record { places = t .holds .places; room = λ j. omega (arith, load-small j, w .limited) }
 
       -- what the walk over the path tells
       pub passing-overfills : Passing path (p .amount) c l → overfilled (links one two) (look c) (entries f s m count) p ≢ 0

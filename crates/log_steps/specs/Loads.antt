@@ -1,7 +1,7 @@
 -- The loads of the links on a path, as a list of SITES places: what is asked of them, and the lists with an amount more or less on the path.
 use mathlib.Core.Path.{_≡_}
 use mathlib.Core.List.{List, map}
-use Prim.Native.Nat.{ℕ, _+_, _-_, _*_, _≤_, _<_}
+use Prim.Native.Nat.{ℕ, _+_, _-_, _*_, _^_, _≤_, _<_}
 use lib.ListN.{length}
 use Rattle.model.specs.Limits.{AMOUNT, SITES, SIZE}
 use Rattle.lists.specs.Numbers.{upfrom, look}
@@ -25,8 +25,7 @@ pub record Passing (path : Set) (x : ℕ) (c l : List ℕ) : Type 0 where
 -- x more fits on every link
 pub record Raising (path : Set) (x : ℕ) (l : List ℕ) : Type 0 where
   pub places : length l ≡ SITES
-  pub loads : (j : ℕ) → look l j ≤ AMOUNT
-  pub small : x ≤ AMOUNT
+  pub room : (j : ℕ) → look l j + x < 2 ^ 64
 
 -- every link on a path has x
 pub record Lowering (path : Set) (x : ℕ) (l : List ℕ) : Type 0 where

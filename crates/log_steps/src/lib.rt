@@ -40,7 +40,7 @@ fn overfills(path: Set, x: u64, capacity: &[u64], load: &[u64; SITES]) -> bool
 }
 
 // x more on every link of a path.
-fn raise(path: Set, x: u64, load: &mut [u64; SITES])
+pub fn raise(path: Set, x: u64, load: &mut [u64; SITES])
     requires { ⌜ Raising path x (now load) ⌝ }
     ensures { λ _. ⌜ now (load .exit) ≡ raised path x (now (load .entry)) ⌝ }
 {

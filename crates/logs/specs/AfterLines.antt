@@ -1,6 +1,7 @@
 -- What holds after every line of a log over an accepted sheet, and what the answer to each line is, also as lent back: the facts of `theory_log` about the
 -- requests of its lines. Document 02, Card 6 ("After every line each link's load is what the answered-0 lines opened over it less what they gave up, and never
 -- above twice its usable size").
+use mathlib.Core.Bool.{false}
 use mathlib.Core.List.{List, [], _∷_, map}
 use mathlib.Core.Logic.{_↔_, _≢_}
 use mathlib.Core.Path.{_≡_, refl, ap, _∙_}
@@ -22,17 +23,12 @@ use Rattle.theory_log.specs.Pairs.{Sites}
 use Rattle.theory_log.specs.Logs as theory
 use Rattle.sheet.specs.Sheet.{Network, readSheet, accepted, editionOf}
 use Rattle.sheet.specs.SheetTheorem.{an-accepted-sheet-is-a-tree}
-use Rattle.logs.specs.Log.{lines, requestAt, requests, isEnd, requestsOf, answersOf}
-use Rattle.logs.specs.LogLaws.{Free, the-requests-can-be-asked, the-requests-open-free-pairs-only}
+use Rattle.log_requests.specs.Requests.{lines, requestAt, requests, isEnd}
+use Rattle.logs.specs.Log.{requestsOf, answersOf}
+use Rattle.log_requests.specs.RequestLaws.{Free, the-requests-can-be-asked, the-requests-open-free-pairs-only, what-a-line-asks}
 use Rattle.logs.specs.Causes as cause
 use Rattle.logs.specs.Outcome.{Replayed}
 use Rattle.logs.specs.Told.{AllAnswered}
-
--- the element at a place of a list that is mapped
-at-place : (f : ℕ → Request) (l : List ℕ) (i : ℕ) (d : Request) → i < length l → getD (map f l) i d ≡ f (look l i)
-at-place f [] i d h = absurd (omega arith)
-at-place f (x ∷ l) zero d h = refl
-at-place f (x ∷ l) (suc i) d h = at-place f l i d (omega arith)
 
 module _ (s : List ℕ) (net : Network) (log : List ℕ) where
   abbrev capacityOf : ℕ → ℕ
@@ -68,7 +64,7 @@ module _ (s : List ℕ) (net : Network) (log : List ℕ) where
     pub once : (a b : ℕ) → placesOf a b (openAfter i) ≤ 1
 
   asked : Each (Asked (length (net .names))) (requestsOf s net log)
-  asked = the-requests-can-be-asked s (net .names) (net .links) (isEnd net) log
+  asked = the-requests-can-be-asked false s (net .names) (net .links) (isEnd net) log
 
   -- after every line
   pub after-every-line : (i : ℕ) → Holds i
@@ -79,7 +75,7 @@ module _ (s : List ℕ) (net : Network) (log : List ℕ) where
     few = theory.after-every-line-at-most-OPEN-pairs-are-open (net .links) capacityOf number (requestsOf s net log) asked i;
     entries = theory.after-every-line-each-open-pair-has-an-amount (net .links) capacityOf number (requestsOf s net log) asked i;
     free = theory.after-every-line-only-what-the-lines-open-is-open (net .links) capacityOf (Free (net .links) (isEnd net)) (requestsOf s net log)
-        (the-requests-open-free-pairs-only s (net .names) (net .links) (isEnd net) log) i;
+        (the-requests-open-free-pairs-only false s (net .names) (net .links) (isEnd net) log) i;
     once = theory.after-every-line-the-open-pairs-are-different (net .links) capacityOf number (requestsOf s net log) asked i;
   }
 
@@ -98,12 +94,12 @@ module _ (s : List ℕ) (net : Network) (log : List ℕ) where
   unfolding requests
   each-line-gets-one-answer =
       theory.each-line-gets-one-answer (net .links) capacityOf [] (requestsOf s net log)
-      ∙ length-map (lines log) (requestAt s (net .names) (net .links) (isEnd net) log)
+      ∙ length-map (lines log) (requestAt false s (net .names) (net .links) (isEnd net) log)
 
   module _ (i : ℕ) (here : i < length (lines log)) where
     counted : i < length (requestsOf s net log)
     unfolding requests
-    counted = omega (arith, length-map (lines log) (requestAt s (net .names) (net .links) (isEnd net) log))
+    counted = omega (arith, length-map (lines log) (requestAt false s (net .names) (net .links) (isEnd net) log))
 
     -- a refused line moves nothing
     pub a-refused-line-moves-nothing : look (answersOf s net log) i ≢ 0 → openAfter (suc i) ≡ openAfter i
@@ -112,12 +108,12 @@ module _ (s : List ℕ) (net : Network) (log : List ℕ) where
 
     -- its answer is that to what it asks, where the lines before it are done
     pub the-answer-to-a-line : look (answersOf s net log) i
-        ≡ answer (net .links) capacityOf (openAfter i) (requestAt s (net .names) (net .links) (isEnd net) log (look (lines log) i))
-    unfolding openAfter requests
+        ≡ answer (net .links) capacityOf (openAfter i) (requestAt false s (net .names) (net .links) (isEnd net) log (look (lines log) i))
+    unfolding openAfter
     the-answer-to-a-line =
         theory.a-line-is-answered-after-those-before-it (net .links) capacityOf [] (requestsOf s net log) i counted
         ∙ ap (answer (net .links) capacityOf (openAfter i))
-        (at-place (requestAt s (net .names) (net .links) (isEnd net) log) (lines log) i (request.Fault 0) here)
+        (what-a-line-asks false s (net .names) (net .links) (isEnd net) log i here)
 
     -- why it gets a number
     abbrev pub Cause : ℕ → Type 0

@@ -10,7 +10,7 @@ use Rattle.model.specs.Parts.{another, crossed, freePair}
 use Rattle.model.specs.Booking.{pair}
 use Rattle.model.specs.declared.Request.the-variants.{Open, Fault}
 use Rattle.sheet_names.specs.declared.Found.the-variants.{At}
-use Rattle.logs.specs.Log.{between}
+use Rattle.log_requests.specs.Requests.{between}
 
 abbrev path : Links
 path = (1, 2) ∷ (2, 3) ∷ []

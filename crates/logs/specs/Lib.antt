@@ -1,6 +1,5 @@
 pub mod Log
 pub mod Outcome
-pub mod LogLaws
 pub mod Causes
 pub mod Unmarked
 pub mod Examples

@@ -8,7 +8,8 @@ use lib.ListN.{length, drop}
 use Rattle.model.specs.Limits.{LOGLINES, LOGBYTES}
 use Rattle.model.specs.declared.Edition.{Edition}
 use Rattle.sheet.specs.Sheet.{Network, Read, refused, accepted, readSheet}
-use Rattle.logs.specs.Log.{lines, answersOf}
+use Rattle.log_requests.specs.Requests.{lines}
+use Rattle.logs.specs.Log.{answersOf}
 use Rattle.logs.specs.declared.Outcome.{Outcome}
 use Rattle.logs.specs.declared.Outcome.the-variants.{Answered, Refused}
 

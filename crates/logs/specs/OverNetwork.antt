@@ -1,4 +1,5 @@
--- A log over the lists of an accepted sheet: their names are the network's and all different, and what a replay comes to, case by case.
+-- A log over the lists of an accepted sheet: what a replay comes to, case by case.
+use mathlib.Core.Bool.{false}
 use mathlib.Core.List.{List, [], _++_}
 use mathlib.Core.Path.{_≡_, sym, ap, _∙_}
 use Prim.Native.Nat.{ℕ, _≤_, _<_}
@@ -6,20 +7,20 @@ use borrow.Author.Tests.{le-leb, lt-leb}
 use lib.ListN.{length, take, drop}
 use Rattle.lists.specs.Numbers.{look}
 use Rattle.lists.specs.Sums.{contradiction}
-use Rattle.model.specs.Limits.{SITES, LOGLINES, LOGBYTES}
+use Rattle.model.specs.Limits.{LOGLINES, LOGBYTES}
 use Rattle.model.specs.Edition.{editions}
 use Rattle.model.specs.Flows.{Links, ends}
 use Rattle.model.specs.Booking.{answers}
 use Rattle.tree.specs.Offer.{links}
-use Rattle.sheet_names.specs.Names.{ranges, Different}
-use Rattle.sheet.specs.Editions.{an-accepted-sheet-is-within-the-largest}
+use Rattle.sheet_names.specs.Names.{ranges}
 use Rattle.sheet.specs.Sheet.{Read, refused, accepted, readSheet}
-use Rattle.sheet.specs.Reading.{lists, reading}
-use Rattle.sheet.specs.ListLaws.{names-are}
+use Rattle.sheet.specs.Reading.{reading}
 use Rattle.sheet.specs.declared.Answer.the-variants as answered
 use Rattle.sheet.specs.declared.Lists.{Lists}
 use Rattle.planner.specs.Taken.{Listed, the-lists-are-taken-apart, the-marks-are-taken-apart, the-links-are-the-networks, the-ends-are-the-networks}
-use Rattle.logs.specs.Log.{lines, requests, answersOf}
+use Rattle.log_requests.specs.Requests.{lines, requests}
+use Rattle.log_requests.specs.Names.{the-names-are-the-networks}
+use Rattle.logs.specs.Log.{answersOf}
 use Rattle.logs.specs.Outcome.{replayOver, replayRead, replayed}
 use Rattle.logs.specs.declared.Outcome.the-variants.{Answered, Refused}
 
@@ -36,18 +37,10 @@ refused-is-told s log l n k e = by (readSheet editions s) e
 -- the same answers over the same lists
 alike : (s log : List ℕ) {ls ks : Links} {c d : List ℕ} {names others : List (ℕ × ℕ)} {t u : ℕ → ℕ}
     → ls ≡ ks → c ≡ d → names ≡ others → t ≡ u
-    → answers ls (look c) [] (requests s names ls t log) ≡ answers ks (look d) [] (requests s others ks u log)
+    → answers ls (look c) [] (requests false s names ls t log) ≡ answers ks (look d) [] (requests false s others ks u log)
 alike s log e f g h = rw (e, f, g, h)
 
 module _ {s : List ℕ} {network : Lists} (r : Listed s network) where
-  -- the names
-  names-of-lists : ranges (network .start) (network .end) 0 (network .sites) ≡ r .net .names
-  unfolding lists
-  names-of-lists = rw (r .listed) (names-are SITES (r .net .names))
-
-  pub the-names-are-different : Different s (ranges (network .start) (network .end) 0 (network .sites))
-  the-names-are-different = rw names-of-lists (an-accepted-sheet-is-within-the-largest s (r .net) (r .read) .different)
-
   module _ (log l : List ℕ) where
     pub too-many-bytes : LOGBYTES < length log → replayed editions s log l ≡ record { outcome = Refused 2 1 0; list = l }
     unfolding replayed replayRead replayOver
@@ -71,7 +64,7 @@ module _ {s : List ℕ} {network : Lists} (r : Listed s network) where
   -- the answers over the lists are those over the network
   pub the-answers-are-the-networks : (log : List ℕ) → let m = network .links in let ls = links (take m (network .one)) (take m (network .two)) in
       answers ls (look (take m (network .capacity))) []
-      (requests s (ranges (network .start) (network .end) 0 (network .sites)) ls
+      (requests false s (ranges (network .start) (network .end) 0 (network .sites)) ls
       (look (ends ls (network .sites) (take (network .sites) (network .mark)))) log)
       ≡ answersOf s (r .net) log
   the-answers-are-the-networks log =
@@ -80,5 +73,5 @@ module _ {s : List ℕ} {network : Lists} (r : Listed s network) where
       let same : a .net ≡ r .net = cc in
       let ends-are = ap (λ marks. look (ends (links (take (network .links) (network .one)) (take (network .links) (network .two))) (network .sites) marks))
       (the-marks-are-taken-apart r) ∙ the-ends-are-the-networks a in
-      alike s log (the-links-are-the-networks a) (a .sizes) (names-of-lists ∙ ap (λ n. n .names) (sym same)) ends-are
+      alike s log (the-links-are-the-networks a) (a .sizes) (the-names-are-the-networks r ∙ ap (λ n. n .names) (sym same)) ends-are
       ∙ ap (λ net. answersOf s net log) same

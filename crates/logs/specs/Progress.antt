@@ -1,5 +1,6 @@
 -- How far a log is replayed: the arrays hold what the lines so far leave open, the list their answers, and the lines left are those from an offset on.
 -- Each step takes one line from those left to those done.
+use mathlib.Core.Bool.{false}
 use mathlib.Core.List.{List, [], _∷_, _++_, map, map-append, append-assoc, append-nil}
 use mathlib.Core.Path.{_≡_, refl, sym, ap, ap₂, _∙_}
 use Prim.Native.Nat.{ℕ, suc, _+_, _-_, _≤_, _<_}
@@ -18,8 +19,8 @@ use Rattle.log_pairs.specs.Arrays.{entries}
 use Rattle.log_steps.specs.Steps.{Standing, Answered}
 use Rattle.log_steps.specs.Replays as replays
 use Rattle.log_steps.specs.declared.Replied.{Replied}
-use Rattle.logs.specs.Log.{linesFrom, lines, requestAt, requests}
-use Rattle.logs.specs.LogLaws.{after-within, lines-end, lines-step, all-lines, a-request-can-be-asked}
+use Rattle.log_requests.specs.Requests.{linesFrom, lines, requestAt, requests}
+use Rattle.log_requests.specs.RequestLaws.{after-within, lines-end, lines-step, all-lines, a-request-can-be-asked}
 
 -- a place of a list is set, behind those before it
 set-behind : (a b : List ℕ) (x v : ℕ) → set (a ++ (x ∷ b)) (length a) v ≡ (a ++ (v ∷ [])) ++ b
@@ -29,7 +30,7 @@ set-behind (y ∷ a) b x v = ap (λ r. y ∷ r) (set-behind a b x v)
 module _ (s : List ℕ) (names : List (ℕ × ℕ)) (ls : Links) (t : ℕ → ℕ) (c : ℕ → ℕ) (log l : List ℕ) where
   -- what the lines at some offsets ask
   abbrev asked : List ℕ → List Request
-  asked ats = map (requestAt s names ls t log) ats
+  asked ats = map (requestAt false s names ls t log) ats
 
   -- the first i lines are done, and the next one starts at an offset
   pub record Progress (f g m load : List ℕ) (count at i : ℕ) (list : List ℕ) : Type 0 where
@@ -53,7 +54,7 @@ module _ (s : List ℕ) (names : List (ℕ × ℕ)) (ls : Links) (t : ℕ → �
 
   module _ {f g m load : List ℕ} {count at i : ℕ} {list : List ℕ} (P : Progress f g m load count at i list) where
     answered : length (answers ls c [] (asked (P .done))) ≡ i
-    answered = each-line-gets-one-answer ls c [] (asked (P .done)) ∙ length-map (P .done) (requestAt s names ls t log) ∙ P .counted
+    answered = each-line-gets-one-answer ls c [] (asked (P .done)) ∙ length-map (P .done) (requestAt false s names ls t log) ∙ P .counted
 
     pub standing : Standing ls (length names) c f g m load count
     standing = replays.replayed-standing ls (length names) c (P .replayed)
@@ -77,7 +78,7 @@ module _ (s : List ℕ) (names : List (ℕ × ℕ)) (ls : Links) (t : ℕ → �
       room h = omega (arith, ap length (P .left), length-append (P .done) (linesFrom log (length log - at) at), ap length (lines-step log at h), P .counted)
 
       module _ (h : at < length log) {f′ g′ m′ load′ : List ℕ} {reply : Replied}
-          (a : Answered ls c (entries f g m count) (requestAt s names ls t log at) f′ g′ m′ load′ reply) where
+          (a : Answered ls c (entries f g m count) (requestAt false s names ls t log at) f′ g′ m′ load′ reply) where
         -- the answer behind those before it
         put : set list i (reply .answer) ≡ answers ls c [] (asked (P .done ++ (at ∷ []))) ++ drop (i + 1) l
         put =
@@ -88,8 +89,8 @@ module _ (s : List ℕ) (names : List (ℕ × ℕ)) (ls : Links) (t : ℕ → �
             ∙ set-behind before (drop (suc i) l) (look l i) v
             ∙ ap₂ (λ w k. (before ++ (w ∷ [])) ++ drop k l) (replays.replayed-answer ls (length names) c (P .replayed) a) (sym (add-one i))
             ∙ ap (λ r. r ++ drop (i + 1) l)
-            (sym (answers-one-more ls c [] (asked (P .done)) (requestAt s names ls t log at))
-            ∙ ap (answers ls c []) (sym (map-append (requestAt s names ls t log) (P .done) (at ∷ []))))
+            (sym (answers-one-more ls c [] (asked (P .done)) (requestAt false s names ls t log at))
+            ∙ ap (answers ls c []) (sym (map-append (requestAt false s names ls t log) (P .done) (at ∷ []))))
 
         pub next : Progress f′ g′ m′ load′ (reply .count) (afterLine log at) (i + 1) (set list i (reply .answer))
         next = record {
@@ -97,13 +98,13 @@ module _ (s : List ℕ) (names : List (ℕ × ℕ)) (ls : Links) (t : ℕ → �
           counted = omega (arith, length-append (P .done) (at ∷ []), P .counted);
           left = P .left ∙ ap (λ r. P .done ++ r) (lines-step log at h) ∙ sym (append-assoc (P .done) (at ∷ []) _);
           on-log = after-within log at;
-          replayed = rw (map-append (requestAt s names ls t log) (P .done) (at ∷ []))
-              (replays.replayed-next ls (length names) c (P .replayed) (a-request-can-be-asked s names ls t log at) a);
+          replayed = rw (map-append (requestAt false s names ls t log) (P .done) (at ∷ []))
+              (replays.replayed-next ls (length names) c (P .replayed) (a-request-can-be-asked false s names ls t log at) a);
           listed = put;
         }
 
     -- after the last line
-    pub over : length log ≤ at → list ≡ answers ls c [] (requests s names ls t log) ++ drop (length (lines log)) l
+    pub over : length log ≤ at → list ≡ answers ls c [] (requests false s names ls t log) ++ drop (length (lines log)) l
     unfolding requests
     over h =
         let all : lines log ≡ P .done = P .left ∙ ap (λ r. P .done ++ r) (lines-end log (length log - at) at h) ∙ append-nil (P .done) in

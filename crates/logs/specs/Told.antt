@@ -8,7 +8,7 @@ use native.Mathlib.Omega.{arith}
 use native.Mathlib.Decide.{decLe}
 use borrow.Author.Tests.{le-leb, lt-leb}
 use lib.ListN.{length, drop}
-use Rattle.lists.specs.Sums.{cases, contradiction}
+use Rattle.lists.specs.Sums.{cases}
 use Rattle.model.specs.Limits.{LOGLINES, LOGBYTES}
 use Rattle.model.specs.Edition.{edition1, edition2, editions}
 use Rattle.model.specs.declared.Edition.{Edition}
@@ -19,7 +19,9 @@ use Rattle.sheet.specs.Editions.{the-new-heading-was-refused-with-2, the-new-he
 use Rattle.sheet.specs.Answers.{SheetNumber, refusals-have-sheet-numbers}
 use Rattle.sheet.specs.SheetTheorem.{a-sheet-is-refused-for-its-cause}
 use Rattle.model.specs.Booking.{answers}
-use Rattle.logs.specs.Log.{linesFrom, lines, requests, answersOf}
+use Rattle.log_requests.specs.Requests.{linesFrom, lines, requests}
+use Rattle.log_requests.specs.Sheets.{Sheet, an-accepted-sheet}
+use Rattle.logs.specs.Log.{answersOf}
 use Rattle.logs.specs.Outcome.{Replayed, textOf, number, lineOf, countOf, replayOver, replayRead, replayed}
 use Rattle.logs.specs.declared.Outcome.the-variants.{Answered, Refused}
 
@@ -38,11 +40,6 @@ pub record AllAnswered (s : List ℕ) (net : Network) (log list : List ℕ) (o :
   pub line-told : lineOf (o .outcome) ≡ 0
   pub count-told : countOf (o .outcome) ≡ length (lines log)
   pub list-filled : o .list ≡ answersOf s net log ++ drop (length (lines log)) list
-
--- the sheet has no cause of its own, and this is its network
-pub record Sheet (known : List Edition) (s : List ℕ) (net : Network) : Type 0 where
-  pub no-cause : (k line : ℕ) → ¬ (Refusal (editionOf known s) s k line)
-  pub read : readSheet known s ≡ accepted net
 
 -- the log has no more bytes and lines than a log may have
 pub record Short (log : List ℕ) : Type 0 where
@@ -64,7 +61,7 @@ pub data ReplayTold (known : List Edition) (s log l : List ℕ) : Type 0 where
 module _ (known : List Edition) (s log l : List ℕ) where
   module _ (net : Network) (e : readSheet known s ≡ accepted net) where
     sheet : Sheet known s net
-    sheet = record { no-cause = λ k line c. let r = a-sheet-is-refused-for-its-cause (editionOf known s) s k line .1 c in contradiction cc; read = e }
+    sheet = an-accepted-sheet known s net e
 
     over-short-log : length log ≤ LOGBYTES → length (lines log) ≤ LOGLINES → ReplayTold known s log l
     unfolding replayed replayRead replayOver

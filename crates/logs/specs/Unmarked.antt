@@ -1,6 +1,6 @@
 -- What Card 7 changed in a log (document 02): where every end has one link, a log is answered as by the rule from before, which gave 6 unless the names were
 -- those of two different ends. Since then no end stands between two others.
-use mathlib.Core.Bool.{Bool, cond, _&&_, not}
+use mathlib.Core.Bool.{Bool, cond, _&&_, not, false}
 use mathlib.Core.List.{List, [], map}
 use mathlib.Core.Path.{_≡_, refl, sym, ap, _∙_}
 use Prim.Native.Nat.{ℕ}
@@ -28,8 +28,9 @@ use Rattle.log_lines.specs.declared.Line.the-variants.{Booking, Fault}
 use Rattle.theory_trees.specs.Ends.{unmarked-ends-are-leaves, unmarked-ends-are-outer}
 use Rattle.sheet.specs.Marks.{WithoutMarks}
 use Rattle.planner.specs.Unmarked.{leaves, unmarked}
-use Rattle.logs.specs.Log.{lines, lineOf, requestFor, between, requestBy, requestAt, requests, isEnd, answersOf}
-use Rattle.logs.specs.LogLaws.{Named, found-is-a-site, a-free-pair-is-asked-for, a-pair-that-is-not-free-gets-6}
+use Rattle.log_requests.specs.Requests.{lines, lineOf, requestFor, between, requestBy, requestAt, requests, isEnd}
+use Rattle.logs.specs.Log.{answersOf}
+use Rattle.log_requests.specs.RequestLaws.{Named, found-is-a-site, a-free-pair-is-asked-for, a-pair-that-is-not-free-gets-6}
 
 -- ---- the rule from before
 
@@ -46,7 +47,7 @@ requestBefore s names t l (Fault k) = request.Fault k
 
 -- what the lines of a log asked, one by one
 unfoldable pub requestsBefore : List ℕ → List (ℕ × ℕ) → (ℕ → ℕ) → List ℕ → List Request
-requestsBefore s names t log = map (λ at. requestBefore s names t (lineAt log at) (lineOf log at)) (lines log)
+requestsBefore s names t log = map (λ at. requestBefore s names t (lineAt log at) (lineOf false log at)) (lines log)
 
 -- ---- where every end has one link
 
@@ -70,11 +71,11 @@ module _ (s : List ℕ) (names : List (ℕ × ℕ)) {ls : Links} (T : Tree ls (l
   request-as-before l (Booking opens a e b f x) = between-as-before opens x _ _ (found-is-a-site s _ names) (found-is-a-site s _ names)
   request-as-before l (Fault k) = refl
 
-  pub where-every-end-has-one-link-a-log-asks-what-it-asked-before : (log : List ℕ) → requests s names ls t log ≡ requestsBefore s names t log
+  pub where-every-end-has-one-link-a-log-asks-what-it-asked-before : (log : List ℕ) → requests false s names ls t log ≡ requestsBefore s names t log
   unfolding requests requestAt requestsBefore
   where-every-end-has-one-link-a-log-asks-what-it-asked-before log =
-      map-same (requestAt s names ls t log) (λ at. requestBefore s names t (lineAt log at) (lineOf log at)) (lines log)
-      (each-all _ (λ at. request-as-before (lineAt log at) (lineOf log at)) (lines log))
+      map-same (requestAt false s names ls t log) (λ at. requestBefore s names t (lineAt log at) (lineOf false log at)) (lines log)
+      (each-all _ (λ at. request-as-before (lineAt log at) (lineOf false log at)) (lines log))
 
 -- so over an accepted sheet whose ends have one link each every line gets the answer that it got
 pub where-every-end-has-one-link-a-log-is-answered-as-before : (known : List Edition) (s : List ℕ) (net : Network) → readSheet known s ≡ accepted net

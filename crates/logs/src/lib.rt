@@ -1,148 +1,35 @@
 // A booking log replayed over a sheet (document 02, Cards 6 and 7): each line gets one answer.
-ghost use mathlib.Core.Bool.{true};
+ghost use mathlib.Core.Bool.{true, false};
 ghost use mathlib.Core.Path.{_≡_};
 ghost use mathlib.Core.List.{[], _++_};
 ghost use Prim.Native.Nat.{_≤_};
 ghost use lib.ListN.{length, take, drop};
 ghost use Rattle.lists.specs.Numbers.{look};
-ghost use Rattle.model.specs.Limits.{SITES};
 ghost use Rattle.model.specs.Edition.{editions, largest};
 ghost use Rattle.model.specs.Flows.{ends};
 ghost use Rattle.model.specs.Booking.{answers};
 ghost use Rattle.theory_trees.specs.Leaves.{Outer};
 ghost use Rattle.tree.specs.Offer.{links};
 ghost use Rattle.tree.specs.Accepted.{MarkedTree};
-ghost use Rattle.tree_links.specs.Chains.{Placed};
-ghost use Rattle.log_paths.specs.Tables.{Mapped};
 ghost use Rattle.log_steps.specs.Steps.{Given};
-ghost use Rattle.text_lines.specs.Lines.{lineAt};
 ghost use Rattle.sheet_names.specs.Names.{ranges, Different, Indexes};
 ghost use Rattle.planner.specs.Taken.{Listed};
-ghost use Rattle.logs.specs.Log.{lines, lineOf, between, requestAt, requests};
-ghost use Rattle.logs.specs.LogLaws.{Named};
+ghost use Rattle.log_requests.specs.Requests.{lines, requests};
 ghost use Rattle.logs.specs.Outcome.{replayed};
-use log_lines::Line;
 use model::LOGBYTES;
 use model::LOGLINES;
 use model::OPEN;
 use model::PLACES;
-use model::Pair;
 use model::ROWS;
-use model::Request;
 use model::SITES;
 use sheet::Answer;
 use sheet::Lists;
-use sheet_names::Found;
 use sheet_names::TABLE;
 
 // What a replay comes to: so many lines answered, or a refusal with its text (1 the sheet, 2 the log), number and line.
 pub enum Outcome {
     Answered { count: usize },
     Refused { text: u64, number: u64, line: usize },
-}
-
-// The number of lines of a log.
-fn count_lines(log: &[u8]) -> usize
-    ensures { λ r. ⌜ r ≡ length (lines (now (log .entry))) ⌝ }
-{
-    let mut at = 0;
-    let mut count = 0;
-    while text_lines::has_line(log, at) {
-        at = text_lines::rest(log, at);
-        count += 1;
-    }
-    count
-}
-
-// What the line at an offset of a log is; one that no byte 10 ends is a fault.
-fn line_of(log: &[u8], line: &[u8], at: usize) -> Line
-    requires { ⌜ (at ≤ length (now log)) × (now line ≡ lineAt (now log) at) ⌝ }
-    ensures { λ r. ⌜ r ≡ lineOf (now (log .entry)) at ⌝ }
-{
-    if at + line.len() >= log.len() {
-        return Line::Fault(2);
-    }
-    log_lines::classify(line)
-}
-
-// An amount asked for between what the look-ups of two names found, by the links, the table of paths and the ends: fault 6 unless they are two different
-// ends with no other end on their path. `outer` is told where each end has one link.
-fn between(
-    n: usize,
-    one: &[usize],
-    two: &[usize],
-    rows: &[u64; ROWS],
-    ends: &[u8; PLACES],
-    outer: bool,
-    opens: bool,
-    amount: u64,
-    from: Found,
-    to: Found,
-) -> Request
-    requires { ⌜ Mapped n (now one) (now two) (now rows) × Named n from × Named n to
-        × (outer ≡ true → Outer (links (now one) (now two)) n (look (now ends))) ⌝ }
-    ensures { λ r. ⌜ r ≡ between (links (now (one .entry)) (now (two .entry))) (look (now (ends .entry))) opens amount from to ⌝ }
-{
-    let Found::At(first) = from else {
-        return Request::Fault(6);
-    };
-    let Found::At(second) = to else {
-        return Request::Fault(6);
-    };
-    if !log_paths::free(n, one, two, rows, ends, outer, first, second) {
-        return Request::Fault(6);
-    }
-    let pair = Pair {
-        first,
-        second,
-        amount,
-    };
-    if opens {
-        return Request::Open(pair);
-    }
-    Request::GiveUp(pair)
-}
-
-// What the line at an offset of a log asks, over the names, the links and the ends of a network.
-fn request_at(
-    sheet: &[u8],
-    starts: &[usize; SITES],
-    stops: &[usize; SITES],
-    n: usize,
-    table: &[u16; TABLE],
-    one: &[usize],
-    two: &[usize],
-    rows: &[u64; ROWS],
-    ends: &[u8; PLACES],
-    outer: bool,
-    log: &[u8],
-    line: &[u8],
-    at: usize,
-) -> Request
-    requires { ⌜ Mapped n (now one) (now two) (now rows) × Indexes (now sheet) (ranges (now starts) (now stops) 0 n) (now table)
-        × (at ≤ length (now log)) × (now line ≡ lineAt (now log) at)
-        × (outer ≡ true → Outer (links (now one) (now two)) n (look (now ends))) ⌝ }
-    ensures { λ r. ⌜ r ≡ requestAt (now (sheet .entry)) (ranges (now (starts .entry)) (now (stops .entry)) 0 n)
-        (links (now (one .entry)) (now (two .entry))) (look (now (ends .entry))) (now (log .entry)) at ⌝ }
-{
-    let kind = line_of(log, line, at);
-    match kind {
-        Line::Fault(number) => Request::Fault(number),
-        Line::Booking {
-            opens,
-            start,
-            end,
-            start2,
-            end2,
-            amount,
-        } => {
-            let first = sheet_names::part(line, start, end);
-            let second = sheet_names::part(line, start2, end2);
-            let from = sheet_names::find(sheet, starts, stops, n, table, first);
-            let to = sheet_names::find(sheet, starts, stops, n, table, second);
-            between(n, one, two, rows, ends, outer, opens, amount, from, to)
-        }
-    }
 }
 
 // The answers to the lines of a log, into the front of a list with a place for each.
@@ -164,7 +51,7 @@ fn answer_lines(
     requires { ⌜ Given n (now one) (now two) (now capacity) (now rows) × Indexes (now sheet) (ranges (now starts) (now stops) 0 n) (now table)
         × (length (lines (now log)) ≤ length (now list)) × (outer ≡ true → Outer (links (now one) (now two)) n (look (now ends))) ⌝ }
     ensures { λ _. ⌜ now (list .exit) ≡ answers (links (now (one .entry)) (now (two .entry))) (look (now (capacity .entry))) []
-        (requests (now (sheet .entry)) (ranges (now (starts .entry)) (now (stops .entry)) 0 n)
+        (requests false (now (sheet .entry)) (ranges (now (starts .entry)) (now (stops .entry)) 0 n)
         (links (now (one .entry)) (now (two .entry))) (look (now (ends .entry))) (now (log .entry)))
         ++ drop (length (lines (now (log .entry)))) (now (list .entry)) ⌝ }
 {
@@ -177,7 +64,8 @@ fn answer_lines(
     let mut i = 0;
     while text_lines::has_line(log, at) {
         let line = text_lines::line(log, at);
-        let request = request_at(
+        let request = log_requests::request_at(
+            false,
             sheet,
             starts,
             stops,
@@ -212,17 +100,6 @@ fn answer_lines(
     }
 }
 
-// The ends of a tree of n sites with their marks: place v holds 1 where site v is an end, 0 elsewhere.
-fn ends_of(n: usize, one: &[usize], two: &[usize], marks: &[u8]) -> [u8; PLACES]
-    requires { ⌜ (n ≤ SITES) × (n ≡ length (now marks)) × Placed (now one) (now two) ⌝ }
-    ensures { λ r. ⌜ look r ≡ look (ends (links (now (one .entry)) (now (two .entry))) n (now (marks .entry))) ⌝ }
-{
-    let chains = tree_links::chain(one, two);
-    let last = chains.last;
-    let before = chains.before;
-    tree_links::ends(n, &last, &before, one, two, marks)
-}
-
 // The answers to the lines of a log over a tree whose sites have different names, into the front of a list with a place for each: the table of names, the
 // ends and the table of paths are made once.
 fn answer_tree(
@@ -240,13 +117,13 @@ fn answer_tree(
     requires { ⌜ MarkedTree largest n (now one) (now two) (now marks) (now capacity) × Different (now sheet) (ranges (now starts) (now stops) 0 n)
         × (length (lines (now log)) ≤ length (now list)) ⌝ }
     ensures { λ _. ⌜ now (list .exit) ≡ answers (links (now (one .entry)) (now (two .entry))) (look (now (capacity .entry))) []
-        (requests (now (sheet .entry)) (ranges (now (starts .entry)) (now (stops .entry)) 0 n)
+        (requests false (now (sheet .entry)) (ranges (now (starts .entry)) (now (stops .entry)) 0 n)
         (links (now (one .entry)) (now (two .entry)))
         (look (ends (links (now (one .entry)) (now (two .entry))) n (now (marks .entry)))) (now (log .entry)))
         ++ drop (length (lines (now (log .entry)))) (now (list .entry)) ⌝ }
 {
     let table = sheet_names::index(sheet, starts, stops, n);
-    let ends = ends_of(n, one, two, marks);
+    let ends = log_requests::ends_of(n, one, two, marks);
     let outer = tree_links::unmarked(marks);
     let rows = log_paths::paths(n, one, two, marks, capacity);
     answer_lines(
@@ -284,7 +161,7 @@ fn answer_parts<'a>(
         × Different (now sheet) (ranges (now starts) (now stops) 0 n) × (length (lines (now log)) ≤ length (now list))
         × (m ≤ length (now one)) × (m ≤ length (now two)) × (m ≤ length (now capacity)) × (n ≤ length (now mark)) ⌝ }
     ensures { λ _. ⌜ now (list .exit) ≡ answers (links (take m (now (one .entry))) (take m (now (two .entry)))) (look (take m (now (capacity .entry)))) []
-        (requests (now (sheet .entry)) (ranges (now (starts .entry)) (now (stops .entry)) 0 n)
+        (requests false (now (sheet .entry)) (ranges (now (starts .entry)) (now (stops .entry)) 0 n)
         (links (take m (now (one .entry))) (take m (now (two .entry))))
         (look (ends (links (take m (now (one .entry))) (take m (now (two .entry)))) n (take n (now (mark .entry))))) (now (log .entry)))
         ++ drop (length (lines (now (log .entry)))) (now (list .entry)) ⌝ }
@@ -317,7 +194,7 @@ fn replay_network(sheet: &[u8], network: Lists, log: &[u8], list: &mut [u64]) ->
     if log.len() > LOGBYTES {
         return refusal;
     }
-    let count = count_lines(log);
+    let count = log_requests::count_lines(log);
     if count > LOGLINES {
         return refusal;
     }

@@ -1,4 +1,4 @@
--- The limits of the planner, by the names that src/lib.rt gives them. Document 01, "The network sheet", and 02, Cards 6 and 8. A number changes here and
+-- The limits of the planner, by the names that src/lib.rt gives them. Document 01, "The network sheet", and 02, Cards 6, 8 and 12. A number changes here and
 -- there; nothing but these two files knows them. Those of sheets and trees are the largest edition's.
 use Prim.Native.Nat.{ℕ, _+_, _-_, _*_, _/_}
 
@@ -61,6 +61,14 @@ AMOUNT = 2 * SIZE
 -- the largest number of pairs that are open together
 abbrev pub OPEN : ℕ
 OPEN = 512
+
+-- the largest number of lines of a plan drawn by hand
+abbrev pub PLANLINES : ℕ
+PLANLINES = 1024
+
+-- the largest number of bytes of a plan drawn by hand
+abbrev pub PLANBYTES : ℕ
+PLANBYTES = 65536
 
 -- words of the table of paths: a set of links for each site
 abbrev pub ROWS : ℕ

@@ -49,6 +49,12 @@ pub const AMOUNT: u64 = 2 * SIZE;
 // The largest number of pairs that are open together.
 pub const OPEN: usize = 512;
 
+// The largest number of lines of a plan drawn by hand.
+pub const PLANLINES: usize = 1024;
+
+// The largest number of bytes of a plan drawn by hand.
+pub const PLANBYTES: usize = 65536;
+
 // Words of the table of paths: a set of links for each site.
 pub const ROWS: usize = WORDS * PLACES;
 

@@ -66,7 +66,7 @@ fn put_place(buf: &mut [u8], at: usize, line: usize) -> usize
 }
 
 // What is wrong, to the end of the line.
-fn put_cause(buf: &mut [u8], at: usize, number: u64) -> usize
+pub fn put_cause(buf: &mut [u8], at: usize, number: u64) -> usize
     requires { ⌜ Room at (cause number ++ (10 ∷ [])) ⌝ }
     ensures { λ r. ⌜ Wrote (now (buf .entry)) at (cause number ++ (10 ∷ [])) (now (buf .exit)) r ⌝ }
 {

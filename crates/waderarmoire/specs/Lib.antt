@@ -4,3 +4,4 @@ pub mod Replayed
 pub mod PackedSides
 pub mod Sides
 pub mod Exchanged
+pub mod Judged

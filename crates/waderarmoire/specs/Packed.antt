@@ -1,4 +1,5 @@
 -- An outcome as one number, for callers in other languages.
+use mathlib.Core.Bool.{cond}
 use mathlib.Core.List.{List}
 use Prim.Native.Nat.{ℕ, _+_, _*_, _/_, _%_}
 use lib.ListN.{set}
@@ -10,6 +11,8 @@ use Rattle.logs.specs.declared.Outcome.{Outcome as Replay}
 use Rattle.logs.specs.declared.Outcome.the-variants as replay
 use Rattle.exchanges.specs.declared.Outcome.{Outcome as Exchange}
 use Rattle.exchanges.specs.declared.Outcome.the-variants as exchange
+use Rattle.verdicts.specs.declared.Outcome.{Outcome as Verdict}
+use Rattle.verdicts.specs.declared.Outcome.the-variants as verdict
 
 -- the refusal's number times 2 ^ 40, its line times 2 ^ 20, and the report's length. No remainder loses anything, and each can be read off: `Unpacked`.
 unfoldable pub packed : Outcome → ℕ
@@ -37,6 +40,11 @@ unfoldable pub sumsAfter : Exchange → List ℕ → List ℕ
 sumsAfter (exchange.Answered u v) l = set (set l 0 (u .sum)) 1 (v .sum)
 sumsAfter (exchange.Refused x k line) l = l
 
+-- what judging a plan comes to (02, Card 12): a refusal as of a replay; else twice the total, and 1 more for yes
+unfoldable pub packedVerdict : Verdict → ℕ
+packedVerdict (verdict.Judged x largest) = x % 4294967296 * 2 + cond largest 1 0
+packedVerdict (verdict.Refused t k l) = t % 4096 * 4503599627370496 + k % 4096 * 1099511627776 + l % 1048576 * 1048576
+
 -- ---- taken apart, as the C header does (c/waderarmoire.h)
 
 -- the text: value >> 52
@@ -54,3 +62,10 @@ unpackedLine value = value / 1048576 % 1048576
 -- the length: value & 0xfffff
 unfoldable pub unpackedLength : ℕ → ℕ
 unpackedLength value = value % 1048576
+
+-- of a verdict, the total: value >> 1; and whether it is yes: value & 1
+unfoldable pub unpackedTotal : ℕ → ℕ
+unpackedTotal value = value / 2
+
+unfoldable pub unpackedYes : ℕ → ℕ
+unpackedYes value = value % 2

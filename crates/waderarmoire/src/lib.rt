@@ -9,7 +9,8 @@ ghost use Rattle.logs.specs.Outcome.{replayed};
 ghost use Rattle.exchanges.specs.Outcome.{exchanged};
 ghost use Rattle.sides.specs.Outcome.{firstShown, answered};
 ghost use Rattle.spans.specs.Outcome.{spanned};
-ghost use Rattle.waderarmoire.specs.Packed.{packed, asOutcome, packedReplay, packedRegions, sumsAfter};
+ghost use Rattle.verdicts.specs.Outcome.{judged};
+ghost use Rattle.waderarmoire.specs.Packed.{packed, asOutcome, packedReplay, packedRegions, sumsAfter, packedVerdict};
 ghost use Rattle.waderarmoire.specs.PackedSides.{packedFirst, packedSide};
 
 // An outcome as one number: the refusal's number times 2^40, its line times 2^20, and the report's length.
@@ -189,4 +190,29 @@ pub extern "C" fn waderarmoire_ranges(sheet: &[u8], report: &mut [u8]) -> u64
     ensures left { λ r. ⌜ now (report .exit) ≡ spanned (now (sheet .entry)) (now (report .entry)) .buffer ⌝ }
 {
     pack(spans::span(sheet, report))
+}
+
+// What judging comes to as one number: the text times 2^52, the refusal's number times 2^40 and its line times 2^20; or twice the total, and 1 more for yes.
+fn pack_verdict(outcome: verdicts::Outcome) -> u64
+    ensures { λ r. ⌜ r ≡ packedVerdict outcome ⌝ }
+{
+    match outcome {
+        verdicts::Outcome::Judged { total, largest } => {
+            if largest {
+                return total % 4294967296 * 2 + 1;
+            }
+            total % 4294967296 * 2
+        }
+        verdicts::Outcome::Refused { text, number, line } => text % 4096 * 4503599627370496
+            + number % 4096 * 1099511627776
+            + line as u64 % 1048576 * 1048576,
+    }
+}
+
+// Judges a plan drawn by hand over a sheet, as verdicts::judge does, and tells the outcome as one number.
+#[no_mangle]
+pub extern "C" fn waderarmoire_judge(sheet: &[u8], plan: &[u8]) -> u64
+    ensures { λ r. ⌜ r ≡ packedVerdict (judged editions (now (sheet .entry)) (now (plan .entry))) ⌝ }
+{
+    pack_verdict(verdicts::judge(sheet, plan))
 }

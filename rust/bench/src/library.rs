@@ -14,9 +14,9 @@ const TIMING: Duration = Duration::from_micros(200);
 pub struct Times {
     pub proved: f64,
     pub second: f64,
-    /// The length of the sheet, or of the log.
+    /// The length of the sheet, of the log or of the plan drawn by hand.
     pub input_bytes: usize,
-    /// The length of the proved report, or the number of lines answered with 0.
+    /// The length of the proved report, the number of lines answered with 0, or the total of a plan.
     pub answered: usize,
 }
 

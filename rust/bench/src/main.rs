@@ -1,13 +1,14 @@
 //! Measures the proved planner beside the second one.
 //!
 //! ```text
-//! bench [--program FILE] [--second FILE] [--replay FILE] [--into FILE]
+//! bench [--program FILE] [--second FILE] [--replay FILE] [--judge FILE] [--into FILE]
 //! ```
 //!
 //! Prints tables in Markdown, or puts them into a file between the lines `<!-- measured -->` and
 //! `<!-- end -->`.
 
 mod growth;
+mod judge;
 mod library;
 mod log;
 mod machine;
@@ -25,6 +26,8 @@ struct Options {
     second: PathBuf,
     replay: PathBuf,
     second_replay: PathBuf,
+    judge: PathBuf,
+    second_judge: PathBuf,
     into: Option<PathBuf>,
 }
 
@@ -47,6 +50,8 @@ fn options() -> Result<Options, String> {
         second: this.with_file_name("second-plan"),
         replay: PathBuf::from("target/bin/replay"),
         second_replay: this.with_file_name("second-replay"),
+        judge: PathBuf::from("target/bin/judge"),
+        second_judge: this.with_file_name("second-judge"),
         into: None,
     };
     let mut arguments = std::env::args().skip(1);
@@ -58,6 +63,7 @@ fn options() -> Result<Options, String> {
             "--program" => options.program = value.into(),
             "--second" => options.second = value.into(),
             "--replay" => options.replay = value.into(),
+            "--judge" => options.judge = value.into(),
             "--into" => options.into = Some(value.into()),
             _ => return Err(format!("unknown option {option}")),
         }
@@ -101,6 +107,7 @@ fn tables(options: &Options) -> Result<String, Box<dyn std::error::Error>> {
     library_tables(&mut text, "in halves", &library::IN_HALVES)?;
     library_tables(&mut text, "in whole circuits", &library::IN_CIRCUITS)?;
     log::tables(&mut text)?;
+    judge::table(&mut text)?;
     program_table(&mut text, options)?;
     Ok(text)
 }
@@ -133,7 +140,8 @@ fn library_tables(text: &mut String, unit: &str, libraries: &Libraries) -> std::
 fn program_table(text: &mut String, options: &Options) -> Result<(), Box<dyn std::error::Error>> {
     let planners = [options.program.as_path(), options.second.as_path()];
     let desks = [options.replay.as_path(), options.second_replay.as_path()];
-    let mut programs = planners.iter().chain(&desks);
+    let judges = [options.judge.as_path(), options.second_judge.as_path()];
+    let mut programs = planners.iter().chain(&desks).chain(&judges);
     if let Some(missing) = programs.find(|program| !program.is_file()) {
         return Err(format!("{} is missing", missing.display()).into());
     }
@@ -166,7 +174,12 @@ fn program_table(text: &mut String, options: &Options) -> Result<(), Box<dyn std
     std::fs::write(&log_file, case.log)?;
     let files = [sheet_file.clone(), log_file.clone()];
     let title = "the same shape, a log of 4,096 lines";
-    program_row(text, title, desks, &Input::Files(files))?;
+    program_row(text, title, desks, &Input::Files(files.clone()))?;
+    let case = judge::largest(Shape::Prufer).expect("it has many ends");
+    std::fs::write(&sheet_file, case.sheet)?;
+    std::fs::write(&log_file, case.plan)?;
+    let title = "the same shape, a plan of 1,024 lines";
+    program_row(text, title, judges, &Input::Files(files))?;
     std::fs::remove_file(&sheet_file)?;
     std::fs::remove_file(&log_file)?;
     Ok(())

@@ -15,7 +15,7 @@ const RUNS: usize = 501;
 pub enum Input {
     /// One sheet on standard input.
     Sheet(PathBuf),
-    /// The files of a sheet and a log.
+    /// The files of a sheet and a log or a plan.
     Files([PathBuf; 2]),
 }
 

@@ -6,6 +6,7 @@
 //!              [--logs N] [--log INDEX] [--replay FILE]
 //!              [--pairs N] [--pair INDEX] [--regions FILE] [--region FILE]
 //!              [--surveys N] [--survey INDEX] [--ranges FILE]
+//!              [--plans N] [--plan INDEX] [--judge FILE]
 //! ```
 //!
 //! The sheets of the scope document come first, then small sheets with names in either case, with
@@ -17,8 +18,8 @@
 //! them. Orders of work are compared place for place, and some checked against the card's rule. The
 //! first sheet with a difference is kept in a file, and the seed and index that make it again are
 //! printed. With an error planted in the second planner, which needs the feature `planted`, only the
-//! random sheets are compared, to show that they find it, or the random logs, pairs of regions or range
-//! sheets for an error in these.
+//! random sheets are compared, to show that they find it, or the random logs, pairs of regions, range sheets
+//! or plans drawn by hand for an error in these.
 //!
 //! Then come booking logs: some with answers written by hand, all small ones over a short list of lines,
 //! such with bare numbers as names, random ones, and the programs over files. Answers are compared line
@@ -28,8 +29,12 @@
 //! ones, random ones, and the programs over files. Answers and lists are compared place by place, with what is
 //! due on the joined tree, and with the plan of the joined sheet.
 //!
-//! Last come range sheets: some with answers written by hand, small ones and such at the limits, all small trees
+//! Then come range sheets: some with answers written by hand, small ones and such at the limits, all small trees
 //! with every choice of sizes, random ones, and the programs over standard input and output.
+//!
+//! Then come plans drawn by hand: some with answers written out, all small ones over a short list of lines, all
+//! amounts over all small trees, random ones, and the programs over files. Answers are compared with what is due by
+//! the card, and with the greatest totals by linear programming.
 
 mod bare;
 mod card;
@@ -43,6 +48,7 @@ mod indexed;
 mod inward;
 mod logs;
 mod marks;
+mod plans;
 mod printed;
 mod programs;
 mod random;
@@ -79,6 +85,9 @@ struct Options {
     surveys: u64,
     only_survey: Option<u64>,
     range_programs: spans::Programs,
+    plans: u64,
+    only_plan: Option<u64>,
+    plan_programs: plans::Programs,
 }
 
 /// A sheet on which something is wrong.
@@ -129,6 +138,12 @@ fn options() -> Result<Options, String> {
             proved: PathBuf::from("target/bin/ranges"),
             second: beside_this_program("second-ranges"),
         },
+        plans: 30_000,
+        only_plan: None,
+        plan_programs: plans::Programs {
+            proved: PathBuf::from("target/bin/judge"),
+            second: beside_this_program("second-judge"),
+        },
     };
     let mut arguments = std::env::args().skip(1);
     while let Some(option) = arguments.next() {
@@ -164,6 +179,9 @@ fn options() -> Result<Options, String> {
             "--surveys" => options.surveys = number()?,
             "--survey" => options.only_survey = Some(number()?),
             "--ranges" => options.range_programs.proved = value.into(),
+            "--plans" => options.plans = number()?,
+            "--plan" => options.only_plan = Some(number()?),
+            "--judge" => options.plan_programs.proved = value.into(),
             _ => return Err(format!("unknown option {option}")),
         }
     }
@@ -197,6 +215,8 @@ fn run(options: &Options) -> ExitCode {
         compare_regions(options)
     } else if options.only_survey.is_some() || options.planted.is_some_and(is_of_ranges) {
         compare_ranges(options)
+    } else if options.only_plan.is_some() || options.planted.is_some_and(is_of_plans) {
+        compare_plans(options)
     } else if options.planted.is_some() {
         random::compare_all(options.seed, options.sheets)
     } else {
@@ -213,6 +233,7 @@ fn run(options: &Options) -> ExitCode {
             .and_then(|()| compare_logs(options))
             .and_then(|()| compare_regions(options))
             .and_then(|()| compare_ranges(options))
+            .and_then(|()| compare_plans(options))
     };
     let Err(failure) = outcome else {
         println!("no difference in {:.1} s", start.elapsed().as_secs_f64());
@@ -248,6 +269,12 @@ fn is_of_regions(number: u64) -> bool {
 fn is_of_ranges(number: u64) -> bool {
     use second::planted::Error::{UnheadedRangesByFirst, UntrimmedLeast};
     (UntrimmedLeast as u64..=UnheadedRangesByFirst as u64).contains(&number)
+}
+
+/// Whether a planted error is one in the judging of plans.
+fn is_of_plans(number: u64) -> bool {
+    use second::planted::Error::{FitIsLargest, LargestUntrimmed};
+    (FitIsLargest as u64..=LargestUntrimmed as u64).contains(&number)
 }
 
 /// Compares the planners on booking logs: on a single one, on random ones, or on all.
@@ -302,6 +329,25 @@ fn compare_ranges(options: &Options) -> Result<(), Failure> {
     spans::compare_all(seed, options.surveys)?;
     let programs = &options.range_programs;
     programs.compare(seed, runs, &options.programs.examples)
+}
+
+/// Compares the planners on plans drawn by hand: on a single one, on random ones, or on all.
+fn compare_plans(options: &Options) -> Result<(), Failure> {
+    let seed = options.seed;
+    let compared = if let Some(index) = options.only_plan {
+        plans::compare_one(seed, index)
+    } else if options.planted.is_some() {
+        plans::compare_all(seed, options.plans)
+    } else {
+        let runs = options.runs as u64 / 2;
+        plans::small()
+            .and_then(|()| plans::compare_all(seed, options.plans))
+            .and_then(|()| {
+                let programs = &options.plan_programs;
+                programs.compare(seed, runs, &options.programs.examples)
+            })
+    };
+    compared.map_err(|different| different.keep(&options.keep))
 }
 
 /// Keeps a sheet in the file for it.

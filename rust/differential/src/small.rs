@@ -10,6 +10,7 @@ use sheets::cases::{self, Due};
 use sheets::{Edition, Layout, Names, Network, Random, SHAPES, Sizes, Spelling};
 use sheets::{headings, marks as site_lines, order, prufer_links, reserve, tried, whole};
 use std::collections::HashSet;
+use std::ops::RangeInclusive;
 use std::time::Instant;
 
 /// Both planners on the sheets of the scope document, against answers written by hand.
@@ -227,7 +228,7 @@ fn refused(planners: &mut Planners, sheet: &[u8], due: (u8, u32)) -> Result<(), 
 /// sizes 0 to 3; and in whole circuits on some of 6 to 8 sites.
 pub fn small_trees() -> Result<(), Failure> {
     let mut planners = Planners::new();
-    let counts = every_tree(3, Marks::None, Share::Whole, |network, sheet| {
+    let counts = every_tree(2..=5, 3, Marks::None, Share::Whole, |network, sheet| {
         accepted(network, sheet, &mut planners, true)?;
         inward::accepted_small(&mut planners, sheet)
     })?;
@@ -235,7 +236,7 @@ pub fn small_trees() -> Result<(), Failure> {
     println!("small trees: 3, 27, 432 and 10,125 sheets, totals found by linear programming");
     println!("  order: the same sheets, trimmed sizes found along every order");
 
-    let counts = every_tree(4, Marks::None, Share::Whole, |network, sheet| {
+    let counts = every_tree(2..=5, 4, Marks::None, Share::Whole, |network, sheet| {
         largest_whole(network, sheet, &mut planners)
     })?;
     assert_eq!(counts, [4, 48, 1_024, 32_000]);
@@ -264,7 +265,7 @@ pub fn marked_trees() -> Result<(), Failure> {
     let share = |share: Share| {
         let mut planners = Planners::with_room(ROOM);
         let mut random = Random::new(1);
-        every_tree(3, Marks::All, share, |network, sheet| {
+        every_tree(2..=5, 3, Marks::All, share, |network, sheet| {
             accepted(network, sheet, &mut planners, true)?;
             largest_whole(network, sheet, &mut planners)?;
             marks::compare(&mut planners, sheet)?;
@@ -326,16 +327,33 @@ impl Share {
     }
 }
 
-/// Calls `see` with all trees of 2 to 5 sites whose sizes are below `sizes`, with the sets of marks that
+/// Calls `see` with all trees of 2 to 4 sites with sizes 0 to 2 and all sets of marked joints.
+pub fn every_marked_tree(
+    mut see: impl FnMut(&Network, &[u8]) -> Result<(), String>,
+) -> Result<(), Failure> {
+    every_tree(2..=4, 3, Marks::All, Share::Whole, |network, sheet| {
+        // A marked site with one link is an end as it is without its mark.
+        let around = network.around();
+        let mut sites = network.marks.iter().zip(&around);
+        if sites.any(|(&is_marked, links)| is_marked && links.len() == 1) {
+            return Ok(());
+        }
+        see(network, sheet)
+    })?;
+    Ok(())
+}
+
+/// Calls `see` with all trees of some numbers of sites whose sizes are below `sizes`, with the sets of marks that
 /// are told, as far as a share has them, and returns how many there are of each number of sites.
 fn every_tree(
+    site_counts: RangeInclusive<u32>,
     sizes: usize,
     marks: Marks,
     share: Share,
     mut see: impl FnMut(&Network, &[u8]) -> Result<(), String>,
 ) -> Result<Vec<usize>, Failure> {
     let mut counts = Vec::new();
-    for sites in 2..=5_u32 {
+    for sites in site_counts {
         let trees = u64::from(sites).pow(sites - 2);
         let sizings = (sizes as u64).pow(sites - 1);
         let markings = if marks == Marks::All { 1 << sites } else { 1 };

@@ -1,15 +1,16 @@
 //! A second tree circuit planner.
 //!
 //! It reads a network sheet and writes the report headed `plan`, or that headed `whole`, or lists the
-//! sites in the order of work, or replays a booking log over it, or trims it with the sheet of a
-//! neighbouring region, or tells within what totals and trimmed sizes lie for sizes between two, or tells
-//! why the sheet is refused. It was written from the scope document and
+//! sites in the order of work, or replays a booking log over it, or judges a plan drawn by hand, or trims it
+//! with the sheet of a neighbouring region, or tells within what totals and trimmed sizes lie for sizes
+//! between two, or tells why the sheet is refused. It was written from the scope document and
 //! the cards alone and shares nothing with the proved planner, so that comparing the two can find a
 //! mistake in either.
 //!
 //! Every step takes time linear in the sheet, or as good as linear: finding out whether two sites
 //! are joined already, names that collide in their hash table, and the sites that may be taken next,
-//! kept in order, may add a little. A line of a log takes time in the length of the path between its sites.
+//! kept in order, may add a little. A line of a log takes time in the length of the path between its sites, one
+//! of a plan drawn by hand in the logarithm of the number of sites.
 //!
 //! | module | step |
 //! |---|---|
@@ -27,7 +28,9 @@
 //! | `pairs` | pairs the ends by splitting lists |
 //! | `report` | writes the report |
 //! | `order` | takes the sites in the order of work |
+//! | `pair_lines` | reads lines that name two ends and an amount |
 //! | `replay` | replays a booking log over the network |
+//! | `judge` | judges a plan drawn by hand |
 //! | `regions` | trims two regions that share one link |
 //! | `ranges` | the report on sizes between two |
 //! | `program` | what the programs do |
@@ -43,10 +46,12 @@ mod cuts;
 mod edition;
 mod forest;
 mod form;
+mod judge;
 mod names;
 mod neighbours;
 mod network;
 mod order;
+mod pair_lines;
 mod pairs;
 mod pieces;
 pub mod planted;
@@ -61,11 +66,13 @@ mod whole;
 
 pub use edition::Edition;
 use forest::Forest;
+pub use judge::{Judged, PLAN_BYTES, PLAN_LINES, judge};
 use network::Network;
+pub use pair_lines::AMOUNT;
 use planted::{Error, planted};
 pub use ranges::ranges;
 pub use regions::{Answer, Exchanged, first_step, region_text, regions, regions_text, second_step};
-pub use replay::{AMOUNT, LOG_BYTES, LOG_LINES, OPEN_PAIRS, Replayed, replay};
+pub use replay::{LOG_BYTES, LOG_LINES, OPEN_PAIRS, Replayed, replay};
 use report::Shown;
 use tree::RootedTree;
 use trim::Balanced;

@@ -234,10 +234,42 @@ pub enum Error {
     RangeBeforeLarge = 113,
     /// A sheet that is not headed `ranges` is measured by edition 1 when ranges are asked for.
     UnheadedRangesByFirst = 114,
+    /// Every plan that fits is the largest.
+    FitIsLargest = 115,
+    /// A plan is the largest only with the pairs of the report.
+    ReportAlone = 116,
+    /// An overfilled link is told at the line of the plan that overfills it.
+    OverfilledAtLine = 117,
+    /// A pair of a plan is given twice only with its names in the same order.
+    OneOrderTwice = 118,
+    /// Loads of a plan in halves are held against the capacity in circuits.
+    PlanAgainstCapacity = 119,
+    /// Names that are not two ends free to be joined are told before an amount out of its range.
+    PlanEndsBeforeAmount = 120,
+    /// A plan without lines is refused.
+    EmptyPlanRefused = 121,
+    /// A pair given twice is told before names, on a line above, that are not two ends free to be joined.
+    TwiceBeforeEnds = 122,
+    /// An overfilled link is told before a fault of a later line.
+    OverfilledFirst = 123,
+    /// A pair given twice is told before an amount out of its range.
+    TwiceBeforeAmount = 124,
+    /// Lines of a plan name sites by bytes.
+    PlanByBytes = 125,
+    /// A plan may have 1,025 lines.
+    PlanLineMore = 126,
+    /// A plan may have 65,537 bytes.
+    PlanByteMore = 127,
+    /// A last line of a plan without byte 10 is left out.
+    PlanUnendedLeftOut = 128,
+    /// A plan is the largest if it has the largest total in whole circuits.
+    LargestInCircuits = 129,
+    /// A plan is the largest if it fills all links of all ends.
+    LargestUntrimmed = 130,
 }
 
 /// All errors, in the order of their numbers.
-pub const ERRORS: [Error; 114] = [
+pub const ERRORS: [Error; 130] = [
     Error::RoundedHalf,
     Error::HighestRoot,
     Error::UpwardSets,
@@ -352,6 +384,22 @@ pub const ERRORS: [Error; 114] = [
     Error::RangesByFirst,
     Error::RangeBeforeLarge,
     Error::UnheadedRangesByFirst,
+    Error::FitIsLargest,
+    Error::ReportAlone,
+    Error::OverfilledAtLine,
+    Error::OneOrderTwice,
+    Error::PlanAgainstCapacity,
+    Error::PlanEndsBeforeAmount,
+    Error::EmptyPlanRefused,
+    Error::TwiceBeforeEnds,
+    Error::OverfilledFirst,
+    Error::TwiceBeforeAmount,
+    Error::PlanByBytes,
+    Error::PlanLineMore,
+    Error::PlanByteMore,
+    Error::PlanUnendedLeftOut,
+    Error::LargestInCircuits,
+    Error::LargestUntrimmed,
 ];
 
 #[cfg(feature = "planted")]

@@ -4,12 +4,14 @@
 //! answer: 0, or the number of the first cause against it.
 
 use crate::edition::Edition;
-use crate::form;
-use crate::names::{Name, NameTable, Place};
-use crate::network::{Network, load, read_name, read_number};
+use crate::names::NameTable;
+use crate::network::Network;
+use crate::pair_lines::{
+    AMOUNT, AMOUNT_RANGE, Ends, NOT_FREE_ENDS, OTHER_TEXT, SHEET, TOO_LONG, line_count, read_line,
+};
 use crate::planted::{Error, planted};
 use crate::tree::RootedTree;
-use crate::{CAPACITY, PLACES, Refusal, Site};
+use crate::{PLACES, Refusal, Site};
 
 /// The longest log that is replayed, in bytes.
 pub const LOG_BYTES: usize = 65_536;
@@ -17,8 +19,6 @@ pub const LOG_BYTES: usize = 65_536;
 pub const LOG_LINES: usize = 4_096;
 /// The most pairs that may be open together.
 pub const OPEN_PAIRS: usize = 512;
-/// The largest amount of a line, in halves.
-pub const AMOUNT: u32 = 2 * CAPACITY;
 
 /// What becomes of a log.
 #[derive(Clone, Copy, Debug, PartialEq, Eq)]
@@ -39,15 +39,7 @@ pub enum Replayed {
     },
 }
 
-const SHEET: u8 = 1;
-const LOG: u8 = 2;
-
-const TOO_LONG: u8 = 1;
-const LETTER_OR_ENDING: u8 = 2;
-const AMOUNT_RANGE: u8 = 3;
-const NOT_FREE_ENDS: u8 = 6;
 const LIST_TOO_SHORT: u8 = 9;
-const FIELD_COUNT: u8 = 10;
 const LESS_OPEN: u8 = 14;
 const OVERFILLED: u8 = 15;
 const NO_PLACE: u8 = 16;
@@ -69,18 +61,11 @@ pub fn replay(sheet: &[u8], log: &[u8], answers: &mut [u64]) -> Replayed {
         if planted(Error::AnswersOnRefusal) {
             desk.answer_all(log, answers);
         }
-        let text = LOG;
+        let text = OTHER_TEXT;
         return Replayed::Refused { text, number, line };
     }
     desk.answer_all(log, &mut answers[..count]);
     Replayed::Answered { count }
-}
-
-/// The number of lines; what is behind the last byte 10 is one too.
-fn line_count(log: &[u8]) -> usize {
-    let ended: usize = log.iter().map(|&byte| usize::from(byte == b'\n')).sum();
-    let is_unended = log.last().is_some_and(|&byte| byte != b'\n');
-    ended + usize::from(is_unended && !planted(Error::UnendedLeftOut))
 }
 
 /// Why a log is refused as a whole.
@@ -110,20 +95,9 @@ struct Request {
     halves: u32,
 }
 
-/// The network as the order desk sees it, and what is open.
-///
-/// Sites are numbered anew, the root 0 and every other site above its parent. What belongs to the
-/// link between a site and its parent is kept at the place of that site.
+/// The network as the order desk sees it, and what is open. Sites have the numbers that its ends have.
 struct Desk<'network> {
-    network: &'network Network<'network>,
-    table: &'network NameTable,
-    /// The new number of each site, and whether it is an end.
-    number: [Site; PLACES],
-    is_end: [bool; PLACES],
-    parent: [Site; PLACES],
-    /// The part of the link between each site and its parent, told by its highest site below the end that
-    /// starts it, or by the root if no end does.
-    part: [Site; PLACES],
+    ends: Ends<'network>,
     /// The most each link may carry, and what it does carry, in halves.
     most: [u32; PLACES],
     load: [u32; PLACES],
@@ -132,34 +106,14 @@ struct Desk<'network> {
 
 impl<'network> Desk<'network> {
     fn new(network: &'network Network, table: &'network NameTable) -> Self {
-        let tree = RootedTree::new(network);
-        let mut desk = Desk {
-            network,
-            table,
-            number: [0; PLACES],
-            is_end: [false; PLACES],
-            parent: [0; PLACES],
-            part: [0; PLACES],
-            most: [0; PLACES],
+        let ends = Ends::new(network, table, &RootedTree::new(network));
+        let halves = 2 - u32::from(planted(Error::AgainstCapacity));
+        Desk {
+            most: ends.capacity.map(|capacity| halves * capacity),
+            ends,
             load: [0; PLACES],
             pairs: OpenPairs::new(),
-        };
-        let halves = 2 - u32::from(planted(Error::AgainstCapacity));
-        desk.is_end[usize::from(tree.root())] = tree.is_terminal(tree.root());
-        for (above, &site) in tree.leaves_first().iter().rev().enumerate() {
-            let number = above + 1;
-            desk.number[usize::from(site)] = number as Site;
-            desk.is_end[usize::from(site)] = tree.is_terminal(site);
-            let parent = desk.number[usize::from(tree.parent(site))];
-            desk.parent[number] = parent;
-            desk.part[number] = if tree.is_terminal(tree.parent(site)) {
-                number as Site
-            } else {
-                desk.part[usize::from(parent)]
-            };
-            desk.most[number] = halves * tree.capacity(site);
         }
-        desk
     }
 
     /// Answers one line after the other, as many as there are answers.
@@ -198,52 +152,27 @@ impl<'network> Desk<'network> {
     /// starts.
     #[inline]
     fn read_line(&self, log: &[u8], start: usize) -> (Result<Request, u8>, usize) {
-        let Some((opens, names, halves, next)) = read_fields(log, start) else {
-            return form_fault(&log[start..], start);
+        let (line, next) = read_line(log, start, |letter| letter == b'+' || letter == b'-');
+        let line = match line {
+            Ok(line) => line,
+            Err(number) => return (Err(number), next),
         };
-        let is_amount = (1..=AMOUNT).contains(&halves);
+        let is_amount = (1..=AMOUNT).contains(&line.halves);
         if !is_amount && !planted(Error::EndsBeforeAmount) {
             return (Err(AMOUNT_RANGE), next);
         }
-        let Some(sites) = self.two_ends(names) else {
+        let Some(sites) = self.ends.two_ends(line.names, Error::LogByBytes) else {
             return (Err(NOT_FREE_ENDS), next);
         };
         if !is_amount {
             return (Err(AMOUNT_RANGE), next);
         }
         let request = Request {
-            opens,
+            opens: line.letter == b'+',
             sites,
-            halves,
+            halves: line.halves,
         };
         (Ok(request), next)
-    }
-
-    /// The two different ends that are named, by their new numbers, if they are free to be joined.
-    #[inline]
-    fn two_ends(&self, names: [Name; 2]) -> Option<[Site; 2]> {
-        let first = self.end(names[0])?;
-        let second = self.end(names[1])?;
-        (first != second && self.is_free([first, second])).then_some([first, second])
-    }
-
-    /// Whether two different ends have no other end on their path: they are both below the end that
-    /// starts a part, or one of them is that end.
-    #[inline]
-    fn is_free(&self, ends: [Site; 2]) -> bool {
-        let [first, second] = ends.map(|end| self.part[usize::from(end)]);
-        let starts = |end, part| self.parent[usize::from(part)] == end;
-        first == second
-            || starts(ends[0], second)
-            || starts(ends[1], first)
-            || planted(Error::AcrossAccepted)
-    }
-
-    #[inline]
-    fn end(&self, name: Name) -> Option<Site> {
-        let site = self.network.site(self.table, name, Error::LogByBytes)?;
-        let is_end = self.is_end[usize::from(site)] || planted(Error::JointsAccepted);
-        is_end.then_some(self.number[usize::from(site)])
     }
 
     /// Does what a line asks, or tells the cause against it and moves nothing.
@@ -273,7 +202,7 @@ impl<'network> Desk<'network> {
         if !has_place {
             return Err(NO_PLACE);
         }
-        climb(&self.parent, request.sites, |link| {
+        climb(&self.ends.parent, request.sites, |link| {
             self.load[link] += request.halves;
             true
         });
@@ -285,7 +214,7 @@ impl<'network> Desk<'network> {
     #[inline]
     fn overfills(&self, request: &Request) -> bool {
         let mut is_overfilled = false;
-        climb(&self.parent, request.sites, |link| {
+        climb(&self.ends.parent, request.sites, |link| {
             is_overfilled = self.load[link] + request.halves > self.most[link];
             !is_overfilled && !planted(Error::FirstLinkOnly)
         });
@@ -299,7 +228,7 @@ impl<'network> Desk<'network> {
         let mut halves = request.halves;
         if planted(Error::GiveUpByLoad) {
             let mut is_enough = true;
-            climb(&self.parent, request.sites, |link| {
+            climb(&self.ends.parent, request.sites, |link| {
                 is_enough = self.load[link] >= halves;
                 is_enough
             });
@@ -312,7 +241,7 @@ impl<'network> Desk<'network> {
             }
             halves = open;
         }
-        climb(&self.parent, request.sites, |link| {
+        climb(&self.ends.parent, request.sites, |link| {
             self.load[link] -= halves;
             true
         });
@@ -321,38 +250,6 @@ impl<'network> Desk<'network> {
         }
         Ok(())
     }
-}
-
-/// The letter, the names and the amount of the line at `start`, and where the next line starts; none
-/// if the form is wrong. An amount that is too large may be another such amount.
-#[inline]
-fn read_fields(log: &[u8], start: usize) -> Option<(bool, [Name; 2], u32, usize)> {
-    let opens = match load::<2>(log, start) {
-        [b'+', b'\t'] => true,
-        [b'-', b'\t'] => false,
-        _ => return None,
-    };
-    let (first, position) = read_name(log, start + 2, b'\t', Place::Log(0)).ok()?;
-    let (second, position) = read_name(log, position, b'\t', Place::Log(1)).ok()?;
-    let (halves, after, next) = read_number(log, position).ok()?;
-    (after == b'\n').then_some((opens, [first, second], halves, next))
-}
-
-/// The fault of the line at the start of `rest`, whose form is wrong, and where the next line starts.
-#[cold]
-fn form_fault(rest: &[u8], start: usize) -> (Result<Request, u8>, usize) {
-    let Some(length) = rest.iter().position(|&byte| byte == b'\n') else {
-        return (Err(LETTER_OR_ENDING), start + rest.len());
-    };
-    let fields: Vec<&[u8]> = rest[..length].split(|&byte| byte == b'\t').collect();
-    let number = match fields[..] {
-        [b"+" | b"-", first, second, amount] => {
-            form::fault_of_fields(&[first, second], &[amount], Place::Log)
-        }
-        [b"+" | b"-", ..] => FIELD_COUNT,
-        _ => LETTER_OR_ENDING,
-    };
-    (Err(number), start + length + 1)
 }
 
 /// Goes along the path between two sites, up from both to where they meet, as long as `see` says so of

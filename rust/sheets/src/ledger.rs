@@ -106,8 +106,35 @@ impl Ledger {
 
     /// The first cause against a line, in the order of the card, or what it moves.
     fn cause(&self, line: &[u8], is_ended: bool) -> Result<Move, u64> {
+        let (letter, sites, halves) = self.request(line, is_ended, &[b"+", b"-"])?;
+        let opens = letter == b"+";
+        if !opens && self.open(sites) < halves {
+            return Err(14);
+        }
+        if opens && self.room(sites) < halves {
+            return Err(15);
+        }
+        if opens && self.open(sites) == 0 && self.open.len() == OPEN_PAIRS {
+            return Err(16);
+        }
+        Ok(Move {
+            opens,
+            sites,
+            halves,
+        })
+    }
+
+    /// What a line says, of a log or of another text with the same lines but for the letters: its letter, its
+    /// two sites, the lower one first, and its amount; or the first fault that it has by itself, in the order of
+    /// the cards.
+    pub(crate) fn request<'line>(
+        &self,
+        line: &'line [u8],
+        is_ended: bool,
+        letters: &[&[u8]],
+    ) -> Result<(&'line [u8], [usize; 2], u64), u64> {
         let fields: Vec<&[u8]> = line.split(|&byte| byte == b'\t').collect();
-        if !is_ended || !(fields[0] == b"+" || fields[0] == b"-") {
+        if !is_ended || !letters.contains(&fields[0]) {
             return Err(2);
         }
         let [letter, first, second, amount] = fields[..] else {
@@ -132,21 +159,7 @@ impl Ledger {
             return Err(6);
         }
         sites.sort_unstable();
-        let opens = letter == b"+";
-        if !opens && self.open(sites) < halves {
-            return Err(14);
-        }
-        if opens && self.room(sites) < halves {
-            return Err(15);
-        }
-        if opens && self.open(sites) == 0 && self.open.len() == OPEN_PAIRS {
-            return Err(16);
-        }
-        Ok(Move {
-            opens,
-            sites,
-            halves,
-        })
+        Ok((letter, sites, halves))
     }
 
     /// The two different ends that are named.

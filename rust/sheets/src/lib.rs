@@ -5,14 +5,17 @@
 
 pub mod bare;
 pub mod cases;
+pub mod drawn;
 mod edition;
 pub mod headings;
 pub mod joined;
+pub mod judged;
 pub mod ledger;
 pub mod logs;
 pub mod marks;
 pub mod neighbours;
 pub mod order;
+pub mod plans;
 mod random;
 pub mod ranges;
 pub mod regions;

@@ -60,19 +60,19 @@ impl Case {
 }
 
 /// A log on its way, with what is open after its lines.
-struct Writer<'case> {
-    ledger: Ledger,
+pub(crate) struct Writer<'case> {
+    pub(crate) ledger: Ledger,
     network: &'case Network,
-    ends: Vec<usize>,
+    pub(crate) ends: Vec<usize>,
     /// The ends of each part of the tree, which are free to be joined; a part stands here once for
     /// each of its ends.
     parts: Vec<Rc<[usize]>>,
-    random: &'case mut Random,
-    log: Vec<u8>,
+    pub(crate) random: &'case mut Random,
+    pub(crate) log: Vec<u8>,
 }
 
 impl<'case> Writer<'case> {
-    fn new(network: &'case Network, random: &'case mut Random) -> Self {
+    pub(crate) fn new(network: &'case Network, random: &'case mut Random) -> Self {
         let ledger = Ledger::new(network);
         let sites = 0..network.names.len();
         Writer {
@@ -93,7 +93,7 @@ impl<'case> Writer<'case> {
     }
 
     /// A name of a site, as the sheet spells it or in either case.
-    fn name(&mut self, site: usize) -> Vec<u8> {
+    pub(crate) fn name(&mut self, site: usize) -> Vec<u8> {
         let name = &self.network.names[site];
         if self.random.once_in(2) {
             in_either_case(name, self.random)
@@ -103,7 +103,7 @@ impl<'case> Writer<'case> {
     }
 
     /// Adds a line for two sites in either order, and returns its answer.
-    fn ask(&mut self, letter: &[u8], mut sites: [usize; 2], halves: u64) -> u64 {
+    pub(crate) fn ask(&mut self, letter: &[u8], mut sites: [usize; 2], halves: u64) -> u64 {
         self.random.shuffle(&mut sites);
         let [first, second] = sites.map(|site| self.name(site));
         let halves = halves.to_string();
@@ -111,7 +111,7 @@ impl<'case> Writer<'case> {
     }
 
     /// Two different ends, the lower one first, mostly free to be joined.
-    fn two_ends(&mut self) -> [usize; 2] {
+    pub(crate) fn two_ends(&mut self) -> [usize; 2] {
         let part = if self.random.once_in(6) {
             &self.ends
         } else {
@@ -191,7 +191,7 @@ impl<'case> Writer<'case> {
     }
 
     /// A line of fields each of which is right or wrong, as it happens.
-    fn piece(&mut self) {
+    pub(crate) fn piece(&mut self) {
         let mut fields = vec![self.letter()];
         let [first, second] = self.two_ends();
         let mut names = [self.piece_of_name(first), self.piece_of_name(second)];
@@ -357,19 +357,19 @@ fn parts(network: &Network, ledger: &Ledger) -> Vec<Rc<[usize]>> {
 }
 
 /// A tree of any shape, often a small one.
-fn tree(random: &mut Random) -> Network {
+pub(crate) fn tree(random: &mut Random) -> Network {
     let most = *random.pick(&[2, 4, 7, 7, 7, 7, 10, 10, 16, 16, 24, 48, 96, 256, SITES]);
     Network::any(most, random)
 }
 
 /// How many lines a log has, mostly few.
-fn some_lines(random: &mut Random) -> usize {
+pub(crate) fn some_lines(random: &mut Random) -> usize {
     let most = *random.pick(&[3, 3, 8, 8, 16, 16, 24, 40, 40, 40, 60, 200]);
     random.between(0, most)
 }
 
 /// Damages the end of a log, or one of its bytes, now and then.
-fn wear(log: &mut Vec<u8>, random: &mut Random) {
+pub(crate) fn wear(log: &mut Vec<u8>, random: &mut Random) {
     match random.below(24) {
         0 | 1 => _ = log.pop(),
         2 => log.truncate(random.below(log.len() + 1)),
@@ -486,13 +486,13 @@ fn crowded_line(writer: &mut Writer, tried: &[[usize; 2]], left: &[[usize; 2]]) 
     }
 }
 
-fn all_pairs(ends: &[usize]) -> Vec<[usize; 2]> {
+pub(crate) fn all_pairs(ends: &[usize]) -> Vec<[usize; 2]> {
     let pairs = |place: usize| ends[place + 1..].iter().map(move |&end| [ends[place], end]);
     (0..ends.len()).flat_map(pairs).collect()
 }
 
 /// A name of one or two bytes for each site, so that many lines fit into a log. Each starts with a letter.
-fn short_names(network: &mut Network) {
+pub(crate) fn short_names(network: &mut Network) {
     const LETTERS: &[u8; 36] = b"ABCDEFGHIJKLMNOPQRSTUVWXYZ0123456789";
     for (number, name) in network.names.iter_mut().enumerate() {
         *name = match number {
@@ -597,6 +597,15 @@ fn near_the_limits(random: &mut Random) -> Case {
 /// The first that `see` returns.
 pub fn every_small_log<Failure>(
     most: usize,
+    see: impl FnMut(&Case) -> Result<(), Failure>,
+) -> Result<usize, Failure> {
+    every_small_text(&LINES, most, see)
+}
+
+/// The same of any text with lines out of a list, which stands in the place of the log.
+pub(crate) fn every_small_text<Failure>(
+    lines: &[&str],
+    most: usize,
     mut see: impl FnMut(&Case) -> Result<(), Failure>,
 ) -> Result<usize, Failure> {
     let mut count = 0;
@@ -607,7 +616,7 @@ pub fn every_small_log<Failure>(
             sheet,
             log: Vec::new(),
         };
-        count += every_log(&mut case, most, &mut see)?;
+        count += every_text(&mut case, lines, most, &mut see)?;
     }
     Ok(count)
 }
@@ -637,8 +646,9 @@ const LINES: [&str; 21] = [
     "",
 ];
 
-fn every_log<Failure>(
+fn every_text<Failure>(
     case: &mut Case,
+    lines: &[&str],
     most: usize,
     see: &mut impl FnMut(&Case) -> Result<(), Failure>,
 ) -> Result<usize, Failure> {
@@ -648,14 +658,14 @@ fn every_log<Failure>(
         return Ok(count);
     }
     let length = case.log.len();
-    for line in LINES {
+    for line in lines {
         case.log.extend(line.replace(' ', "\t").bytes());
         if !line.is_empty() {
             see(case)?;
             count += 1;
         }
         case.log.push(b'\n');
-        count += every_log(case, most - 1, see)?;
+        count += every_text(case, lines, most - 1, see)?;
         case.log.truncate(length);
     }
     Ok(count)

@@ -10,8 +10,12 @@
 //! tab, sheet, tab, number, tab, line. With the word `region`, the name of a sheet's file and the two shared
 //! names it writes `first`, tab, its first trimmed size of the shared link; with the neighbour's number behind
 //! them its own part of the answer, headed `region`, tab, its sum.
+//!
+//! With the word `judge` and the names of two files, a sheet and a plan drawn by hand, it writes the line `judged`,
+//! tab, total in halves, tab, `yes` or `no`, or a refusal as of a log.
 
 use std::io::{Read, Write, stdin, stdout};
+use waderarmoire::{JudgeRefusal, judge};
 use waderarmoire::{LINKS, RegionsRefusal, region_answer, region_first, regions};
 use waderarmoire::{LOG_LINES, ReplayRefusal, replay};
 use waderarmoire::{REPORT_BYTES, Refusal, SHEET_BYTES, SITES, order, plan, ranges, whole};
@@ -22,6 +26,7 @@ fn main() -> std::io::Result<()> {
         let text = std::fs::read(file);
         match (word.as_str(), rest) {
             ("replay", [log]) => return write(&answers(&text?, &std::fs::read(log)?)),
+            ("judge", [plan]) => return write(&judgement(&text?, &std::fs::read(plan)?)),
             ("regions", [other]) => return write(&trimmed(&text?, &std::fs::read(other)?)),
             ("region", [one, other]) => {
                 return write(&first(&text?, [one.as_bytes(), other.as_bytes()]));
@@ -117,4 +122,15 @@ fn second(sheet: &[u8], names: [&[u8]; 2], number: u64) -> String {
 /// The line of a refusal.
 fn refused(Refusal { number, line }: Refusal) -> String {
     format!("refused\t{number}\t{line}\n")
+}
+
+/// What is said of a plan drawn by hand, or the refusal.
+fn judgement(sheet: &[u8], plan: &[u8]) -> String {
+    match judge(sheet, plan) {
+        Ok(judgement) => {
+            let answer = if judgement.is_largest { "yes" } else { "no" };
+            format!("judged\t{}\t{answer}\n", judgement.total)
+        }
+        Err(JudgeRefusal { text, number, line }) => format!("refused\t{text}\t{number}\t{line}\n"),
+    }
 }

@@ -106,6 +106,17 @@
 //! # Ok::<(), waderarmoire::Refusal>(())
 //! ```
 //!
+//! [`judge`] tells of a plan drawn by hand its total, and whether any fitting plan has more:
+//!
+//! ```
+//! let sheet = b"network\t1\nN\ta\nN\tb\nL\ta\tb\t4\n";
+//! let judgement = waderarmoire::judge(sheet, b"P\tb\ta\t7\n")?;
+//! assert_eq!((judgement.total, judgement.is_largest), (7, false));
+//! let refusal = waderarmoire::judge(sheet, b"P\tb\ta\t9\n").unwrap_err();
+//! assert_eq!((refusal.text, refusal.number, refusal.line), (2, 21, 0));
+//! # Ok::<(), waderarmoire::JudgeRefusal>(())
+//! ```
+//!
 //! The heading of a sheet tells its edition, and that its limits: under `network`, tab, `1` it may have 256
 //! sites and 16,384 bytes, under `network`, tab, `2` 384 sites and 24,576 bytes. Nothing else differs:
 //!
@@ -127,7 +138,7 @@
 //!
 //! # What a call does
 //!
-//! All functions are safe for every sheet and every buffer or list, and every call ends. They allocate
+//! All functions are safe for every text and every buffer or list, and every call ends. They allocate
 //! nothing, keep nothing between calls and have no global state: any number of threads may call them at
 //! once, each with a buffer or list of its own. The caller of this crate owes nothing more; what the
 //! library below asks, pointers that are not null and areas that do not overlap, slices have.
@@ -144,9 +155,11 @@
 //! `WADERARMOIRE_LIB_DIR`, or else in `target/staticlib` at the root of the repository, where
 //! `rt staticlib waderarmoire` puts it.
 
+mod judge;
 mod regions;
 mod replay;
 
+pub use judge::{JudgeRefusal, Judgement, PLAN_BYTES, PLAN_LINES, judge};
 pub use regions::{LINKS, Region, RegionsRefusal, region_answer, region_first, regions};
 pub use replay::{LOG_BYTES, LOG_LINES, ReplayRefusal, replay};
 use std::error::Error;

@@ -1,9 +1,11 @@
 //! The proved library keeps no memory: after many plans the process has as much as after a few.
 
 use sheets::logs::long_log;
+use sheets::plans::longest_plan;
 use sheets::{Layout, Names, Network, Random, SITES, Shape, Sizes};
 use waderarmoire::{
-    LINKS, LOG_LINES, REPORT_BYTES, order, plan, ranges, region_first, regions, replay, whole,
+    LINKS, LOG_LINES, REPORT_BYTES, judge, order, plan, ranges, region_first, regions, replay,
+    whole,
 };
 
 /// The resident pages of this process.
@@ -20,6 +22,7 @@ fn nothing_is_kept() {
     network.mark(random);
     let sheet = network.sheet(Layout::Mixed, random);
     let case = long_log(Shape::Prufer, SITES, random);
+    let drawn = longest_plan(Shape::Prufer, SITES, random).expect("it has many ends");
     let mut buffer = vec![0; REPORT_BYTES];
     let [ranged, ..] = &sheets::surveys::longest()[..] else {
         panic!("there are range sheets");
@@ -38,6 +41,7 @@ fn nothing_is_kept() {
             let [sizes, sizes2] = &mut lists;
             assert!(regions([&one, &other], [sizes, sizes2]).is_ok());
             assert_eq!(region_first(&one, [b"h", b"k"]), Ok(6));
+            assert!(judge(&drawn.sheet, &drawn.plan).is_ok());
         }
         resident_pages()
     };

@@ -60,7 +60,7 @@ returns c =
 add-load : tie.Need-add-load Inv-loop μ-loop
 add-load c =
     let s = c .before .before .before .before .before .before in
-    omega (arith, load-here (c .before), s .pre .loads (c .before .before .j .given .0 .0), s .pre .small)
+    omega (arith, load-here (c .before), s .pre .room (c .before .before .j .given .0 .0))
 
 loop-again : tie.Need-loop-again Inv-loop μ-loop
 loop-again c =

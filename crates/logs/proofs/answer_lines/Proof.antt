@@ -1,5 +1,5 @@
 -- `answer_lines` meets its contract. The invariant: the log is replayed up to the line at the offset.
-use mathlib.Core.Bool.{true}
+use mathlib.Core.Bool.{true, false}
 use mathlib.Core.List.{List}
 use mathlib.Core.Path.{_≡_, sym, subst, _∙_}
 use Prim.Native.Nat.{ℕ, _≤_, _<_, _+_, _-_, _*_, _^_}
@@ -15,8 +15,8 @@ use Rattle.text_lines.specs.LineLaws.{a-line-is-on-the-sheet, no-line-is-on-the
 use Rattle.sheet_names.specs.Names.{ranges}
 use Rattle.sheet_names.specs.LookupLaws.{length-ranges}
 use Rattle.model.specs.Booking.{Asked}
-use Rattle.logs.specs.Log.{requestAt}
-use Rattle.logs.specs.LogLaws.{a-request-can-be-asked}
+use Rattle.log_requests.specs.Requests.{requestAt}
+use Rattle.log_requests.specs.RequestLaws.{a-request-can-be-asked}
 use Rattle.logs.specs.Progress as along
 use Rattle.logs.proofs.answer_lines.Statement.{statement}
 use Rattle.logs.proofs.answer_lines.Tie as tie
@@ -76,7 +76,7 @@ request-at-requires c κs =
 -- what is asked
 asked-is : (c : tie.After-request-at Inv-loop μ-loop) → let top = c .before .before .before .before in let s = begin top in
     c .request-at .result
-    ≡ requestAt (s .args .sheet .now) (names s) (links (s .args .one .now) (s .args .two .now)) (look (s .args .ends .now)) (s .args .log .now) (top .loop .at)
+    ≡ requestAt false (s .args .sheet .now) (names s) (links (s .args .one .now) (s .args .two .now)) (look (s .args .ends .now)) (s .args .log .now) (top .loop .at)
 asked-is c = c .request-at .ensures
 
 step-requires : tie.Need-step-requires Inv-loop μ-loop
@@ -84,7 +84,7 @@ step-requires c κs =
     let request = c .before .before .before .before in
     let top = request .before .before .before .before in
     let s = begin top in
-    let asked = a-request-can-be-asked (s .args .sheet .now) (names s) (links (s .args .one .now) (s .args .two .now)) (look (s .args .ends .now))
+    let asked = a-request-can-be-asked false (s .args .sheet .now) (names s) (links (s .args .one .now) (s .args .two .now)) (look (s .args .ends .now))
     (s .args .log .now) (top .loop .at) in
     (s .pre .0, subst (Asked (s .args .n)) (sym (asked-is request)) (rw (number s) at asked), rw (number s) at (along.standing _ _ _ _ _ _ _ (top .loop .inv)))
 

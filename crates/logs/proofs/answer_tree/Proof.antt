@@ -1,4 +1,5 @@
 -- `answer_tree` meets its contract: the table of names, the ends and the table of paths are those of the tree.
+use mathlib.Core.Bool.{false}
 use mathlib.Core.List.{[], _++_}
 use mathlib.Core.Path.{sym, ap, subst, _∙_}
 use native.Mathlib.Omega.{arith}
@@ -12,7 +13,7 @@ use Rattle.tree.specs.Offer.{links}
 use Rattle.tree.specs.Steps.{told}
 use Rattle.tree_links.specs.Chains.{offer-placed}
 use Rattle.sheet_names.specs.Names.{ranges}
-use Rattle.logs.specs.Log.{lines, requests}
+use Rattle.log_requests.specs.Requests.{lines, requests}
 use Rattle.logs.proofs.answer_tree.Statement.{statement}
 use Rattle.logs.proofs.answer_tree.Tie as tie
 
@@ -47,7 +48,7 @@ returns c =
     let ls = links (a .one .now) (a .two .now) in
     let names = ranges (a .starts .now) (a .stops .now) 0 (a .n) in
     made .answer-lines .ensures
-    ∙ ap (λ t. answers ls (look (a .capacity .now)) [] (requests (a .sheet .now) names ls t (a .log .now))
+    ∙ ap (λ t. answers ls (look (a .capacity .now)) [] (requests false (a .sheet .now) names ls t (a .log .now))
     ++ drop (length (lines (a .log .now))) (a .list .now)) (ends .ends-of .ensures)
 
 pub answer-tree-spec : {M : Type 1} → statement M

@@ -1,0 +1,5 @@
+pub mod Requests
+pub mod RequestLaws
+pub mod TwoEnds
+pub mod Names
+pub mod Sheets

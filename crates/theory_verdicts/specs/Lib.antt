@@ -1,0 +1,5 @@
+pub mod HandPlan
+pub mod Largest
+pub mod Accounts
+pub mod Loads
+pub mod Earlier

@@ -1,0 +1,5 @@
+pub mod Offsets
+pub mod Decimals
+pub mod Entered
+pub mod PairLines
+pub mod Judged

@@ -1,0 +1,7 @@
+pub mod Outcome
+pub mod Progress
+pub mod Loaded
+pub mod OverNetwork
+pub mod Laws
+pub mod Causes
+pub mod Told
