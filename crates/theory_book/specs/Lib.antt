@@ -8,3 +8,4 @@ pub mod Totals
 pub mod Counts
 pub mod Numbered
 pub mod Counting
+pub mod Pages
