@@ -2,13 +2,13 @@
 use mathlib.Core.Path.{_≡_, refl, sym, ap, _∙_}
 use mathlib.Core.Logic.{_≢_}
 use mathlib.Core.List.{List, [], _∷_, map, flatMap, append-nil}
-use Prim.Native.Nat.{ℕ, suc, _-_, _^_, _≤_}
+use Prim.Native.Nat.{ℕ, suc, _-_, _^_}
 use native.Mathlib.Omega.{arith}
 use lib.ListN.{length}
 use Rattle.lists.specs.Numbers.{pick, upfrom}
 use Rattle.lists.specs.Sums.{same?, pick-same, pick-other}
 use Rattle.model.specs.Flows.{Links, sites}
-use Rattle.theory_book.specs.Listing.{combos, words}
+use Rattle.theory_book.specs.Listing.{words}
 use Rattle.theory_book.specs.FlatLaws.{flat-flat, flat-map, flat-same}
 use Rattle.theory_book.specs.Book.{Entry, possible, joinsAll, treesOf, sizeLists, partOf, book}
 use Rattle.theory_book.specs.Numbered.{word, chosen, choicesOf, ifTree, pageOf}
