@@ -14,6 +14,7 @@ use Rattle.tree.specs.Links.{length-links, links-one, links-two}
 use Rattle.tree.specs.Offer.{links}
 use Rattle.text_writers.specs.Fields.{decimal, line}
 use Rattle.text_writers.specs.Decimal.{decimal-length}
+use Rattle.text_writers.specs.Wrote.{Room}
 use Rattle.theory_book.specs.Book.{possible, joinsAll, halves}
 use Rattle.theory_book.specs.Trees.{possible-in}
 use Rattle.theory_book.specs.FlatLaws.{flat-round, flat-same, flat-none}
@@ -77,6 +78,10 @@ links-by-place one two k e s =
 
 pub number-short : (k stop : ℕ) → k < 2 ^ 64 → length (decimal k ++ (stop ∷ [])) ≤ 21
 number-short k stop h = omega (arith, length-append (decimal k) (stop ∷ []), decimal-length k h)
+
+-- room for a number, early in a report's bytes
+pub number-room : (k stop at : ℕ) → k < 2 ^ 64 → at ≤ 65000 → Room at (decimal k ++ (stop ∷ []))
+number-room k stop at h l = omega (arith, number-short k stop h)
 
 pub link-ended : (a b stop : ℕ) → (decimal a ++ (45 ∷ [])) ++ (decimal b ++ (stop ∷ [])) ≡ linkText (a, b) ++ (stop ∷ [])
 unfolding linkText

@@ -1,5 +1,5 @@
 -- `write_page` is safe: a page that is told stands within the buffer.
-use mathlib.Core.Path.{_≡_, sym, ap, _∙_}
+use mathlib.Core.Path.{sym, ap, _∙_}
 use Prim.Native.Nat.{_≤_}
 use native.Mathlib.Omega.{arith}
 use borrow.Author.Needs.{needs}
@@ -31,7 +31,8 @@ write-page-spec =
     (λ c κs. search needs)
     (λ c. search needs)
     within
-    (λ c. let told = c .before in sym (length-take-le (told .before .outcome .given .0 .0) (told .before .before .before .before .page .last .1 .1 .0) (within told)))
+    (λ c. let told = c .before in
+    sym (length-take-le (told .before .outcome .given .0 .0) (told .before .before .before .before .page .last .1 .1 .0) (within told)))
     (λ c κs. search needs)
     (λ c. search needs)
     (λ c κs. search needs)

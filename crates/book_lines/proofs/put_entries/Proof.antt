@@ -29,7 +29,9 @@ loop-holds c =
     (omega arith, rw (lines-none (a .n) (links (a .one .now) (a .two .now))) (nothing (a .buf .now) 0), omega arith)
 
 put-entry-requires : tie.Need-put-entry-requires Inv-loop μ-loop
-put-entry-requires c κs = (omega (arith, c .before .before .loop .inv .2, few (c .before .before .before)), c .before .before .before .before .before .before .before .pre)
+put-entry-requires c κs =
+    let made = c .before .before .before in
+    (omega (arith, c .before .before .loop .inv .2, few made), made .before .before .before .before .pre)
 
 loop-again : tie.Need-loop-again Inv-loop μ-loop
 loop-again c =

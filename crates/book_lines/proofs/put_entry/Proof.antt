@@ -38,7 +38,8 @@ put-entry-spec =
     (tie.spec
     (λ c κs. let J = c .before .before .before .pre .1 in omega (arith, J .most, J .firsts))
     (λ c. enough (c .before))
-    (λ c. let made = c .before .before in sym (length-take-le (length (made .before .before .before .before .args .one .now)) (made .sizes .result) (enough made)))
+    (λ c. let made = c .before .before in
+    sym (length-take-le (length (made .before .before .before .before .args .one .now)) (made .sizes .result) (enough made)))
     put-sized-requires
     (λ c. same-size (c .before .before .put-sized .ensures .wrote))
     returns)

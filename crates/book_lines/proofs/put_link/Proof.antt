@@ -2,22 +2,14 @@
 use native.Mathlib.Omega.{arith}
 use borrow.Author.Needs.{needs}
 use Rattle.text_writers.specs.Writing.{then}
-use Rattle.book_lines.specs.Laws.{number-short, link-ended}
+use Rattle.book_lines.specs.Laws.{number-short, number-room, link-ended}
 use Rattle.book_lines.proofs.put_link.Statement.{statement}
 use Rattle.book_lines.proofs.put_link.Tie as tie
-
-put-number-requires : tie.Need-put-number-requires
-put-number-requires c κs = let s = c .before .before in omega (arith, number-short (s .args .lower) 45 (omega arith))
 
 put-number-requires-2 : tie.Need-put-number-requires-2
 put-number-requires-2 c κs =
     let s = c .before .before .before .before .before .before in
-    omega (
-      arith,
-      c .before .before .before .put-number .ensures .next,
-      number-short (s .args .lower) 45 (omega arith),
-      number-short (s .args .higher) (s .args .stop) (omega arith),
-    )
+    number-room _ _ _ (omega arith) (omega (arith, c .before .before .before .put-number .ensures .next, number-short (s .args .lower) 45 (omega arith)))
 
 returns : tie.Need-returns
 returns c =
@@ -36,4 +28,4 @@ returns c =
     }
 
 pub put-link-spec : {M : Type 1} → statement M
-put-link-spec = tie.close (tie.spec put-number-requires put-number-requires-2 (λ c. search needs) returns)
+put-link-spec = tie.close (tie.spec (λ c κs. number-room _ _ _ (omega arith) (omega arith)) put-number-requires-2 (λ c. search needs) returns)

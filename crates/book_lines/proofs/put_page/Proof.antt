@@ -35,18 +35,19 @@ returns c =
 
 put-entries-requires : tie.Need-put-entries-requires
 put-entries-requires c κs =
-    let s = c .before .before .before .before .before .before .before .before in
-    let r = c .before .before .before .before .before .before .choose .result in
-    a-choice-joins (s .args .n) (s .args .m) (r .one) (r .two) (r .count) (firsts (c .before .before .before .before .before .before)) (seconds (c .before .before .before .before .before .before)) (c .before .before .before .before .before .before .choose .ensures .0)
+    let made = c .before .before .before .before .before .before in
+    let s = made .before .before in
+    let r = made .choose .result in
+    a-choice-joins (s .args .n) (s .args .m) (r .one) (r .two) (r .count) (firsts made) (seconds made) (made .choose .ensures .0)
     (omega (arith, s .pre)) (omega (arith, s .pre)) (omega arith)
 
 returns-2 : tie.Need-returns-2
 returns-2 c =
-    let s = c .before .before .before .before .before .before .before .before .before .before .before in
-    let a = s .args in
+    let made = c .before .before .before .before .before .before .before .before .before in
+    let a = made .before .before .args in
     let put = c .before .before .put-entries .ensures in
-    let few : length (chosen (possible (a .n)) (a .m)) ≡ a .n - 1 = omega (arith, counted (c .before .before .before .before .before .before .before .before .before)) in
-    let page = ap (linesUpTo (3 ^ (a .n - 1)) (a .n)) (c .before .before .before .before .before .before .before .before .before .choose .ensures .0) ∙ the-lines-are-the-page (a .n) (a .m) few in
+    let few : length (chosen (possible (a .n)) (a .m)) ≡ a .n - 1 = omega (arith, counted made) in
+    let page = ap (linesUpTo (3 ^ (a .n - 1)) (a .n)) (made .choose .ensures .0) ∙ the-lines-are-the-page (a .n) (a .m) few in
     record { wrote = rw page at (put .wrote); short = put .short }
 
 pub put-page-spec : {M : Type 1} → statement M
@@ -57,9 +58,11 @@ put-page-spec =
     (λ c. omega arith)
     returns
     (λ c. firsts (c .before .before .before .before))
-    (λ c. let made = c .before .before .before .before .before in sym (length-take-le (made .choose .result .count) (made .choose .result .one) (firsts made)))
+    (λ c. let made = c .before .before .before .before .before in
+    sym (length-take-le (made .choose .result .count) (made .choose .result .one) (firsts made)))
     (λ c. seconds (c .before .before .before .before .before))
-    (λ c. let made = c .before .before .before .before .before .before in sym (length-take-le (made .choose .result .count) (made .choose .result .two) (seconds made)))
+    (λ c. let made = c .before .before .before .before .before .before in
+    sym (length-take-le (made .choose .result .count) (made .choose .result .two) (seconds made)))
     put-entries-requires
     (λ c. same-size (c .before .before .put-entries .ensures .wrote))
     returns-2)

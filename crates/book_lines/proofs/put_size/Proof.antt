@@ -1,12 +1,9 @@
 -- `put_size` meets its contract: a number has at most 20 digits.
 use native.Mathlib.Omega.{arith}
 use borrow.Author.Needs.{needs}
-use Rattle.book_lines.specs.Laws.{number-short}
+use Rattle.book_lines.specs.Laws.{number-short, number-room}
 use Rattle.book_lines.proofs.put_size.Statement.{statement}
 use Rattle.book_lines.proofs.put_size.Tie as tie
-
-put-number-requires : tie.Need-put-number-requires
-put-number-requires c κs = let a = c .before .before .args in omega (arith, number-short (a .size) (a .stop) (omega arith))
 
 returns : tie.Need-returns
 returns c =
@@ -15,4 +12,4 @@ returns c =
     record { wrote = put; short = omega (arith, put .next, number-short (a .size) (a .stop) (omega arith)) }
 
 pub put-size-spec : {M : Type 1} → statement M
-put-size-spec = tie.close (tie.spec put-number-requires (λ c. search needs) returns)
+put-size-spec = tie.close (tie.spec (λ c κs. number-room _ _ _ (omega arith) (omega arith)) (λ c. search needs) returns)

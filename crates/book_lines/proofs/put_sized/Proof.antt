@@ -21,15 +21,19 @@ put-line-requires c κs =
 
 returns : tie.Need-returns
 returns c =
-    let a = c .before .before .before .before .before .before .before .args in
-    let none = no-tree-has-no-line (a .n) (links (a .one .now) (a .two .now)) (a .sizes .now) (sym (c .before .before .total .ensures) ∙ c .enum-told .given .1) in
+    let told = c .before .before in
+    let a = told .before .before .before .before .before .args in
+    let said = sym (told .total .ensures) ∙ c .enum-told .given .1 in
+    let none = no-tree-has-no-line (a .n) (links (a .one .now) (a .two .now)) (a .sizes .now) said in
     record { wrote = rw none (nothing (a .buf .now) (a .at)); short = omega arith }
 
 returns-2 : tie.Need-returns-2
 returns-2 c =
-    let a = c .before .before .before .before .before .before .before .before .before .before .before .before .args in
+    let told = c .before .before .before .before .before .before .before in
+    let a = told .before .before .before .before .before .args in
     let put = c .before .before .put-line .ensures in
-    let its = a-tree-has-its-line (a .n) (links (a .one .now) (a .two .now)) (a .sizes .now) _ (sym (c .before .before .before .before .before .before .before .total .ensures) ∙ c .before .before .before .before .before .total2 .given .1) in
+    let said = sym (told .total .ensures) ∙ c .before .before .before .before .before .total2 .given .1 in
+    let its = a-tree-has-its-line (a .n) (links (a .one .now) (a .two .now)) (a .sizes .now) _ said in
     record { wrote = rw its (put .wrote); short = put .short }
 
 pub put-sized-spec : {M : Type 1} → statement M

@@ -22,14 +22,17 @@ returns c =
 returns-2 : tie.Need-returns-2
 returns-2 c =
     let a = c .before .before .before .before .before .before .before .args in
-    let e = a-page-too-long (a .sites) (a .choice) (found (c .before .before .before .before)) (a .buffer .now) (omega (arith, c .before .before .put-page .ensures .wrote .next)) in
+    let e = a-page-too-long (a .sites) (a .choice) (found (c .before .before .before .before)) (a .buffer .now)
+    (omega (arith, c .before .before .put-page .ensures .wrote .next)) in
     (sym (ap (λ p. p .outcome) e), sym (ap (λ p. p .buffer) e))
 
 returns-3 : tie.Need-returns-3
 returns-3 c =
-    let a = c .before .before .before .before .before .before .before .before .before .before .before .args in
-    let measured = c .before .before .before .before .before .before .put-page .ensures .wrote .next in
-    let e = a-page-stored (a .sites) (a .choice) (found (c .before .before .before .before .before .before .before .before)) (a .buffer .now) _ (c .before .before .before .before .before .before .put-page .result) (omega (arith, measured)) (omega (arith, measured))
+    let first = c .before .before .before .before .before .before in
+    let there = first .before .before in
+    let a = there .before .before .before .args in
+    let measured = first .put-page .ensures .wrote .next in
+    let e = a-page-stored (a .sites) (a .choice) (found there) (a .buffer .now) _ (first .put-page .result) (omega (arith, measured)) (omega (arith, measured))
     (c .before .before .put-page2 .ensures .wrote .stored) in
     (sym (ap (λ p. p .outcome) e), sym (ap (λ p. p .buffer) e))
 
@@ -42,6 +45,8 @@ page-spec =
     (λ c. search needs)
     (λ c κs. let a = c .before .before .before .before .args in a-page-has-2-to-5-sites (a .sites) (a .choice) (found (c .before)))
     returns-2
-    (λ c κs. let a = c .before .before .before .before .before .before .before .before .args in a-page-has-2-to-5-sites (a .sites) (a .choice) (found (c .before .before .before .before .before)))
+    (λ c κs. let there = c .before .before .before .before .before in
+    let a = there .before .before .before .args in
+    a-page-has-2-to-5-sites (a .sites) (a .choice) (found there))
     (λ c. same-size (c .before .before .put-page2 .ensures .wrote))
     returns-3)
