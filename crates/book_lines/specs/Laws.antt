@@ -123,12 +123,12 @@ lines-round n ls s = sym (flat-round (λ i. lineIf n ls (word 3 (n - 1) i)) 0 s
     ∙ ap (λ i. flatMap (λ i. lineIf n ls (word 3 (n - 1) i)) (upfrom 0 s) ++ lineIf n ls (word 3 (n - 1) i)) (omega arith))
 
 -- sizes by number
-word-length : (k s : ℕ) → length (word 3 k s) ≡ k
+pub word-length : (k s : ℕ) → length (word 3 k s) ≡ k
 unfolding word
 word-length zero s = refl
 word-length (suc k) s = ap suc (word-length k s)
 
-word-small : (k s j : ℕ) → look (word 3 k s) j ≤ 2
+pub word-small : (k s j : ℕ) → look (word 3 k s) j ≤ 2
 unfolding word
 word-small zero s j = omega arith
 word-small (suc k) s zero = omega arith
