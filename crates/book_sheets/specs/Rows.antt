@@ -1,20 +1,20 @@
 -- The fields of a line are read back; decimals are numbers, and `s` before one is a name of its own. By induction over the bytes.
 use mathlib.Core.Path.{_≡_, refl, sym, ap, _∙_}
-use mathlib.Core.Bool.{Bool, true, false, cond, _&&_, _||_}
+use mathlib.Core.Bool.{Bool, true, false, _&&_, _||_}
 use mathlib.Core.Logic.{_≢_}
 use mathlib.Core.List.{List, [], _∷_, _++_, append-assoc, append-nil, tail-eq-of-cons-eq}
 use Prim.Native.Nat.{ℕ, zero, suc, _+_, _/_, _%_, _≤_, _<_}
 use native.Mathlib.Omega.{arith}
 use native.Mathlib.Decide.{decLt}
-use borrow.Author.Tests.{ne-eqb, le-leb, lt-leb, lt-ltb, le-ltb, eq-eqb}
-use lib.Dec.{eqb, leb, ltb}
+use borrow.Author.Tests.{ne-eqb, le-leb, lt-leb, lt-ltb, le-ltb}
+use lib.Dec.{leb}
 use lib.ListN.{length}
 use Rattle.lists.specs.Numbers.{Each}
 use Rattle.lists.specs.Sums.{cases}
 use Rattle.lists.specs.Tallies.{each-append, each-map}
-use Rattle.text_fields.specs.Fields.{push, fields, all, isDigit, digitsAlone, isLetterOrDigit, isName, isNumber, capital, capitals, SameName, value}
+use Rattle.text_fields.specs.Fields.{push, fields, all, isDigit, digitsAlone, isLetterOrDigit, isName, isNumber, capitals, SameName, value}
 use Rattle.text_writers.specs.Fields.{digits, decimal, line}
-use Rattle.text_writers.specs.Decimal.{decimal-within, decimal-some}
+use Rattle.text_writers.specs.Decimal.{decimal-within}
 use Rattle.demands.specs.Parsing.{Plain, decimal-plain, decimal-read-back}
 use Rattle.book_sheets.specs.Sheet.{siteName}
 
@@ -125,7 +125,11 @@ pub a-site-name-is-a-name : (v : ℕ) → v < 1000 → isName (siteName v) ≡ t
 unfolding isName all
 a-site-name-is-a-name v h =
     let short = decimal-within 2 v h in
-    rw (le-leb 1 (suc (length (decimal v))) (omega arith), le-leb (suc (length (decimal v))) 12 (omega arith), all-letters-or-digits (decimal v) (decimal-digits v))
+    rw (
+      le-leb 1 (suc (length (decimal v))) (omega arith),
+      le-leb (suc (length (decimal v))) 12 (omega arith),
+      all-letters-or-digits (decimal v) (decimal-digits v),
+    )
 
 pub a-site-name-is-not-bare : (v : ℕ) → digitsAlone (siteName v) ≡ false
 unfolding all

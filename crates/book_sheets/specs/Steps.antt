@@ -1,32 +1,32 @@
 -- A line of the sheet read: the heading, a site line and a link line add what they say. By the forms of lines and the look-up of names.
 use mathlib.Core.Path.{_≡_, refl, sym, ap, _∙_}
-use mathlib.Core.Bool.{true, false}
-use mathlib.Core.Logic.{_≢_, _⊎_, inl, inr}
+use mathlib.Core.Bool.{true}
+use mathlib.Core.Logic.{_≢_, inl}
 use mathlib.Core.List.{List, [], _∷_, _++_}
-use Prim.Native.Nat.{ℕ, zero, suc, _+_, _-_, _≤_, _<_}
+use Prim.Native.Nat.{ℕ, suc, _+_, _-_, _≤_, _<_}
 use native.Mathlib.Omega.{arith}
 use native.Mathlib.Decide.{decLt}
 use borrow.Author.Tests.{ne-eqb, lt-leb}
-use lib.ListN.{length, getD, take, drop, length-append, length-drop, List·getD-append}
+use lib.ListN.{length, take, drop, length-append, length-drop, List·getD-append}
 use lib.Seq.{take-at, drop-at, drop-drop, take-all, getD-at}
 use Rattle.lists.specs.Numbers.{Each}
 use Rattle.lists.specs.Sums.{cases}
-use Rattle.model.specs.Flows.{Links, joined}
+use Rattle.model.specs.Flows.{joined}
 use Rattle.model.specs.Text.{bytes}
 use Rattle.model.specs.declared.Edition.{Edition}
 use Rattle.text_lines.specs.Lines.{lineLength, lineAt, afterLine}
 use Rattle.text_lines.specs.LineLaws.{after-ended-line}
-use Rattle.text_fields.specs.Fields.{fields, same, isName, isNumber, value, SameName}
+use Rattle.text_fields.specs.Fields.{fields, same}
 use Rattle.text_writers.specs.Fields.{decimal}
 use Rattle.sheet_kinds.specs.LineKinds.{isHeading, kind, mark, size, reserve, usableSize, IsSite, IsLink}
 use Rattle.sheet_kinds.specs.LineKindLaws.{site-is-its-parts, link-is-its-parts, no-fifth}
-use Rattle.sheet_kinds.specs.KindForms.{LinkWithin, a-site-by-its-form, a-link-by-its-form, link-name-is-field-1, link-name-is-field-2}
+use Rattle.sheet_kinds.specs.KindForms.{a-site-by-its-form, a-link-by-its-form, link-name-is-field-1, link-name-is-field-2}
 use Rattle.sheet_kinds.specs.declared.Line.the-variants as kinds
 use Rattle.sheet_names.specs.Names.{part, lookup, nameAt}
 use Rattle.sheet_names.specs.LookupLaws.{Says, lookup-says, first-is-found}
 use Rattle.sheet_names.specs.declared.Found.{Found}
 use Rattle.sheet_names.specs.declared.Found.the-variants.{At, Absent}
-use Rattle.sheet.specs.Sheet.{Network, Read, accepted, withSite, withLink, siteStep, linkStep, headingStep, recordStep, readLine, andThen, readLines}
+use Rattle.sheet.specs.Sheet.{Network, accepted, withSite, withLink, siteStep, linkStep, headingStep, recordStep, readLine, andThen, readLines}
 use Rattle.sheet.specs.ReadLaws.{lines-step}
 use Rattle.sheet.specs.StepCases.{first-step, later-step}
 use Rattle.sheet.specs.Sound.{part-of-line}

@@ -1,8 +1,8 @@
 -- `plan` prints the total of each entry of the exercise book for its sheet. By demand 2: the printed total is the largest of the tree, and so is the entry's.
 -- Document 02, Card 13.
-use mathlib.Core.Path.{_≡_, refl, sym, ap, _∙_, subst}
+use mathlib.Core.Path.{_≡_, sym, subst}
 use mathlib.Core.List.{List}
-use Prim.Native.Nat.{ℕ, _*_, _≤_, _<_}
+use Prim.Native.Nat.{ℕ, _≤_}
 use native.Mathlib.Omega.{arith}
 use lib.ListN.{length, replicate}
 use Rattle.lists.specs.Numbers.{look}
@@ -11,16 +11,16 @@ use Rattle.model.specs.Limits.{REPORT}
 use Rattle.model.specs.Edition.{editions}
 use Rattle.model.specs.Flows.{Links, Multiflow, ends, total}
 use Rattle.model.specs.declared.Pair.{Pair}
-use Rattle.sheet.specs.Sheet.{Network, Read, accepted, readSheet, editionOf}
+use Rattle.sheet.specs.Sheet.{Network, editionOf}
 use Rattle.sheet.specs.SheetTheorem.{a-sheet-is-refused-for-its-cause}
 use Rattle.planner.specs.Outcome.{answered}
 use Rattle.theory_book.specs.Listing.{In}
 use Rattle.theory_book.specs.ListLaws.{in-getD}
 use Rattle.theory_book.specs.Book.{Entry, Listed, exerciseBook, halves}
 use Rattle.theory_book.specs.Entries.{every-entry-is-a-tree-with-its-sizes}
-use Rattle.theory_book.specs.Totals.{pairsIn, LargestTotal, the-total-is-the-largest}
+use Rattle.theory_book.specs.Totals.{pairsIn, the-total-is-the-largest}
 use Rattle.demands.specs.Printed.{Printed, readReport, bytesPrinted}
-use Rattle.demands.specs.Asked.{Demand2, IsReport, IsRefusal, Prints, a-full-report, a-refusal}
+use Rattle.demands.specs.Asked.{Demand2, IsReport, Prints, a-full-report, a-refusal}
 use Rattle.demands.specs.Demands.{the-program-prints-a-full-report-or-the-cause}
 use Rattle.book_sheets.specs.Sheet.{sheetOf}
 use Rattle.book_sheets.specs.Reads.{Fits, ReadAs, net, the-sheet-is-read-as-its-entry}
@@ -33,7 +33,8 @@ pub record PrintsTotal (e : Entry) (r : List ℕ) : Type 0 where
   pub total-printed : readReport (sheetOf e) network r .total ≡ halves e
 
 -- plans over as many sites are plans over the entry's sites
-as-many : (ls : Links) (n k : ℕ) (marks : List ℕ) (fs : List Pair) → k ≡ n → Multiflow ls k (look (ends ls k marks)) fs → Multiflow ls n (look (ends ls n marks)) fs
+as-many : (ls : Links) (n k : ℕ) (marks : List ℕ) (fs : List Pair) → k ≡ n → Multiflow ls k (look (ends ls k marks)) fs
+    → Multiflow ls n (look (ends ls n marks)) fs
 as-many ls n k marks fs c h = subst (λ i. Multiflow ls i (look (ends ls i marks)) fs) c h
 
 module _ (e : Entry) (fits : Fits e) where
@@ -43,8 +44,8 @@ module _ (e : Entry) (fits : Fits e) where
       let R = the-sheet-is-read-as-its-entry e fits in
       let L = the-total-is-the-largest e (fits .tree) in
       let zeros : List ℕ = replicate (e .sites) 0 in
-      let most = D .largest (pairsIn e) (as-many (e .links) (length (net e fits .names)) (e .sites) zeros (pairsIn e) (sym (R .count)) (L .plan)) 2 (omega arith)
-      (L .fits) in
+      let most = D .largest (pairsIn e) (as-many (e .links) (length (net e fits .names)) (e .sites) zeros (pairsIn e) (sym (R .count)) (L .plan)) 2
+      (omega arith) (L .fits) in
       let least = L .largest (p .plan) (as-many (e .links) (e .sites) (length (net e fits .names)) zeros (p .plan) (R .count) (D .printed-plan)) 2
       (D .printed-plan-fits) in
       omega (arith, most, least, L .reached, D .reached)

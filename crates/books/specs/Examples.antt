@@ -1,6 +1,6 @@
 -- The card's line, and the first part of the book, computed from the definitions. Document 02, Card 13.
 use mathlib.Core.Path.{_≡_, refl}
-use mathlib.Core.List.{[], _∷_, map, flatMap}
+use mathlib.Core.List.{[], _∷_, flatMap}
 use native.Mathlib.Decide.{ℕ-discrete, decLe}
 use Rattle.lists.specs.Numbers.{pick, is, sum, over, count, upfrom}
 use Rattle.model.specs.Flows.{at, sumAt, leaf, endAt, ends, relabel, label, joined, atTerminals}

@@ -1,5 +1,5 @@
 -- A page has at most 4,096 bytes: at most 81 lines of at most 29 bytes. By the lengths of its numbers: sites have one digit, sizes one, a total two.
-use mathlib.Core.Path.{_≡_, refl, sym, ap, _∙_}
+use mathlib.Core.Path.{_≡_, refl, ap}
 use mathlib.Core.Logic.{inl, inr}
 use mathlib.Core.List.{List, [], _∷_, _++_, map, flatMap}
 use Prim.Native.Nat.{ℕ, zero, suc, _+_, _-_, _*_, _^_, _≤_, _<_}
@@ -8,8 +8,8 @@ use native.Mathlib.Decide.{decLe}
 use native.Mathlib.Nat.{mul-le-mul-right, pow-le-pow-right}
 use borrow.Author.Tests.{le-ltb}
 use lib.ListN.{length, length-append}
-use Rattle.lists.specs.Numbers.{is, sum, over, count, upfrom, look}
-use Rattle.lists.specs.Sums.{same?, cases, is-le, sum-le, sum-mul}
+use Rattle.lists.specs.Numbers.{is, sum, upfrom, look}
+use Rattle.lists.specs.Sums.{same?, cases, is-le, sum-le}
 use Rattle.lists.specs.Places.{over-le}
 use Rattle.model.specs.Flows.{Links, Tree, sites, sumAt, atTerminals}
 use Rattle.theory_trees.specs.Greatest.{balanced-is-greatest}
