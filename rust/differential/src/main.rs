@@ -6,7 +6,7 @@
 //!              [--logs N] [--log INDEX] [--replay FILE]
 //!              [--pairs N] [--pair INDEX] [--regions FILE] [--region FILE]
 //!              [--surveys N] [--survey INDEX] [--ranges FILE]
-//!              [--plans N] [--plan INDEX] [--judge FILE]
+//!              [--plans N] [--plan INDEX] [--judge FILE] [--book FILE]
 //! ```
 //!
 //! The sheets of the scope document come first, then small sheets with names in either case, with
@@ -34,9 +34,10 @@
 //!
 //! Then come plans drawn by hand: some with answers written out, all small ones over a short list of lines, all
 //! amounts over all small trees, random ones, and the programs over files. Answers are compared with what is due by
-//! the card, and with the greatest totals by linear programming.
+//! the card, and with the greatest totals by linear programming. The exercise book is compared byte for byte.
 
 mod bare;
+mod book;
 mod card;
 mod circuits;
 mod compare;
@@ -88,6 +89,7 @@ struct Options {
     plans: u64,
     only_plan: Option<u64>,
     plan_programs: plans::Programs,
+    book_programs: book::Programs,
 }
 
 /// A sheet on which something is wrong.
@@ -144,6 +146,10 @@ fn options() -> Result<Options, String> {
             proved: PathBuf::from("target/bin/judge"),
             second: beside_this_program("second-judge"),
         },
+        book_programs: book::Programs {
+            proved: PathBuf::from("target/bin/book"),
+            second: beside_this_program("second-book"),
+        },
     };
     let mut arguments = std::env::args().skip(1);
     while let Some(option) = arguments.next() {
@@ -182,6 +188,7 @@ fn options() -> Result<Options, String> {
             "--plans" => options.plans = number()?,
             "--plan" => options.only_plan = Some(number()?),
             "--judge" => options.plan_programs.proved = value.into(),
+            "--book" => options.book_programs.proved = value.into(),
             _ => return Err(format!("unknown option {option}")),
         }
     }
@@ -217,6 +224,8 @@ fn run(options: &Options) -> ExitCode {
         compare_ranges(options)
     } else if options.only_plan.is_some() || options.planted.is_some_and(is_of_plans) {
         compare_plans(options)
+    } else if options.planted.is_some_and(is_of_book) {
+        options.book_programs.compare(true)
     } else if options.planted.is_some() {
         random::compare_all(options.seed, options.sheets)
     } else {
@@ -234,6 +243,7 @@ fn run(options: &Options) -> ExitCode {
             .and_then(|()| compare_regions(options))
             .and_then(|()| compare_ranges(options))
             .and_then(|()| compare_plans(options))
+            .and_then(|()| options.book_programs.compare(false))
     };
     let Err(failure) = outcome else {
         println!("no difference in {:.1} s", start.elapsed().as_secs_f64());
@@ -275,6 +285,12 @@ fn is_of_ranges(number: u64) -> bool {
 fn is_of_plans(number: u64) -> bool {
     use second::planted::Error::{FitIsLargest, LargestUntrimmed};
     (FitIsLargest as u64..=LargestUntrimmed as u64).contains(&number)
+}
+
+/// Whether a planted error is one in the exercise book.
+fn is_of_book(number: u64) -> bool {
+    use second::planted::Error::{LastTreeLeftOut, SizesBeforeLinks};
+    (SizesBeforeLinks as u64..=LastTreeLeftOut as u64).contains(&number)
 }
 
 /// Compares the planners on booking logs: on a single one, on random ones, or on all.

@@ -31,6 +31,7 @@
 //! | `pair_lines` | reads lines that name two ends and an amount |
 //! | `replay` | replays a booking log over the network |
 //! | `judge` | judges a plan drawn by hand |
+//! | `book` | makes the exercise book |
 //! | `regions` | trims two regions that share one link |
 //! | `ranges` | the report on sizes between two |
 //! | `program` | what the programs do |
@@ -42,6 +43,7 @@
 
 #![forbid(unsafe_code)]
 
+mod book;
 mod cuts;
 mod edition;
 mod forest;
@@ -64,6 +66,7 @@ mod tree;
 mod trim;
 mod whole;
 
+pub use book::book;
 pub use edition::Edition;
 use forest::Forest;
 pub use judge::{Judged, PLAN_BYTES, PLAN_LINES, judge};

@@ -266,10 +266,22 @@ pub enum Error {
     LargestInCircuits = 129,
     /// A plan is the largest if it fills all links of all ends.
     LargestUntrimmed = 130,
+    /// Trees of the exercise book are put in order by their sizes before their links.
+    SizesBeforeLinks = 131,
+    /// Links of the exercise book are put in order by their higher number first.
+    HigherFirst = 132,
+    /// Links with a ring among them are counted as a tree of the exercise book.
+    RingCounted = 133,
+    /// Sizes in the exercise book start with 1.
+    SizesFromOne = 134,
+    /// Totals in the exercise book are half the sum of the sizes at ends.
+    EndSizesSummed = 135,
+    /// The last tree of the exercise book is left out.
+    LastTreeLeftOut = 136,
 }
 
 /// All errors, in the order of their numbers.
-pub const ERRORS: [Error; 130] = [
+pub const ERRORS: [Error; 136] = [
     Error::RoundedHalf,
     Error::HighestRoot,
     Error::UpwardSets,
@@ -400,6 +412,12 @@ pub const ERRORS: [Error; 130] = [
     Error::PlanUnendedLeftOut,
     Error::LargestInCircuits,
     Error::LargestUntrimmed,
+    Error::SizesBeforeLinks,
+    Error::HigherFirst,
+    Error::RingCounted,
+    Error::SizesFromOne,
+    Error::EndSizesSummed,
+    Error::LastTreeLeftOut,
 ];
 
 #[cfg(feature = "planted")]

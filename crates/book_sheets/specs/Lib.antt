@@ -1,0 +1,5 @@
+pub mod Sheet
+pub mod Rows
+pub mod Steps
+pub mod Reads
+pub mod Totals

@@ -1,0 +1,11 @@
+pub mod Listing
+pub mod ListLaws
+pub mod FlatLaws
+pub mod Book
+pub mod Trees
+pub mod Entries
+pub mod Totals
+pub mod Counts
+pub mod Numbered
+pub mod Counting
+pub mod Pages
