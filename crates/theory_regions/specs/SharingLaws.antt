@@ -23,7 +23,7 @@ use Rattle.theory_regions.specs.TwoRegions.{Neighbours}
 -- ---- of trees and sums
 
 -- two links between the same two sites are one link
-no-double-link : {ls : Links} {n : ℕ} → Tree ls n → (i j x y : ℕ) → i < length ls → j < length ls → Between ls i x y → Between ls j x y → i ≡ j
+pub no-double-link : {ls : Links} {n : ℕ} → Tree ls n → (i j x y : ℕ) → i < length ls → j < length ls → Between ls i x y → Between ls j x y → i ≡ j
 no-double-link {ls} T i j x y l k f g = same? i j
     (λ e. e)
     (λ d.

@@ -1,0 +1,4 @@
+pub mod Matched
+pub mod MatchedLaws
+pub mod MatchedCuts
+pub mod MatchedFlows
