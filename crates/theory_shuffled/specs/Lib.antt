@@ -1,3 +1,5 @@
+pub mod Shuffled
+pub mod ShuffledLaws
 pub mod Matched
 pub mod MatchedLaws
 pub mod MatchedCuts

@@ -4,7 +4,6 @@ use mathlib.Core.Path.{_≡_, sym, ap, _∙_}
 use mathlib.Core.Logic.{inl, inr}
 use Prim.Native.Nat.{ℕ, _*_, _≤_, _<_}
 use native.Mathlib.Omega.{arith}
-use lib.ListN.{length}
 use Rattle.lists.specs.Numbers.{pick, differ}
 use Rattle.lists.specs.Sums.{same?, pick-same, pick-other, is-one, is-le, differ-comm, less-lt}
 use Rattle.model.specs.Flows.{Links, Site, Tree, one, two}

@@ -7,7 +7,7 @@ use Prim.Native.Nat.{ℕ, _≤_, _<_}
 use native.Mathlib.Omega.{arith}
 use lib.ListN.{length}
 use Rattle.lists.specs.Numbers.{count, Each}
-use Rattle.model.specs.Flows.{Links, Site, one, two, at, side, separates, Route, Multiflow, load, total, Fits}
+use Rattle.model.specs.Flows.{Links, Site, one, two, side, separates, Route, Multiflow, load, total, Fits}
 use Rattle.model.specs.declared.Pair.{Pair}
 use Rattle.lists.specs.Sums.{same?, is-same}
 use Rattle.theory_trees.specs.Trees.{side-link, separates-same, separates-le}
