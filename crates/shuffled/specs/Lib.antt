@@ -1,0 +1,4 @@
+pub mod SameReports
+pub mod Networks
+pub mod Agree
+pub mod Lines
