@@ -1,2 +1,3 @@
 pub mod SameRecords
+pub mod RecordLaws
 pub mod Held

@@ -2,10 +2,9 @@
 -- so does the total in whole circuits.
 use mathlib.Core.List.{List}
 use mathlib.Core.Logic.{_≢_, inl, inr}
-use mathlib.Core.Path.{_≡_, refl, sym, ap, _∙_}
+use mathlib.Core.Path.{_≡_, sym, ap, _∙_}
 use Prim.Native.Nat.{ℕ, zero, suc, _-_, _≤_}
 use native.Mathlib.Omega.{arith}
-use lib.ListN.{length}
 use Rattle.lists.specs.Numbers.{pick, look}
 use Rattle.lists.specs.Sums.{same?, pick-same, pick-other}
 use Rattle.model.specs.Flows.{Site, one, two, mark, endAt, total}

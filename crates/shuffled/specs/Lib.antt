@@ -2,3 +2,5 @@ pub mod SameReports
 pub mod Networks
 pub mod Agree
 pub mod Lines
+pub mod ShuffledSheets
+pub mod ShuffledPrinted

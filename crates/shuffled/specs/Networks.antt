@@ -4,7 +4,6 @@ use mathlib.Core.List.{List, [], _∷_}
 use mathlib.Core.Logic.{inl, inr}
 use mathlib.Core.Path.{_≡_, refl, sym, ap, _∙_}
 use Prim.Native.Nat.{ℕ, suc, _-_, _<_}
-use native.Mathlib.Omega.{arith}
 use native.Mathlib.Decide.{decLt}
 use lib.ListN.{length}
 use Rattle.lists.specs.Numbers.{look}
@@ -12,12 +11,12 @@ use Rattle.model.specs.Flows.{Site, one, two}
 use Rattle.model.specs.declared.Edition.{Edition}
 use Rattle.text_fields.specs.Fields.{SameName}
 use Rattle.text_records.specs.Records.{Record}
-use Rattle.sheet_kinds.specs.LineKinds.{field, mark, IsSite, IsLink}
-use Rattle.sheet_kinds.specs.LineKindLaws.{site-parts, link-parts}
+use Rattle.sheet_kinds.specs.LineKinds.{field, IsSite, IsLink}
 use Rattle.sheet.specs.Sheet.{Network, lookupFrom}
 use Rattle.sheet.specs.Causes.{Named}
 use Rattle.sheet.specs.SheetTheorem.{IsNetwork}
 use Rattle.sheet_records.specs.SameRecords.{SameRecord, same-site, same-link, recordsOf}
+use Rattle.sheet_records.specs.RecordLaws.{a-site-is-no-link, same-mark}
 use Rattle.sheet_records.specs.Held.{nameOn, SiteRecord, LinkRecord, Holds}
 use Rattle.theory_regions.specs.JoinedTree.{Between}
 use Rattle.theory_regions.specs.SharingLaws.{no-double-link}
@@ -28,18 +27,6 @@ use Rattle.demands.specs.Names.{name-read-back}
 use Rattle.shuffled.specs.SameReports.{SameSite, SameLink, EachIsThere}
 
 -- ---- from records
-
--- the letter of a site record is not that of a link record
-pub a-site-is-no-link : (r : Record) → IsSite r → IsLink r → ⊥
-a-site-is-no-link r s l = elim (site-parts r s .letter) [
-  | inl e ↦ omega (arith, ap (λ f. look f 0) (sym e ∙ link-parts r l .letter))
-  | inr e ↦ omega (arith, ap (λ f. look f 0) (sym e ∙ link-parts r l .letter))
-]
-
--- the same letter is the same mark
-same-mark : (r q : Record) → field r 0 ≡ field q 0 → mark r ≡ mark q
-unfolding mark
-same-mark r q e = rw e
 
 -- each site and each link of the one sheet is one of the other, with its mark and its usable size
 pub record Among (s : List ℕ) (net : Network) (t : List ℕ) (other : Network) : Type 0 where
