@@ -4,3 +4,5 @@ pub mod Agree
 pub mod Lines
 pub mod ShuffledSheets
 pub mod ShuffledPrinted
+pub mod Accepted
+pub mod Example

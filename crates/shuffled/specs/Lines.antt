@@ -246,8 +246,11 @@ module _ {ed ed′ : Edition} {s : List ℕ} {net : Network} {t : List ℕ} {oth
   pub link-lines-are-shuffled : Shuffled SameLinkLine (here (bytes "L")) (there (bytes "L"))
   link-lines-are-shuffled =
       same-once-is-shuffled SameLinkLine link-line-turned link-line-chained _ _ (link-lines-apart N f h) (link-lines-apart N′ g k)
-      (λ q z. let a = link-line-of N f h q z in let o = A .links (a .0) (a .1) in
-      (linkShown N′ g k (o .0), link-line-there N′ g k (o .0) (o .1 .there), subst (λ y. SameLinkLine y (linkShown N′ g k (o .0))) (a .2) (same-link-lines (a .0) (o .0) (o .1))))
+      (λ q z. let a = link-line-of N f h q z in let o = A .links (a .0) (a .1) in (
+        linkShown N′ g k (o .0),
+        link-line-there N′ g k (o .0) (o .1 .there),
+        subst (λ y. SameLinkLine y (linkShown N′ g k (o .0))) (a .2) (same-link-lines (a .0) (o .0) (o .1)),
+      ))
       (λ q z. let b = link-line-of N′ g k q z in let o = B .links (b .0) (b .1) in (
         linkShown N f h (o .0),
         link-line-there N f h (o .0) (o .1 .there),
@@ -257,8 +260,11 @@ module _ {ed ed′ : Edition} {s : List ℕ} {net : Network} {t : List ℕ} {oth
   pub site-lines-are-shuffled : Shuffled SameSiteLine (here (bytes "N")) (there (bytes "N"))
   site-lines-are-shuffled =
       same-once-is-shuffled SameSiteLine site-line-turned site-line-chained _ _ (site-lines-apart N f h) (site-lines-apart N′ g k)
-      (λ q z. let a = site-line-of N f h q z in let o = A .sites (a .0) (a .1) in
-      (siteShown N′ g k (o .0), site-line-there N′ g k (o .0) (o .1 .there), subst (λ y. SameSiteLine y (siteShown N′ g k (o .0))) (a .2) (same-site-lines (a .0) (o .0) (o .1))))
+      (λ q z. let a = site-line-of N f h q z in let o = A .sites (a .0) (a .1) in (
+        siteShown N′ g k (o .0),
+        site-line-there N′ g k (o .0) (o .1 .there),
+        subst (λ y. SameSiteLine y (siteShown N′ g k (o .0))) (a .2) (same-site-lines (a .0) (o .0) (o .1)),
+      ))
       (λ q z. let b = site-line-of N′ g k q z in let o = B .sites (b .0) (b .1) in (
         siteShown N f h (o .0),
         site-line-there N f h (o .0) (o .1 .there),

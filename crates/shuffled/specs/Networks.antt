@@ -1,9 +1,9 @@
 -- Two accepted sheets that hold the same records give one network, numbered in two ways: sites go by their names, and links by the names of their
 -- sites, since a tree has no two links between the same sites.
-use mathlib.Core.List.{List, [], _∷_}
+use mathlib.Core.List.{List}
 use mathlib.Core.Logic.{inl, inr}
-use mathlib.Core.Path.{_≡_, refl, sym, ap, _∙_}
-use Prim.Native.Nat.{ℕ, suc, _-_, _<_}
+use mathlib.Core.Path.{_≡_, refl, sym, _∙_}
+use Prim.Native.Nat.{ℕ, _-_, _<_}
 use native.Mathlib.Decide.{decLt}
 use lib.ListN.{length}
 use Rattle.lists.specs.Numbers.{look}
@@ -12,18 +12,22 @@ use Rattle.model.specs.declared.Edition.{Edition}
 use Rattle.text_fields.specs.Fields.{SameName}
 use Rattle.text_records.specs.Records.{Record}
 use Rattle.sheet_kinds.specs.LineKinds.{field, IsSite, IsLink}
-use Rattle.sheet.specs.Sheet.{Network, lookupFrom}
+use Rattle.sheet_names.specs.Names.{Different, lookup}
+use Rattle.sheet_names.specs.declared.Found.{Found}
+use Rattle.sheet_names.specs.declared.Found.the-variants.{At, Absent}
+use Rattle.sheet.specs.Sheet.{Network}
+use Rattle.sheet.specs.CauseLaws.{Finds, finds}
 use Rattle.sheet.specs.Causes.{Named}
 use Rattle.sheet.specs.SheetTheorem.{IsNetwork}
 use Rattle.sheet_records.specs.SameRecords.{SameRecord, same-site, same-link, recordsOf}
 use Rattle.sheet_records.specs.RecordLaws.{a-site-is-no-link, same-mark}
 use Rattle.sheet_records.specs.Held.{nameOn, SiteRecord, LinkRecord, Holds}
+use Rattle.sheet_records.specs.LinesRead.{one-site-of-a-name}
 use Rattle.theory_regions.specs.JoinedTree.{Between}
 use Rattle.theory_regions.specs.SharingLaws.{no-double-link}
 use Rattle.theory_shuffled.specs.Matched.{Carries, Matched}
 use Rattle.theory_shuffled.specs.Shuffled.{Stands}
 use Rattle.demands.specs.Printed.{siteCount, siteFound, siteNamed}
-use Rattle.demands.specs.Names.{name-read-back}
 use Rattle.shuffled.specs.SameReports.{SameSite, SameLink, EachIsThere}
 
 -- ---- from records
@@ -107,11 +111,14 @@ unfolding chosen
 chosen-is (yes p) h q = h p .1
 chosen-is (no p) h q = absurd (p q)
 
--- the same name leads to the same site
-same-look-up : (s f g : List ℕ) (rs : List (ℕ × ℕ)) (k : ℕ) → SameName f g → lookupFrom s rs k f ≡ lookupFrom s rs k g
-unfolding lookupFrom
-same-look-up s f g [] k e = refl
-same-look-up s f g (r ∷ rs) k e = rw (e, same-look-up s f g rs (suc k) e)
+-- a name leads to the site that has it, where no two sites have the same name
+pub found-by-name : (t : List ℕ) (other : Network) → Different t (other .names) → (f : List ℕ) (w : ℕ) → Named t (other .names) f w → siteNamed t other f ≡ w
+unfolding siteNamed siteFound
+found-by-name t other different f w h = by (lookup t (other .names) f) (finds t f (other .names))
+  where
+    by : (u : Found) → Finds t (other .names) f u → siteFound u ≡ w
+    by (At v) k = one-site-of-a-name t (other .names) different f f v w k h refl
+    by Absent k = absurd (k w h)
 
 -- site v of the sheet s goes to the site of its name on the sheet t
 abbrev pub siteTo : List ℕ → Network → List ℕ → Network → ℕ → ℕ
@@ -119,9 +126,7 @@ siteTo s net t other v = siteNamed t other (nameOn s net v)
 
 module _ {ed′ : Edition} {s : List ℕ} {net : Network} {t : List ℕ} {other : Network} (N′ : IsNetwork ed′ t other) where
   pub site-of-the-name : (v w : ℕ) → SameSite s net t other v w → siteTo s net t other v ≡ w
-  unfolding siteNamed
-  site-of-the-name v w h =
-      ap siteFound (same-look-up t (nameOn s net v) (nameOn t other w) (other .names) 1 (h .name)) ∙ name-read-back N′ w (h .there)
+  site-of-the-name v w h = found-by-name t other (N′ .different) (nameOn s net v) w (record { site = h .there; name = sym (h .name) })
 
   -- a link joins the sites of its names
   pub same-link-joins : (i j : ℕ) → SameLink s net t other i j
@@ -189,8 +194,14 @@ are-matched N N′ A B = record {
   back = is-carried N B;
   site-there = site-again N N′ A;
   site-back = site-again N′ N B;
-  link-there = λ i l. let p = link-to N′ A i l .0 in link-again N N′ A i (linkTo N′ A i) (linkTo N B (linkTo N′ A i)) p (link-to N B (linkTo N′ A i) (p .there) .0);
-  link-back = λ j l. let p = link-to N B j l .0 in link-again N′ N B j (linkTo N B j) (linkTo N′ A (linkTo N B j)) p (link-to N′ A (linkTo N B j) (p .there) .0);
+  link-there = λ i l.
+      let j = linkTo N′ A i in
+      let p = link-to N′ A i l .0 in
+      link-again N N′ A i j (linkTo N B j) p (link-to N B j (p .there) .0);
+  link-back = λ j l.
+      let i = linkTo N B j in
+      let p = link-to N B j l .0 in
+      link-again N′ N B j i (linkTo N′ A i) p (link-to N′ A i (p .there) .0);
 }
 
 -- what is among a sheet is there

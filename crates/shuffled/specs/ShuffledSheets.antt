@@ -18,10 +18,11 @@ use Rattle.sheet.specs.Sheet.{Network, accepted, readSheet, editionOf}
 use Rattle.sheet.specs.SheetTheorem.{IsNetwork, an-accepted-sheet-is-a-tree}
 use Rattle.sheet_records.specs.SameRecords.{SameRecord, SameRecords}
 use Rattle.sheet_records.specs.RecordLaws.{record-turned}
-use Rattle.sheet_records.specs.Held.{an-accepted-sheet-holds-its-records}
+use Rattle.sheet_records.specs.LinesRead.{an-accepted-sheet-holds-its-records}
 use Rattle.report.specs.Report.{decimal, reportOf, report, wholeReport}
 use Rattle.planner.specs.Outcome.{number, Reporter, planned, plannedWhole, answeredBy, answered, answeredWhole}
-use Rattle.planner.specs.Figures.{Figures, halves, wholes, pairsBy, planShowing, Showable, the-report-shows-halves, the-whole-report-shows-wholes, halves-can-be-shown}
+use Rattle.planner.specs.Figures.{Figures, halves, wholes, pairsBy, planShowing, Showable, the-report-shows-halves}
+use Rattle.planner.specs.Figures.{the-whole-report-shows-wholes, halves-can-be-shown}
 use Rattle.planner.specs.WholeFigures.{wholes-can-be-shown}
 use Rattle.demands.specs.Printed.{bytesTold, bytesPrinted}
 use Rattle.demands.specs.Records.{first-line}
@@ -121,7 +122,8 @@ module _ (s t b d : List ℕ) (net other : Network) (read : readSheet editions s
       )
       (the-reports-agree editions s t net other read read-other same)
 
-  pub the-whole-program-prints-the-same-total-for-shuffled-sheets : SameTotal (bytesPrinted (answeredWhole editions s b)) (bytesPrinted (answeredWhole editions t d))
+  pub the-whole-program-prints-the-same-total-for-shuffled-sheets :
+      SameTotal (bytesPrinted (answeredWhole editions s b)) (bytesPrinted (answeredWhole editions t d))
   the-whole-program-prints-the-same-total-for-shuffled-sheets =
       rw (
         printed wholeReport s b net read (a-whole-report-fits-65536-bytes s net read) room,

@@ -123,7 +123,8 @@ module _ {ls ms : Links} {n m : ℕ} {d c site site⁻ link link⁻ : ℕ → �
     arith,
     L .reached,
     carry-total site (L .plan),
-    L′ .most (carry site (L .plan)) (multiflow-matched M terminal terminal′ agree (L .plan) (L .routes)) (fits-matched M terminal terminal′ agree k (L .plan) (L .routes) (L .fits))
+    L′ .most (carry site (L .plan)) (multiflow-matched M terminal terminal′ agree (L .plan) (L .routes))
+        (fits-matched M terminal terminal′ agree k (L .plan) (L .routes) (L .fits))
         (carry-each site K (L .plan) (L .kind)),
   )
 

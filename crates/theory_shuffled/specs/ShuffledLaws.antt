@@ -2,7 +2,10 @@
 -- Element by element.
 use mathlib.Core.List.{List, [], _∷_, _++_}
 use mathlib.Core.Logic.{_⊎_, inl, inr}
-use mathlib.Core.Path.{_≡_, refl, sym, ap, subst}
+use mathlib.Core.Path.{_≡_, refl, sym, ap, subst, _∙_}
+use Prim.Native.Nat.{ℕ}
+use native.Mathlib.Omega.{arith}
+use Rattle.lists.specs.Tallies.{tally, tally-append}
 use Rattle.theory_shuffled.specs.Shuffled.{Stands, Shuffled, none, next}
 
 -- ---- a list and one element more
@@ -109,3 +112,50 @@ module _ {A : Type 0} (Same : A → A → Type 0) where
           | inr x ↦ (h .0, x, h .2)
         ] in
         next front rear (k .2) (w .2) (same-once-is-shuffled xs (front ++ rear) (p .1) (rest .1) fore aft)
+
+  -- ---- what stands apart
+
+  -- one more, apart from all above
+  pub apart-more : (xs : List A) (a : A) → Apart xs → ((x : A) → Stands x xs → ¬ (Same x a)) → Apart (xs ++ (a ∷ []))
+  apart-more [] a h k = (λ b z. absurd z, tt)
+  apart-more (x ∷ xs) a h k = (
+    λ b z s. elim (stands-either b xs (a ∷ []) z) [
+      | inl w ↦ h .0 b w s
+      | inr w ↦ elim w [ inl e ↦ k x (inl refl) (subst (Same x) (sym e) s) | inr f ↦ f ]
+    ],
+    apart-more xs a (h .1) (λ y z. k y (inr z)),
+  )
+
+  pub apart-above : (xs ys : List A) (a : A) → Apart (xs ++ (a ∷ ys)) → (x : A) → Stands x xs → ¬ (Same x a)
+  apart-above [] ys a h x z = absurd z
+  apart-above (y ∷ xs) ys a h x (inl e) = λ s. h .0 a (stands-put a xs ys) (subst (λ w. Same w a) (sym e) s)
+  apart-above (y ∷ xs) ys a h x (inr z) = apart-above xs ys a (h .1) x z
+
+  apart-put : ((a b : A) → Same a b → Same b a) → (b : A) (front back : List A) → ((c : A) → Stands c (front ++ back) → ¬ (Same b c))
+      → Apart (front ++ back) → Apart (front ++ (b ∷ back))
+  apart-put turn b [] back n h = (n, h)
+  apart-put turn b (a ∷ front) back n h = (
+    λ c z s. elim (stands-or-put c b front back z) [
+      | inl e ↦ n a (inl refl) (turn a b (subst (Same a) (sym e) s))
+      | inr w ↦ h .0 c w s
+    ],
+    apart-put turn b front back (λ c z. n c (inr z)) (h .1),
+  )
+
+-- what stands apart stays apart where it is shuffled: no two elements meet in the other list whose likes do not meet in the one
+pub apart-shuffled : {A : Type 0} (Same Meet : A → A → Type 0) → ((a b : A) → Meet a b → Meet b a)
+    → ((a b c d : A) → Same a b → Same c d → Meet b d → Meet a c) → {xs ys : List A} → Shuffled Same xs ys → Apart Meet xs → Apart Meet ys
+apart-shuffled Same Meet turn carry none p = tt
+apart-shuffled Same Meet turn carry (next {a = a} {b = b} front back s e h) p =
+    subst (Apart Meet) (sym e) (apart-put Meet turn b front back
+    (λ c z m. let k = shuffled-is-covered Same h c z in p .0 (k .0) (k .1) (carry a b (k .0) c s (k .2) m))
+    (apart-shuffled Same Meet turn carry h (p .1)))
+
+-- and what is counted is counted alike
+pub tally-shuffled : {A : Type 0} (Same : A → A → Type 0) (g : A → ℕ) → ((a b : A) → Same a b → g a ≡ g b) → {xs ys : List A} → Shuffled Same xs ys
+    → tally g xs ≡ tally g ys
+unfolding tally
+tally-shuffled Same g same none = refl
+tally-shuffled Same g same (next {a = a} {b = b} {xs = xs} front back s e h) =
+    let rest = tally-shuffled Same g same h in
+    sym (ap (tally g) e ∙ omega (arith, same a b s, rest, tally-append g front (b ∷ back), tally-append g front back))
