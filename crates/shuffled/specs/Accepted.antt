@@ -26,11 +26,11 @@ use Rattle.sheet_kinds.specs.FaultyLines as faulty
 use Rattle.sheet_kinds.specs.KindForms.{LinkWithin, a-site-by-its-form, a-link-by-its-form}
 use Rattle.sheet_kinds.specs.declared.Line.the-variants as line
 use Rattle.sheet_names.specs.Names.{Different}
-use Rattle.sheet.specs.Sheet.{Network, empty, accepted, readAs, readSheet, editionOf}
+use Rattle.sheet.specs.Sheet.{Network, refused, accepted, readAs, readSheet, editionOf}
 use Rattle.sheet.specs.Causes.{Named, Ended, fieldsAt, Cause, unended, no-heading, no-letter, wrong-count, bad-name, bare-name, bad-number, too-large}
 use Rattle.sheet.specs.Causes.{too-much-held, too-many, given, not-given, already-joined, Refusal, by-length, by-line, by-whole}
 use Rattle.sheet.specs.RefusalLaws.{an-accepted-sheet-is-read-to-its-end}
-use Rattle.sheet.specs.SheetTheorem.{IsNetwork, an-accepted-sheet-is-a-tree, a-sheet-without-causes-is-accepted}
+use Rattle.sheet.specs.SheetTheorem.{IsNetwork, an-accepted-sheet-is-a-tree, a-sheet-is-refused-for-its-cause, a-sheet-without-causes-is-accepted}
 use Rattle.sheet_records.specs.SameRecords.{recordsOf, SameNames, SameRecord, same-site, same-link, SameRecords, GivenAmong, LinksBelow}
 use Rattle.sheet_records.specs.SameRecords.{EachLinkBelowItsSites, SameFrame}
 use Rattle.sheet_records.specs.RecordLaws.{names-turned, names-chained, a-site-is-no-link, record-turned}
@@ -216,28 +216,44 @@ module _ (ed : Edition) (s t : List ℕ) (net : Network) (read : readAs ed s ≡
         along (back x) = sym (along x)
         along (chain x y) = along x ∙ along y
 
-    -- so no cause refuses the line, where each link stands below its sites
-    no-cause : EachLinkBelowItsSites t → (k n : ℕ) → k ≢ 1 → Cause ed t other k at n → ⊥
-    no-cause below k n d (unended h) = h (line-is-ended at l)
-    no-cause below k n d (no-heading h e f) = d e
-    no-cause below k n d (no-letter h e f) = no-fault 2 (faulty.no-letter f)
-    no-cause below k n d (wrong-count h e f) = no-fault 10 (faulty.wrong-count f)
-    no-cause below k n d (bad-name h e f) = no-fault 11 (faulty.bad-name f)
-    no-cause below k n d (bare-name h e f) = no-fault 17 (faulty.bare-name f)
-    no-cause below k n d (bad-number h e f) = no-fault 12 (faulty.bad-number f)
-    no-cause below k n d (too-large h e f) = no-fault 3 (faulty.too-large f)
-    no-cause below k n d (too-much-held h e f) = no-fault 13 (faulty.too-much-held f)
-    no-cause below k n d (too-many h e is m) = omega (arith, room is)
-    no-cause below k n d (given h e is m v p) =
+    -- so one cause alone is left to refuse the line: a link to a name not given above
+    only-6 : (k n : ℕ) → k ≢ 1 → Cause ed t other k at n → n ≡ 6
+    only-6 k n d (unended h) = absurd (h (line-is-ended at l))
+    only-6 k n d (no-heading h e f) = absurd (d e)
+    only-6 k n d (no-letter h e f) = absurd (no-fault 2 (faulty.no-letter f))
+    only-6 k n d (wrong-count h e f) = absurd (no-fault 10 (faulty.wrong-count f))
+    only-6 k n d (bad-name h e f) = absurd (no-fault 11 (faulty.bad-name f))
+    only-6 k n d (bare-name h e f) = absurd (no-fault 17 (faulty.bare-name f))
+    only-6 k n d (bad-number h e f) = absurd (no-fault 12 (faulty.bad-number f))
+    only-6 k n d (too-large h e f) = absurd (no-fault 3 (faulty.too-large f))
+    only-6 k n d (too-much-held h e f) = absurd (no-fault 13 (faulty.too-much-held f))
+    only-6 k n d (too-many h e is m) = absurd (omega (arith, room is))
+    only-6 k n d (given h e is m v p) =
         let o = R .kept .holds .sites v (p .site) in
-        alone (o .0) (o .1) (at-a-site (o .2 .is-site) is (ap capitals (sym (o .2 .name)) ∙ p .name))
-    no-cause below k n d (not-given h e is o) =
+        absurd (alone (o .0) (o .1) (at-a-site (o .2 .is-site) is (ap capitals (sym (o .2 .name)) ∙ p .name)))
+    only-6 k n d (not-given h e is o) = refl
+    only-6 k n d (already-joined h e is v w p q j) = absurd (not-joined is v w p q j)
+
+    -- and not even that, where each link stands below its sites
+    not-6 : EachLinkBelowItsSites t → (k n : ℕ) → n ≡ 6 → ¬ (Cause ed t other k at n)
+    not-6 below k n six (not-given h e is o) =
         let g = links-below-from [] above (here ∷ rest) (subst (LinksBelow []) placed below) .0 (is .link) in
         elim o [
           | inl none ↦ let v = named-above (field here 1) (g .0) in none (v .0) (v .1)
           | inr none ↦ let v = named-above (field here 2) (g .1) in none (v .0) (v .1)
         ]
-    no-cause below k n d (already-joined h e is v w p q j) = not-joined is v w p q j
+    not-6 below k n six (unended h) = omega arith
+    not-6 below k n six (no-heading h e f) = omega arith
+    not-6 below k n six (no-letter h e f) = omega arith
+    not-6 below k n six (wrong-count h e f) = omega arith
+    not-6 below k n six (bad-name h e f) = omega arith
+    not-6 below k n six (bare-name h e f) = omega arith
+    not-6 below k n six (bad-number h e f) = omega arith
+    not-6 below k n six (too-large h e f) = omega arith
+    not-6 below k n six (too-much-held h e f) = omega arith
+    not-6 below k n six (too-many h e is m) = omega arith
+    not-6 below k n six (given h e is m v p) = omega arith
+    not-6 below k n six (already-joined h e is v w p q j) = omega arith
 
   -- ---- all lines of t
 
@@ -287,45 +303,49 @@ module _ (ed : Edition) (s t : List ℕ) (net : Network) (read : readAs ed s ≡
     no-fewer : length (other .names) ≡ length (net .names)
     no-fewer = M .counted ∙ counted
 
-  -- ---- so t is accepted
+  -- ---- so t is accepted, or refused with 6
 
-  no-refusal : EachLinkBelowItsSites t → (n k : ℕ) → ¬ (Refusal ed t n k)
-  no-refusal below n k (by-length (inl e)) = omega (arith, sym (F .ended) ∙ List·getD-eq-default t 0 {n = length t - 1} (omega arith))
-  no-refusal below n k (by-length (inr h)) = omega (arith, F .short)
-  no-refusal below n k (by-line {at = at} {net = other} some few q l c) = elim (what-is-reached-is-read ed t q .3) [
-    | inl z ↦ first n z c
-    | inr z ↦ no-cause at other (z .2 .0) (z .2 .1) l below k n (z .0) c
+  -- line 1 is refused for nothing
+  no-cause-at-first : (at : ℕ) (other : Network) (k n : ℕ) → at < length t → k ≡ 1 → at ≡ 0 → ¬ (Cause ed t other k at n)
+  no-cause-at-first at other k n l e z (unended h) = h (line-is-ended at l)
+  no-cause-at-first at other k n l e z (no-heading h q f) = true≢false (sym headed ∙ rw z at f)
+  no-cause-at-first at other k n l e z (no-letter h d f) = d e
+  no-cause-at-first at other k n l e z (wrong-count h d f) = d e
+  no-cause-at-first at other k n l e z (bad-name h d f) = d e
+  no-cause-at-first at other k n l e z (bare-name h d f) = d e
+  no-cause-at-first at other k n l e z (bad-number h d f) = d e
+  no-cause-at-first at other k n l e z (too-large h d f) = d e
+  no-cause-at-first at other k n l e z (too-much-held h d f) = d e
+  no-cause-at-first at other k n l e z (too-many h d is m) = d e
+  no-cause-at-first at other k n l e z (given h d is m v p) = d e
+  no-cause-at-first at other k n l e z (not-given h d is o) = d e
+  no-cause-at-first at other k n l e z (already-joined h d is v w p q j) = d e
+
+  -- no refusal is left but 6 for a line, and none where each link stands below its sites
+  pub refused-with-6-alone : (n k : ℕ) → Refusal ed t n k → (n ≡ 6) × (¬ (EachLinkBelowItsSites t))
+  refused-with-6-alone n k (by-length (inl e)) = absurd (omega (arith, sym (F .ended) ∙ List·getD-eq-default t 0 {n = length t - 1} (omega arith)))
+  refused-with-6-alone n k (by-length (inr h)) = absurd (omega (arith, F .short))
+  refused-with-6-alone n k (by-line {at = at} {net = other} some few q l c) = elim (what-is-reached-is-read ed t q .3) [
+    | inl z ↦ absurd (no-cause-at-first at other k n l (z .0) (z .1) c)
+    | inr z ↦
+        let six = only-6 at other (z .2 .0) (z .2 .1) l k n (z .0) c in
+        (six, λ below. not-6 at other (z .2 .0) (z .2 .1) l below k n six c)
   ]
-    where
-      first : (n : ℕ) → (k ≡ 1) × (at ≡ 0) × (other ≡ empty) → Cause ed t other k at n → ⊥
-      first n z (unended h) = h (line-is-ended at l)
-      first n z (no-heading h e f) = true≢false (sym headed ∙ rw (z .1) at f)
-      first n z (no-letter h d f) = d (z .0)
-      first n z (wrong-count h d f) = d (z .0)
-      first n z (bad-name h d f) = d (z .0)
-      first n z (bare-name h d f) = d (z .0)
-      first n z (bad-number h d f) = d (z .0)
-      first n z (too-large h d f) = d (z .0)
-      first n z (too-much-held h d f) = d (z .0)
-      first n z (too-many h d is m) = d (z .0)
-      first n z (given h d is m v p) = d (z .0)
-      first n z (not-given h d is o) = d (z .0)
-      first n z (already-joined h d is v w p q j) = d (z .0)
-  no-refusal below n k (by-whole {k = m} {at = at} {net = other} some few q h o) =
+  refused-with-6-alone n k (by-whole {k = m} {at = at} {net = other} some few q h o) =
       let r = what-is-reached-is-read ed t q in
       let M = read-to-the-end ed t h (r .3) in
       let D = r .2 .different in
-      elim o [
+      absurd (elim o [
         | inl low ↦ omega (arith, no-fewer other D M, N .tree .big)
         | inr z ↦ z .2 (all-joined other D M (z .0) (z .1))
-      ]
+      ])
 
   -- a sheet that holds the records of an accepted sheet below the same heading, with every line ended and within the limit of bytes, is accepted exactly if
   -- each link stands below its two sites
   pub accepted-exactly-if-each-link-is-below : ((other : Network) × (readAs ed t ≡ accepted other)) ↔ EachLinkBelowItsSites t
   accepted-exactly-if-each-link-is-below = (
     λ r. an-accepted-sheet-has-each-link-below-its-sites ed t (r .0) (r .1),
-    λ below. a-sheet-without-causes-is-accepted ed t (no-refusal below),
+    λ below. a-sheet-without-causes-is-accepted ed t (λ n k r. refused-with-6-alone n k r .1 below),
   )
 
 -- the heading tells the edition
@@ -334,9 +354,15 @@ unfolding editionOf
 same-edition [] s t e = refl
 same-edition (ed ∷ known) s t e = rw (e, same-edition known s t e)
 
--- for every known editions: which reorderings of an accepted sheet are accepted again
-pub a-shuffled-sheet-is-accepted-exactly-if-each-link-is-below-its-sites : (known : List Edition) (s t : List ℕ) (net : Network)
-    → readSheet known s ≡ accepted net → SameFrame (editionOf known s) s t → SameRecords s t
-    → ((other : Network) × (readSheet known t ≡ accepted other)) ↔ EachLinkBelowItsSites t
-a-shuffled-sheet-is-accepted-exactly-if-each-link-is-below-its-sites known s t net read F same-records =
-    rw (same-edition known s t (F .heading)) (accepted-exactly-if-each-link-is-below (editionOf known s) s t net read F same-records)
+-- which reorderings of an accepted sheet are accepted again, whatever editions are known; the others are refused with 6
+module _ (known : List Edition) (s t : List ℕ) (net : Network) (read : readSheet known s ≡ accepted net) (F : SameFrame (editionOf known s) s t)
+    (same-records : SameRecords s t) where
+  pub a-shuffled-sheet-is-accepted-exactly-if-each-link-is-below-its-sites : ((other : Network) × (readSheet known t ≡ accepted other))
+      ↔ EachLinkBelowItsSites t
+  a-shuffled-sheet-is-accepted-exactly-if-each-link-is-below-its-sites =
+      rw (same-edition known s t (F .heading)) (accepted-exactly-if-each-link-is-below (editionOf known s) s t net read F same-records)
+
+  pub a-shuffled-sheet-is-refused-with-6-alone : (n k : ℕ) → readSheet known t ≡ refused n k → n ≡ 6
+  a-shuffled-sheet-is-refused-with-6-alone n k e =
+      refused-with-6-alone (editionOf known s) s t net read F same-records n k
+      (a-sheet-is-refused-for-its-cause (editionOf known s) t n k .0 (rw (same-edition known s t (F .heading)) at e)) .0
