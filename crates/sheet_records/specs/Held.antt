@@ -12,17 +12,13 @@ use Rattle.model.specs.Flows.{Site, one, two}
 use Rattle.model.specs.declared.Edition.{Edition}
 use Rattle.text_records.specs.Records.{Record}
 use Rattle.sheet_kinds.specs.LineKinds.{field, mark, size, reserve, usableSize, IsSite, IsLink}
-use Rattle.sheet_names.specs.Names.{nameAt}
 use Rattle.sheet.specs.Sheet.{Network, withSite, withLink}
 use Rattle.sheet.specs.Causes.{Named, fieldsAt}
 use Rattle.sheet.specs.CauseLaws.{firstName, a-site-is-looked-up-by-field-1}
 use Rattle.sheet.specs.OwnLines.{IsLinkLine}
 use Rattle.theory_shuffled.specs.Shuffled.{Stands}
+use Rattle.sheet_records.specs.SameRecords.{nameOn}
 use Rattle.theory_shuffled.specs.ShuffledLaws.{stands-front, stands-behind, stands-either}
-
--- the name of site v
-abbrev pub nameOn : List ℕ → Network → ℕ → List ℕ
-nameOn s net v = nameAt s (net .names) (v - 1)
 
 -- r is the record of site v
 pub record SiteRecord (s : List ℕ) (net : Network) (v : ℕ) (r : Record) : Type 0 where

@@ -10,11 +10,17 @@ use Rattle.text_lines.specs.Lines.{lineAt}
 use Rattle.text_fields.specs.Fields.{SameName}
 use Rattle.text_records.specs.Records.{Record, records}
 use Rattle.sheet_kinds.specs.LineKinds.{field, IsSite, IsLink, size, reserve}
+use Rattle.sheet_names.specs.Names.{nameAt}
+use Rattle.sheet.specs.Sheet.{Network}
 use Rattle.theory_shuffled.specs.Shuffled.{Stands, Shuffled}
 
 -- the records of a sheet: its lines below the heading, each as its fields
 unfoldable pub recordsOf : List ℕ → List Record
 recordsOf s = drop 1 (records s)
+
+-- the name of site v of a network, as the sheet spells it
+abbrev pub nameOn : List ℕ → Network → ℕ → List ℕ
+nameOn s net v = nameAt s (net .names) (v - 1)
 
 -- the names a and b are the names c and d, in either order
 abbrev pub SameNames : List ℕ → List ℕ → List ℕ → List ℕ → Type 0

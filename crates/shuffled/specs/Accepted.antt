@@ -31,10 +31,10 @@ use Rattle.sheet.specs.Causes.{Named, Ended, fieldsAt, Cause, unended, no-headi
 use Rattle.sheet.specs.Causes.{too-much-held, too-many, given, not-given, already-joined, Refusal, by-length, by-line, by-whole}
 use Rattle.sheet.specs.RefusalLaws.{an-accepted-sheet-is-read-to-its-end}
 use Rattle.sheet.specs.SheetTheorem.{IsNetwork, an-accepted-sheet-is-a-tree, a-sheet-is-refused-for-its-cause, a-sheet-without-causes-is-accepted}
-use Rattle.sheet_records.specs.SameRecords.{recordsOf, SameNames, SameRecord, same-site, same-link, SameRecords, GivenAmong, LinksBelow}
+use Rattle.sheet_records.specs.SameRecords.{nameOn, recordsOf, SameNames, SameRecord, same-site, same-link, SameRecords, GivenAmong, LinksBelow}
 use Rattle.sheet_records.specs.SameRecords.{EachLinkBelowItsSites, SameFrame}
 use Rattle.sheet_records.specs.RecordLaws.{names-turned, names-chained, a-site-is-no-link, record-turned}
-use Rattle.sheet_records.specs.Held.{nameOn, LinkRecord, Holds}
+use Rattle.sheet_records.specs.Held.{LinkRecord, Holds}
 use Rattle.sheet_records.specs.LinesRead.{Meet, at-a-site, at-a-link, meet-turned, meet-carried, asSite, a-site-counts, a-link-does-not-count, records-step}
 use Rattle.sheet_records.specs.LinesRead.{Kept, ReadTo, what-is-reached-is-read, read-to-the-end, an-accepted-sheet-keeps-its-records}
 use Rattle.sheet_records.specs.LinesRead.{an-accepted-sheet-has-each-link-below-its-sites}

@@ -22,7 +22,7 @@ use Rattle.theory_shuffled.specs.MatchedCuts.{the-sizes-agree, the-counts-agree
 use Rattle.theory_shuffled.specs.MatchedFlows.{the-largest-agree}
 use Rattle.sheet.specs.Sheet.{Network}
 use Rattle.sheet.specs.SheetTheorem.{IsNetwork}
-use Rattle.sheet_records.specs.Held.{nameOn}
+use Rattle.sheet_records.specs.SameRecords.{nameOn}
 use Rattle.report.specs.Report.{ownerName}
 use Rattle.planner.specs.Figures.{Figures, halves, wholes, pairsBy, trimmed-are-greatest, figures-have-sound-pairs, halves-can-be-shown}
 use Rattle.demands.specs.Printed.{siteCount, isEnd}

@@ -20,7 +20,7 @@ use Rattle.theory_shuffled.specs.ShuffledLaws.{Apart, same-once-is-shuffled}
 use Rattle.sheet.specs.Sheet.{Network}
 use Rattle.sheet.specs.SheetTheorem.{IsNetwork}
 use Rattle.sheet_records.specs.RecordLaws.{names-turned, names-chained}
-use Rattle.sheet_records.specs.Held.{nameOn}
+use Rattle.sheet_records.specs.SameRecords.{nameOn}
 use Rattle.report.specs.Report.{decimal, ownerName, Plan, reportOf}
 use Rattle.planner.specs.Figures.{Figures, planShowing, Showable}
 use Rattle.demands.specs.Printed.{siteCount, isEnd, headed}

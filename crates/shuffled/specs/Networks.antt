@@ -19,9 +19,9 @@ use Rattle.sheet.specs.Sheet.{Network}
 use Rattle.sheet.specs.CauseLaws.{Finds, finds}
 use Rattle.sheet.specs.Causes.{Named}
 use Rattle.sheet.specs.SheetTheorem.{IsNetwork}
-use Rattle.sheet_records.specs.SameRecords.{SameRecord, same-site, same-link, recordsOf}
+use Rattle.sheet_records.specs.SameRecords.{nameOn, SameRecord, same-site, same-link, recordsOf}
 use Rattle.sheet_records.specs.RecordLaws.{a-site-is-no-link, same-mark}
-use Rattle.sheet_records.specs.Held.{nameOn, SiteRecord, LinkRecord, Holds}
+use Rattle.sheet_records.specs.Held.{SiteRecord, LinkRecord, Holds}
 use Rattle.sheet_records.specs.LinesRead.{one-site-of-a-name}
 use Rattle.theory_regions.specs.JoinedTree.{Between}
 use Rattle.theory_regions.specs.SharingLaws.{no-double-link}

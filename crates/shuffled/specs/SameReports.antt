@@ -11,8 +11,7 @@ use Rattle.text_fields.specs.Fields.{SameName}
 use Rattle.text_records.specs.Records.{Record, records, firstLine}
 use Rattle.sheet_kinds.specs.LineKinds.{field}
 use Rattle.sheet.specs.Sheet.{Network}
-use Rattle.sheet_records.specs.SameRecords.{SameNames}
-use Rattle.sheet_records.specs.Held.{nameOn}
+use Rattle.sheet_records.specs.SameRecords.{nameOn, SameNames}
 use Rattle.theory_shuffled.specs.Shuffled.{Stands, Shuffled}
 use Rattle.demands.specs.Printed.{siteCount, headed, lastField, EndSet, Printed, printedTrimmed, printedOwner}
 
