@@ -4,18 +4,20 @@
 use mathlib.Core.Bool.{cond}
 use mathlib.Core.List.{List, [], _∷_, map}
 use Prim.Native.Nat.{ℕ, _+_, _-_}
-use lib.Dec.{eqb}
 use lib.ListN.{length, getD, take}
 use Rattle.lists.specs.Numbers.{pick, look}
 use Rattle.model.specs.Flows.{Links, Multiflow}
 use Rattle.model.specs.Text.{bytes}
 use Rattle.model.specs.Whole.{setSize as sizeBy}
 use Rattle.model.specs.declared.Pair.{Pair}
-use Rattle.sheet_kinds.specs.LineKinds.{push, fields, field, same, value}
+use Rattle.sheet_kinds.specs.LineKinds.{field, same, value}
 use Rattle.sheet.specs.Sheet.{Network, endsOf, lookup}
 use Rattle.sheet_names.specs.declared.Found.{Found}
 use Rattle.sheet_names.specs.declared.Found.the-variants.{At, Absent}
 use Rattle.planner.specs.Outcome.{Planned, lengthOf, Answer}
+-- the lines of a text, each as its fields
+pub use Rattle.text_records.specs.Records.{Record}
+unfoldable pub use Rattle.text_records.specs.Records.{linesOf, records, firstLine}
 
 -- ---- plans
 
@@ -33,27 +35,10 @@ isEnd net = look (endsOf net)
 
 -- ---- lines and fields
 
--- the lines of a text, each without its byte 10
-unfoldable pub linesOf : List ℕ → List (List ℕ)
-linesOf [] = []
-linesOf (b ∷ bs) = cond (eqb b 10) ([] ∷ linesOf bs) (push b (linesOf bs))
-
--- a line as its fields
-abbrev pub Record : Type 0
-Record = List (List ℕ)
-
--- the lines of a text, each as its fields, parted by one tab
-unfoldable pub records : List ℕ → List Record
-records r = map fields (linesOf r)
-
 -- the lines whose first field is k
 unfoldable pub headed : List ℕ → List Record → List Record
 headed k [] = []
 headed k (l ∷ ls) = cond (same (field l 0) k) (l ∷ headed k ls) (headed k ls)
-
--- the first line of a text
-unfoldable pub firstLine : List ℕ → Record
-firstLine r = getD (records r) 0 []
 
 -- the last field of a line
 abbrev pub lastField : Record → List ℕ

@@ -62,7 +62,8 @@ module _ (text : List ℕ) where
       by false e p = refl
 
   -- the line here, and those after it
-  pub lines-step : (at : ℕ) → at < length text → linesFrom text (length text - at) at ≡ at ∷ linesFrom text (length text - afterLine text at) (afterLine text at)
+  pub lines-step : (at : ℕ) → at < length text → linesFrom text (length text - at) at ≡ at ∷ linesFrom text (length text - afterLine text at)
+      (afterLine text at)
   unfolding linesFrom
   lines-step at h =
       let here = line-here at h in

@@ -18,7 +18,7 @@ use Rattle.sheet_names.specs.declared.Found.{Found}
 use Rattle.sheet_names.specs.declared.Found.the-variants.{At, Absent}
 use Rattle.sheet.specs.Sheet.{lookup}
 use Rattle.log_lines.specs.LogLines.{lineBy}
-use Rattle.log_lines.specs.BookingLaws.{IsFormed, Asks, asking, name-is-field-1, name-is-field-2}
+use Rattle.log_lines.specs.BookingLaws.{Asks, asking, name-is-field-1, name-is-field-2}
 use Rattle.log_requests.specs.Requests.{requestFor, between, requestBy, requestAt}
 use Rattle.log_requests.specs.RequestLaws.{ended-line, a-free-pair-is-asked-for, a-pair-that-is-not-free-gets-6}
 

@@ -1,13 +1,12 @@
 -- What a line leaves of the entries that the arrays hold: a pair that is given gets 20, another one is in its row and its amount on the links of its path.
 use mathlib.Core.Path.{_≡_, refl, sym, ap, _∙_}
-use mathlib.Core.Logic.{_≢_}
 use mathlib.Core.List.{List, _∷_, map}
 use Prim.Native.Nat.{ℕ, suc, _+_, _-_, _*_, _≤_, _<_}
 use native.Mathlib.Decide.{decLt}
 use native.Mathlib.Omega.{arith}
 use lib.ListN.{length, length-map, List·getD-eq-default}
-use Rattle.model.specs.Limits.{ROWS, SITES}
-use Rattle.lists.specs.Numbers.{is, look, upfrom}
+use Rattle.model.specs.Limits.{SITES}
+use Rattle.lists.specs.Numbers.{look, upfrom}
 use Rattle.lists.specs.Sums.{pick-same, pick-other, cases, is-iff}
 use Rattle.lists.specs.Places.{length-upfrom, look-values}
 use Rattle.model.specs.Flows.{Links, load, total}
@@ -67,7 +66,12 @@ module _ {n : ℕ} {one two rows : List ℕ} (m : Mapped n one two rows) {p : Pa
         ∙ rw (by (links one two) n (m .tree .tree) (m .table) (w .entry .first-site) (w .entry .second-site) j) (omega (arith, h .loads j)))
         (λ i. let past : length (links one two) ≤ j = omega (arith, m .tree .tree .links, m .tree .few) in
         let none = what-is-no-link-separates-nothing (m .tree .tree) j (p .first) (p .second) past (w .entry .first-site) (w .entry .second-site) in
-        List·getD-eq-default (map (λ j. look l j + p .amount * member path j) (upfrom 0 SITES)) 0 {n = j} (omega (arith, length-map (upfrom 0 SITES) (λ j. look l j + p .amount * member path j), length-upfrom 0 SITES))
+        List·getD-eq-default (map (λ j. look l j + p .amount * member path j) (upfrom 0 SITES)) 0 {n = j} (omega (
+          arith,
+          length-map (upfrom 0 SITES)
+              (λ j. look l j + p .amount * member path j),
+          length-upfrom 0 SITES,
+        ))
         ∙ rw none (omega (arith, h .loads j, List·getD-eq-default l 0 {n = j} (omega (arith, h .places)))))
 
     pub newly-entered : inTable given (p .second - 1) (p .first) ≡ 0 → {given′ : List ℕ} → Put (p .first) (p .second - 1) given given′

@@ -1,7 +1,7 @@
 // Inner: only the planner's own programs call it. The verdict on a plan drawn by hand as a line, and its refusals in words.
 ghost use mathlib.Core.List.{[], _∷_, _++_};
-ghost use Prim.Native.Nat.{_≤_, _<_, _^_};
-ghost use Rattle.text_writers.specs.Wrote.{Wrote, Room};
+ghost use Prim.Native.Nat.{_≤_};
+ghost use Rattle.text_writers.specs.Wrote.{Wrote};
 ghost use Rattle.plan_words.specs.PlanWords.{verdictLine, planWhole, planCause, planWords, wordsJudged};
 use text_writers::put_bytes;
 use text_writers::put_number;

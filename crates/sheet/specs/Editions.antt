@@ -15,6 +15,7 @@ use Rattle.lists.specs.Sums.{cases, contradiction}
 use Rattle.model.specs.Limits.{BYTES, SITES, SIZE}
 use Rattle.model.specs.Edition.{edition1, edition2, editions, largest}
 use Rattle.model.specs.declared.Edition.{Edition}
+use Rattle.model.specs.declared.Sizing.the-variants.{Reserved}
 use Rattle.text_lines.specs.Lines.{lineLength, lineAt}
 use Rattle.text_fields.specs.FieldLaws.{both, fails}
 use Rattle.sheet_kinds.specs.LineKinds.{same, fields, field, headingWord, isHeading}
@@ -55,6 +56,10 @@ of-the-edition P s one two = by (isHeading edition1 (fields (lineAt s 0))) (isHe
     by true u = one
     by false true = two
     by false false = one
+
+-- as that it is one of network sheets, whose link lines give a size and a reserve (02, Card 11: range sheets are another planner's)
+pub a-known-edition-is-of-networks : (s : List ℕ) → editionOf editions s .sizing ≡ Reserved
+a-known-edition-is-of-networks s = of-the-edition (λ ed. ed .sizing ≡ Reserved) s refl refl
 
 pub headed-as-edition-2 : (s : List ℕ) → Headed edition2 s → editionOf editions s ≡ edition2
 unfolding editionOf

@@ -10,6 +10,7 @@ use native.Mathlib.Omega.{arith}
 use lib.Dec.{eqb, leb, ltb}
 use lib.ListN.{length, getD, drop, length-append, List·getD-append}
 use lib.Seq.{getD-append-seam}
+use borrow.Author.Tests.{eqb-true}
 use Rattle.lists.specs.Numbers.{look}
 use Rattle.lists.specs.Sums.{same?, contradiction}
 use Rattle.model.specs.Flows.{joined}
@@ -63,9 +64,9 @@ pub record OwnLinkLine (ed : Edition) (s : List ℕ) (j : ℕ) (l : ℕ × ℕ) 
 -- ---- a line
 
 module _ (ed : Edition) (s : List ℕ) (net : Network) (k at : ℕ) where
-  -- a step that adds a site is that of a site line, and one that adds a link is that of a link line
-  abbrev Adds : Step → Type 0
-  Adds Nothing = Unit {0}
+  -- a step that adds nothing is that of line 1, one that adds a site is that of a site line, and one that adds a link is that of a link line
+  abbrev pub Adds : Step → Type 0
+  Adds Nothing = k ≡ 1
   Adds (Site a e m) = IsSite (fieldsAt s at) × ((a, e) ≡ firstName s at) × (m ≡ mark (fieldsAt s at))
   Adds (Link a b c) = IsLinkLine ed s (net .names) at a b c
   Adds (Refused n m) = Unit {0}
@@ -101,9 +102,9 @@ module _ (ed : Edition) (s : List ℕ) (net : Network) (k at : ℕ) where
       by (At a) p Absent q = tt
       by (At a) p (At b) q = either (eqb (joined (net .links) a b) 1) a b p q
 
-  heading-adds : (t : Bool) → Adds (cond t Nothing (Refused 2 1))
-  heading-adds true = tt
-  heading-adds false = tt
+  heading-adds : k ≡ 1 → (t : Bool) → Adds (cond t Nothing (Refused 2 1))
+  heading-adds e true = e
+  heading-adds e false = tt
 
   record-adds : (w : Line) → Tells ed (lineAt s at) w → Adds (recordStep ed s net k at w)
   unfolding recordStep
@@ -114,16 +115,16 @@ module _ (ed : Edition) (s : List ℕ) (net : Network) (k at : ℕ) where
       (rw (a-link-is-looked-up-by-field-1 s at (ed .sizing) is, a-link-is-looked-up-by-field-2 s at (ed .sizing) is) (link-adds (form .0)))
   record-adds (line.Fault n) form = tt
 
-  step-adds : Adds (stepOf ed s net k at)
+  pub step-adds : Adds (stepOf ed s net k at)
   unfolding stepOf headingStep
   step-adds =
-      by (ltb (at + lineLength (drop at s)) (length s)) (eqb k 1) (kind ed (lineAt s at)) (a-kind-tells-its-form ed (lineAt s at))
+      by (ltb (at + lineLength (drop at s)) (length s)) (eqb k 1) refl (kind ed (lineAt s at)) (a-kind-tells-its-form ed (lineAt s at))
     where
-      by : (t u : Bool) (w : Line) → Tells ed (lineAt s at) w
+      by : (t u : Bool) → eqb k 1 ≡ u → (w : Line) → Tells ed (lineAt s at) w
           → Adds (cond t (cond u (headingStep ed (lineAt s at)) (recordStep ed s net k at w)) (Refused 2 k))
-      by false u w form = tt
-      by true true w form = heading-adds (isHeading ed (fieldsAt s at))
-      by true false w form = record-adds w form
+      by false u e w form = tt
+      by true true e w form = heading-adds (eqb-true k 1 e) (isHeading ed (fieldsAt s at))
+      by true false e w form = record-adds w form
 
   -- a line that is read adds no site, or its own, with its name and its mark
   pub data SitesAfter (after : Network) : Type 0 where

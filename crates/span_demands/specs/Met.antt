@@ -3,18 +3,14 @@
 use mathlib.Core.Path.{_≡_, refl, sym, ap, _∙_}
 use mathlib.Core.Bool.{Bool, true, false, cond}
 use mathlib.Core.List.{List, _++_}
-use Prim.Native.Nat.{ℕ, _≤_, _<_}
-use native.Mathlib.Omega.{arith}
+use Prim.Native.Nat.{ℕ}
 use lib.Dec.{leb}
 use lib.ListN.{length, drop, take}
 use lib.Seq.{take-at}
-use Rattle.lists.specs.Numbers.{look}
 use Rattle.lists.specs.Sums.{contradiction}
 use Rattle.model.specs.Edition.{rangesLow, rangesHigh}
-use Rattle.model.specs.Flows.{Tree}
-use Rattle.model.specs.Text.{bytes}
 use Rattle.theory_trees.specs.Greatest.{balanced-has-each-link}
-use Rattle.theory_ranges.specs.Ranges.{Choice, no-plan-has-a-greater-total, every-choice-is-balanced-within, every-choice-has-its-total-within}
+use Rattle.theory_ranges.specs.Ranges.{no-plan-has-a-greater-total, every-choice-is-balanced-within, every-choice-has-its-total-within}
 use Rattle.theory_ranges.specs.Ranges.{the-low-ones-are-a-choice, the-high-ones-are-a-choice}
 use Rattle.sheet.specs.OwnLines.{a-link-stands-on-its-own-line}
 use Rattle.sheet.specs.Ranges.{Ranged, ReadAlike, a-range-sheet-is-read-alike}
@@ -27,7 +23,7 @@ use Rattle.planner.specs.declared.Outcome.the-variants.{Report, Refused}
 use Rattle.spans.specs.Ready.{the-two-networks}
 use Rattle.spans.specs.Outcome.{networkOf, spanRead, spanned}
 use Rattle.demands.specs.Printed.{isEnd, readReport, bytesTold}
-use Rattle.demands.specs.ReadBack.{figuresSay, planSays, report-read-back}
+use Rattle.demands.specs.ReadBack.{figuresSay, report-read-back}
 use Rattle.span_demands.specs.Printed.{readSpan}
 use Rattle.span_demands.specs.Asked.{withSizes, SpanAsked, PlanNumbers}
 use Rattle.span_demands.specs.ReadBack.{spanSays, the-span-is-read-back}

@@ -5,11 +5,11 @@ use mathlib.Core.List.{List, [], map}
 use Prim.Native.Nat.{ℕ, suc, _*_, _≤_, _<_}
 use native.Mathlib.Omega.{arith}
 use lib.ListN.{length, take, length-map, List·getD-map}
-use Rattle.lists.specs.Numbers.{look, is}
+use Rattle.lists.specs.Numbers.{look}
 use Rattle.lists.specs.Places.{over-eq}
 use Rattle.lists.specs.Sums.{contradiction, pick-other}
 use Rattle.model.specs.Edition.{largest, rangesLow, rangesHigh}
-use Rattle.model.specs.Flows.{one, two, sites, sumAt, ends, total, atTerminals}
+use Rattle.model.specs.Flows.{one, two, sites, ends, total, atTerminals}
 use Rattle.model.specs.Limits.{LINKS, REPORT, SITES, SIZE}
 use Rattle.model.specs.Parts.{pairListOfParts}
 use Rattle.model.specs.declared.Edition.{Edition}
@@ -24,7 +24,7 @@ use Rattle.region_sizes.specs.Offered.{regionBy}
 use Rattle.text_writers.specs.Wrote.{Wrote}
 use Rattle.text_fields.specs.FieldLaws.{name-length}
 use Rattle.sheet.specs.Ranges.{Ranged, ReadAlike, a-range-sheet-is-read-alike}
-use Rattle.sheet.specs.Reading.{padded, lists, reading}
+use Rattle.sheet.specs.Reading.{lists, reading}
 use Rattle.sheet.specs.Sheet.{Network, endsOf, Read, refused, accepted, readAs}
 use Rattle.sheet.specs.SheetTheorem.{IsNetwork, an-accepted-sheet-is-a-tree}
 use Rattle.sheet.specs.declared.Answer.the-variants as answered

@@ -1,8 +1,8 @@
 -- Bounds for sizes that are known as ranges (document 02, Card 11): for every choice of capacities between low and high ones, link by link, the balanced
 -- capacities and the largest total lie between those of the low and those of the high ones. By monotonicity; the ends are themselves choices.
-use mathlib.Core.Path.{_≡_, refl}
+use mathlib.Core.Path.{_≡_}
 use mathlib.Core.List.{List}
-use Prim.Native.Nat.{ℕ, _*_, _≤_, _<_}
+use Prim.Native.Nat.{ℕ, _*_, _≤_}
 use native.Mathlib.Nat.{mul-le-mul-left}
 use native.Mathlib.Omega.{arith}
 use lib.ListN.{length}

@@ -6,12 +6,12 @@ use mathlib.Core.List.{List, [], _∷_}
 use Prim.Native.Nat.{ℕ, zero, suc, _+_, _*_, _≤_, _<_}
 use native.Mathlib.Nat.{mul-le-mul-left}
 use native.Mathlib.Omega.{arith}
-use lib.ListN.{length, take, getD}
-use Rattle.lists.specs.Numbers.{pick, is, Each}
+use lib.ListN.{length, take}
+use Rattle.lists.specs.Numbers.{Each}
 use Rattle.lists.specs.Sums.{pick-same, pick-other, same?}
 use Rattle.lists.specs.Tallies.{each-both}
 use Rattle.model.specs.Limits.{AMOUNT}
-use Rattle.model.specs.Flows.{Links, Ends, Multiflow, Route, load, total, separates}
+use Rattle.model.specs.Flows.{Links, Ends, Multiflow, Route, load, total}
 use Rattle.model.specs.Parts.{freePair}
 use Rattle.model.specs.Pairing.{lowerFirst}
 use Rattle.model.specs.Booking.{placesOf, same, Entry, Asked}
@@ -23,7 +23,7 @@ use Rattle.theory_trees.specs.FreePairs.{free-iff-route}
 use Rattle.theory_log.specs.Pairs.{Sites, same-one, same-le}
 use Rattle.theory_log.specs.Requests.{OpensOnly, lower-amount, lower-entry}
 use Rattle.theory_log.specs.Logs.{line}
-use Rattle.theory_verdicts.specs.HandPlan.{lineAnswer, entered, Account, faulty, entries, account}
+use Rattle.theory_verdicts.specs.HandPlan.{lineAnswer, entered, faulty, entries, account}
 
 -- ---- line by line
 

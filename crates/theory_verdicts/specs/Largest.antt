@@ -1,11 +1,10 @@
 -- Whether a plan drawn by hand is one of the largest: its total is the sum of the trimmed sizes at the ends exactly if no plan that fits, however finely
 -- cut, has a greater total. By the plan of the pairing, which fits and has that sum as its total.
-use mathlib.Core.Path.{_≡_, sym, _∙_}
+use mathlib.Core.Path.{_≡_}
 use mathlib.Core.Logic.{_↔_}
 use mathlib.Core.List.{List}
 use Prim.Native.Nat.{ℕ, _*_, _≤_}
 use native.Mathlib.Omega.{arith}
-use lib.ListN.{length}
 use Rattle.lists.specs.Numbers.{look}
 use Rattle.model.specs.Flows.{Links, Tree, Multiflow, Fits, total}
 use Rattle.model.specs.Trimming.{balanced}

@@ -7,7 +7,7 @@ use native.Mathlib.Decide.{decLt}
 use native.Mathlib.Omega.{arith}
 use lib.ListN.{length}
 use Rattle.lists.specs.Numbers.{less}
-use Rattle.lists.specs.Sums.{cases, same?, sum-some, sum-ge, less-one, less-none, less-lt}
+use Rattle.lists.specs.Sums.{cases, same?, sum-some, sum-ge, less-one, less-none}
 use Rattle.model.specs.Flows.{Links, Fits, load}
 use Rattle.model.specs.declared.Pair.{Pair}
 use Rattle.theory_verdicts.specs.HandPlan.{overloaded}
@@ -23,7 +23,15 @@ module _ (ls : Links) (c : ℕ → ℕ) (es : List Pair) where
   unfolding overloaded
   an-overloaded-link-counts = (
     λ d. let w = sum-some (length ls) (λ j. less (2 * c j) (load ls es j)) (omega arith) in
-        record { link = w .0; inside = w .1; over = cases (decLt (2 * c (w .0)) (load ls es (w .0))) (λ l. l) (λ l. absurd (omega (arith, w .2, less-none l))) },
+        record {
+          link = w .0;
+          inside = w .1;
+          over = cases (decLt (2 * c (w .0)) (load ls es (w .0))) (λ l. l) (λ l. absurd (omega (
+            arith,
+            w .2,
+            less-none l,
+          )));
+        },
     λ o z. omega (arith, sum-ge (length ls) (o .link) (λ j. less (2 * c j) (load ls es j)) (o .inside), less-one (o .over)),
   )
 

@@ -13,7 +13,6 @@ use Rattle.lists.specs.Numbers.{look}
 use Rattle.lists.specs.Sums.{same?, cases, contradiction, pick-other, pick-same}
 use Rattle.model.specs.Pairing.{lowerFirst}
 use Rattle.model.specs.Booking.{pair, placesOf}
-use Rattle.model.specs.declared.Pair.{Pair}
 use Rattle.model.specs.declared.Request.{Request}
 use Rattle.model.specs.declared.Request.the-variants as request
 use Rattle.theory_log.specs.Logs.{line}
@@ -109,7 +108,8 @@ module _ (s : List ℕ) (net : Network) (plan : List ℕ) where
   fault-is-small (bad-number h) = omega arith
   fault-is-small (wrong-amount h) = omega arith
 
-  malformed-asks : (p : ℕ) {k : ℕ} → start p + length (lineAt plan (start p)) < length plan → PlanFault (lineAt plan (start p)) k → asks (start p) ≡ request.Fault k
+  malformed-asks : (p : ℕ) {k : ℕ} → start p + length (lineAt plan (start p)) < length plan → PlanFault (lineAt plan (start p)) k → asks (start p)
+      ≡ request.Fault k
   unfolding requestAt requestBy
   malformed-asks p {k} h f =
       rw (ended-line plan true (start p) h, a-plan-line-is-a-fault-just-for-its-cause (lineAt plan (start p)) k .1 f)

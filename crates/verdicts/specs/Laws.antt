@@ -1,14 +1,13 @@
 -- What is told of the lines of a plan decides the verdict: a fault, then a load above twice its capacity, then the total against the largest. The largest total
 -- is the sum over the ends of a region without a far site.
-use mathlib.Core.Bool.{Bool}
-use mathlib.Core.Path.{_≡_, refl, sym, ap, _∙_}
+use mathlib.Core.Path.{_≡_, sym, ap, _∙_}
 use mathlib.Core.Logic.{_≢_}
 use mathlib.Core.List.{List, []}
 use Prim.Native.Nat.{ℕ, _+_, _*_}
 use native.Mathlib.Omega.{arith}
 use lib.Dec.{eqb}
 use lib.ListN.{length}
-use Rattle.lists.specs.Numbers.{is, look, sum}
+use Rattle.lists.specs.Numbers.{is, look}
 use Rattle.lists.specs.Parts.{over-upfrom}
 use Rattle.lists.specs.Sums.{pick-same, pick-other, sum-eq, same?}
 use Rattle.model.specs.Flows.{Links, ends, sumAt, atTerminals, total}

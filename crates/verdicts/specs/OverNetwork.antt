@@ -33,7 +33,8 @@ refused-is-told s plan n k e = by (readSheet editions s) e
     by (accepted net) e = contradiction cc
 
 -- the same verdict over the same lists
-alike : (s plan : List ℕ) {ls ks : Links} {n m : ℕ} {c d : List ℕ} {names others : List (ℕ × ℕ)} {t u : ℕ → ℕ} → ls ≡ ks → n ≡ m → c ≡ d → names ≡ others → t ≡ u
+alike : (s plan : List ℕ) {ls ks : Links} {n m : ℕ} {c d : List ℕ} {names others : List (ℕ × ℕ)} {t u : ℕ → ℕ} → ls ≡ ks → n ≡ m → c ≡ d → names ≡ others
+    → t ≡ u
     → verdict ls n t c (account 1 [] (requests true s names ls t plan)) ≡ verdict ks m u d (account 1 [] (requests true s others ks u plan))
 alike s plan e f g h i = rw (e, f, g, h, i)
 

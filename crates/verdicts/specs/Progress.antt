@@ -3,23 +3,23 @@ use mathlib.Core.Bool.{true}
 use mathlib.Core.List.{List, [], map}
 use mathlib.Core.Path.{_≡_, refl, sym, ap, _∙_}
 use mathlib.Core.Logic.{_≢_}
-use Prim.Native.Nat.{ℕ, suc, _+_, _-_, _*_, _/_, _≤_, _<_}
+use Prim.Native.Nat.{ℕ, _+_, _-_, _*_, _/_, _≤_, _<_}
 use native.Mathlib.Nat.{zero-div}
 use native.Mathlib.Numerals.{add-one}
 use native.Mathlib.Omega.{arith}
 use lib.ListN.{length, replicate}
-use Rattle.lists.specs.Numbers.{look, upfrom}
+use Rattle.lists.specs.Numbers.{look}
 use Rattle.lists.specs.Sums.{pick-same, pick-other}
 use Rattle.lists.specs.Places.{look-zeros}
 use Rattle.model.specs.Limits.{AMOUNT, PLANLINES, ROWS, SITES, WORDS}
 use Rattle.model.specs.Flows.{Links, load, total}
 use Rattle.model.specs.Booking.{placesOf}
 use Rattle.model.specs.declared.Pair.{Pair}
-use Rattle.theory_verdicts.specs.HandPlan.{lineAnswer, entered, Account, faulty, entries, account}
+use Rattle.theory_verdicts.specs.HandPlan.{entered, Account, faulty, entries, account}
 use Rattle.theory_verdicts.specs.Accounts.{a-load-is-at-most-the-total}
 use Rattle.text_lines.specs.Lines.{afterLine}
 use Rattle.log_requests.specs.Requests.{linesFrom, lines, requestAt, requests}
-use Rattle.log_requests.specs.RequestLaws.{after-within, lines-end, lines-step, all-lines, a-request-can-be-asked}
+use Rattle.log_requests.specs.RequestLaws.{after-within, lines-end, lines-step, all-lines}
 use Rattle.log_paths.specs.Tables.{inTable}
 use Rattle.plan_entries.specs.Holding.{Roomy, Holding, LineEntered}
 use Rattle.plan_entries.specs.declared.Entered.{Entered}

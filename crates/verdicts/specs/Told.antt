@@ -1,7 +1,7 @@
 -- What judging tells, for every sheet and every plan: each number for its cause and for no other; an accepted plan is a plan that fits, with its total, and yes
 -- exactly if no fitting plan, however finely cut, has a greater total. Document 02, Card 12, and 01 on a second text read with the sheet.
 use mathlib.Core.Bool.{true}
-use mathlib.Core.Path.{_≡_, refl, sym, ap, _∙_}
+use mathlib.Core.Path.{_≡_, refl, ap, _∙_}
 use mathlib.Core.Logic.{_⊎_, inl, inr, _≢_, _↔_}
 use mathlib.Core.List.{List, []}
 use Prim.Native.Nat.{ℕ, _+_, _*_, _≤_, _<_}
@@ -10,16 +10,15 @@ use native.Mathlib.Decide.{decLe}
 use borrow.Author.Tests.{le-leb, lt-leb, eqb-true, eq-eqb}
 use lib.Dec.{eqb}
 use lib.ListN.{length}
-use Rattle.lists.specs.Numbers.{look, Each}
+use Rattle.lists.specs.Numbers.{look}
 use Rattle.lists.specs.Sums.{cases, same?, pick-same, pick-other}
 use Rattle.model.specs.Limits.{AMOUNT, PLANLINES, PLANBYTES}
-use Rattle.model.specs.Edition.{editions}
 use Rattle.model.specs.Flows.{Links, Multiflow, Fits, load, total}
 use Rattle.model.specs.Booking.{placesOf}
 use Rattle.model.specs.declared.Edition.{Edition}
 use Rattle.model.specs.declared.Pair.{Pair}
-use Rattle.theory_verdicts.specs.HandPlan.{Account, entries, account, overloaded, largestTotal}
-use Rattle.theory_verdicts.specs.Accounts.{Lowest, drawn, answerAt, Drawn, no-entries, a-lowest-faulty-line-or-none, the-lowest-faulty-line-decides}
+use Rattle.theory_verdicts.specs.HandPlan.{entries, account, overloaded, largestTotal}
+use Rattle.theory_verdicts.specs.Accounts.{Lowest, drawn, Drawn, no-entries, a-lowest-faulty-line-or-none, the-lowest-faulty-line-decides}
 use Rattle.theory_verdicts.specs.Accounts.{lines-without-a-fault-are-entered, all-entries-are-drawn, drawn-is-a-multiflow, entries-are-few, total-is-limited}
 use Rattle.theory_verdicts.specs.Loads.{Overloaded, an-overloaded-link-counts, without-an-overloaded-link-it-fits, what-fits-overloads-nothing}
 use Rattle.theory_verdicts.specs.Largest.{NoneGreater, a-plan-has-the-largest-total-exactly-if-none-is-greater}
@@ -63,8 +62,8 @@ pub record Accepted (net : Network) (es : List Pair) (o : Outcome) : Type 0 wher
   -- yes exactly if no fitting plan, however finely cut, has a greater total
   pub yes : (yesOf o ≡ true) ↔ NoneGreater (net .links) (length (net .names)) (isEnd net) (net .capacities) (total es)
 
--- what judging a plan over the sheet s comes to: the sheet is refused for a cause of its own; or it has none, and the plan has too many bytes or lines; or a line
--- has a cause, the lowest; or none has, and some load is above twice the usable size; or the plan is accepted
+-- what judging a plan over the sheet s comes to: the sheet is refused for a cause of its own; or it has none, and the plan has too many bytes or lines; or a
+-- line has a cause, the lowest; or none has, and some load is above twice the usable size; or the plan is accepted
 pub data JudgeTold (known : List Edition) (s plan : List ℕ) : Type 0 where
   faulty-sheet : (k line : ℕ) → Refusal (editionOf known s) s k line → SheetNumber (editionOf known s .sizing) k → judged known s plan ≡ Refused 1 k line
       → JudgeTold known s plan

@@ -7,6 +7,7 @@
 //!              [--pairs N] [--pair INDEX] [--regions FILE] [--region FILE]
 //!              [--surveys N] [--survey INDEX] [--ranges FILE]
 //!              [--plans N] [--plan INDEX] [--judge FILE] [--book FILE]
+//!              [--shuffles N] [--shuffle INDEX]
 //! ```
 //!
 //! The sheets of the scope document come first, then small sheets with names in either case, with
@@ -35,6 +36,7 @@
 //! Then come plans drawn by hand: some with answers written out, all small ones over a short list of lines, all
 //! amounts over all small trees, random ones, and the programs over files. Answers are compared with what is due by
 //! the card, and with the greatest totals by linear programming. The exercise book is compared byte for byte.
+//! Sheets that hold the same records in other orders come last.
 
 mod bare;
 mod book;
@@ -56,6 +58,7 @@ mod random;
 mod region_programs;
 mod regions;
 mod search;
+mod shuffled;
 mod small;
 mod spans;
 mod spelling;
@@ -90,6 +93,8 @@ struct Options {
     only_plan: Option<u64>,
     plan_programs: plans::Programs,
     book_programs: book::Programs,
+    shuffles: u64,
+    only_shuffle: Option<u64>,
 }
 
 /// A sheet on which something is wrong.
@@ -150,6 +155,8 @@ fn options() -> Result<Options, String> {
             proved: PathBuf::from("target/bin/book"),
             second: beside_this_program("second-book"),
         },
+        shuffles: 25_000,
+        only_shuffle: None,
     };
     let mut arguments = std::env::args().skip(1);
     while let Some(option) = arguments.next() {
@@ -189,6 +196,8 @@ fn options() -> Result<Options, String> {
             "--plan" => options.only_plan = Some(number()?),
             "--judge" => options.plan_programs.proved = value.into(),
             "--book" => options.book_programs.proved = value.into(),
+            "--shuffles" => options.shuffles = number()?,
+            "--shuffle" => options.only_shuffle = Some(number()?),
             _ => return Err(format!("unknown option {option}")),
         }
     }
@@ -226,6 +235,8 @@ fn run(options: &Options) -> ExitCode {
         compare_plans(options)
     } else if options.planted.is_some_and(is_of_book) {
         options.book_programs.compare(true)
+    } else if options.only_shuffle.is_some() || options.planted.is_some_and(is_of_shuffles) {
+        compare_shuffles(options)
     } else if options.planted.is_some() {
         random::compare_all(options.seed, options.sheets)
     } else {
@@ -244,6 +255,7 @@ fn run(options: &Options) -> ExitCode {
             .and_then(|()| compare_ranges(options))
             .and_then(|()| compare_plans(options))
             .and_then(|()| options.book_programs.compare(false))
+            .and_then(|()| compare_shuffles(options))
     };
     let Err(failure) = outcome else {
         println!("no difference in {:.1} s", start.elapsed().as_secs_f64());
@@ -291,6 +303,12 @@ fn is_of_plans(number: u64) -> bool {
 fn is_of_book(number: u64) -> bool {
     use second::planted::Error::{LastTreeLeftOut, SizesBeforeLinks};
     (SizesBeforeLinks as u64..=LastTreeLeftOut as u64).contains(&number)
+}
+
+/// Whether a planted error is one that goes by the order of lines.
+fn is_of_shuffles(number: u64) -> bool {
+    use second::planted::Error::{CutToLinksAbove, TurnedReserveLost};
+    (CutToLinksAbove as u64..=TurnedReserveLost as u64).contains(&number)
 }
 
 /// Compares the planners on booking logs: on a single one, on random ones, or on all.
@@ -362,6 +380,19 @@ fn compare_plans(options: &Options) -> Result<(), Failure> {
                 let programs = &options.plan_programs;
                 programs.compare(seed, runs, &options.programs.examples)
             })
+    };
+    compared.map_err(|different| different.keep(&options.keep))
+}
+
+/// Compares the planners on sheets with the same records: on a single pair, on random ones, or on all.
+fn compare_shuffles(options: &Options) -> Result<(), Failure> {
+    let seed = options.seed;
+    let compared = if let Some(index) = options.only_shuffle {
+        shuffled::compare_one(seed, index)
+    } else if options.planted.is_some() {
+        shuffled::compare_all(seed, options.shuffles)
+    } else {
+        shuffled::small().and_then(|()| shuffled::compare_all(seed, options.shuffles))
     };
     compared.map_err(|different| different.keep(&options.keep))
 }

@@ -208,7 +208,10 @@ impl<'sheet> Network<'sheet> {
         let (Found::Site(first), Found::Site(second)) = found else {
             return Err(UNKNOWN_NAME);
         };
-        let capacity = capacity?;
+        let mut capacity = capacity?;
+        if planted(Error::TurnedReserveLost) && first > second {
+            capacity = size;
+        }
         if !joined.join(first, second) {
             return Err(ALREADY_JOINED);
         }

@@ -278,10 +278,14 @@ pub enum Error {
     EndSizesSummed = 135,
     /// The last tree of the exercise book is left out.
     LastTreeLeftOut = 136,
+    /// A joint's link towards the root is cut to the sum of those others whose sites are given above the joint.
+    CutToLinksAbove = 137,
+    /// The reserve of a link is passed over whose first name is that of the later site.
+    TurnedReserveLost = 138,
 }
 
 /// All errors, in the order of their numbers.
-pub const ERRORS: [Error; 136] = [
+pub const ERRORS: [Error; 138] = [
     Error::RoundedHalf,
     Error::HighestRoot,
     Error::UpwardSets,
@@ -418,6 +422,8 @@ pub const ERRORS: [Error; 136] = [
     Error::SizesFromOne,
     Error::EndSizesSummed,
     Error::LastTreeLeftOut,
+    Error::CutToLinksAbove,
+    Error::TurnedReserveLost,
 ];
 
 #[cfg(feature = "planted")]

@@ -243,6 +243,21 @@ impl RootedTree {
         tree
     }
 
+    /// The link of each joint to its parent cut to the sum of those to its children that are given above it.
+    #[cold]
+    pub fn cut_to_links_above(&self) -> Self {
+        let mut tree = self.clone();
+        for &site in self.leaves_first() {
+            if !self.is_terminal(site) {
+                let above = self.children(site).filter(|&child| child < site);
+                let sum: u32 = above.map(|child| tree.capacity(child)).sum();
+                let capacity = &mut tree.capacity[usize::from(site)];
+                *capacity = sum.min(*capacity);
+            }
+        }
+        tree
+    }
+
     /// Even capacities.
     pub fn with_even_capacities(&self) -> Self {
         RootedTree {

@@ -44,6 +44,14 @@ impl Balanced {
 /// second pass leaves every link to a parent as light as the first made it, and at most one child
 /// link of a joint is heavy.
 pub fn balance(tree: &RootedTree) -> Balanced {
+    if planted(Error::CutToLinksAbove) {
+        return in_two_passes(&tree.cut_to_links_above());
+    }
+    in_two_passes(tree)
+}
+
+#[inline]
+fn in_two_passes(tree: &RootedTree) -> Balanced {
     let mut capacity = [0; PLACES];
     let mut sum = [0; PLACES];
     for &site in tree.leaves_first() {

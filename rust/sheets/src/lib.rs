@@ -21,6 +21,7 @@ pub mod ranges;
 pub mod regions;
 pub mod replay;
 pub mod reserve;
+pub mod shuffled;
 pub mod span;
 pub mod surveys;
 mod tree;

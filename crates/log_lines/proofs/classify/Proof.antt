@@ -34,4 +34,5 @@ returns-2 : tie.Need-returns-2
 returns-2 c = c .line-as2 .ensures ∙ line-is (c .before .before) false (c .before .if1 .left)
 
 pub classify-spec : {M : Type 1} → statement M
-classify-spec = tie.close (tie.spec (λ c κs. search needs) field-requires (λ c κs. search needs) (λ c κs. search needs) returns (λ c κs. search needs) returns-2)
+classify-spec = tie.close (tie.spec (λ c κs. search needs) field-requires (λ c κs. search needs) (λ c κs. search needs) returns
+    (λ c κs. search needs) returns-2)

@@ -4,7 +4,7 @@ use mathlib.Core.Path.{_≡_, sym, ap, _∙_}
 use native.Mathlib.Omega.{arith}
 use borrow.Author.Needs.{needs}
 use lib.ListN.{length}
-use Rattle.log_lines.specs.LogLines.{planLine, logLine, lineBy}
+use Rattle.log_lines.specs.LogLines.{lineBy}
 use Rattle.log_requests.specs.Requests.{lineOf}
 use Rattle.log_requests.specs.RequestLaws.{unended-line, ended-line}
 use Rattle.log_requests.proofs.line_of.Statement.{statement}

@@ -10,7 +10,8 @@ enter-pair-requires c κs =
     (s .pre .0, asked-wanted (rw (c .before .before .before .before .request .given .1) at (s .pre .1)) (c .before .before .lower-first .ensures), s .pre .2)
 
 returns : tie.Need-returns
-returns c es h = a-pair-entered (c .before .before .before .before .before .request .given .1) (c .before .before .before .lower-first .ensures) (c .enter-pair .ensures es h)
+returns c es h = a-pair-entered (c .before .before .before .before .before .request .given .1) (c .before .before .before .lower-first .ensures)
+    (c .enter-pair .ensures es h)
 
 returns-2 : tie.Need-returns-2
 returns-2 c es h = a-giving-up-gets-2 (c .enum-told .given .1)

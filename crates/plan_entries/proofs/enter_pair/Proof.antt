@@ -3,7 +3,6 @@ use mathlib.Core.Path.{_≡_, sym, _∙_}
 use mathlib.Core.Logic.{_≢_}
 use Prim.Native.Nat.{_-_}
 use native.Mathlib.Omega.{arith}
-use borrow.Author.Needs.{needs}
 use borrow.Author.Tests.{eqb-true, eqb-false}
 use Rattle.log_paths.specs.Tables.{inTable}
 use Rattle.plan_entries.proofs.Laws.{sites-low, given-already, newly-entered}
@@ -47,7 +46,8 @@ raise-requires c κs =
 returns-2 : tie.Need-returns-2
 returns-2 c es h =
     let s = c .before .before .before .before .before .before .before .before .before .before in
-    newly-entered (s .pre .0) (s .pre .1) h (not-given (c .before .before .before .before .before)) (c .before .before .before .put .ensures) (c .before .before .between .result) (c .before .before .between .ensures)
+    newly-entered (s .pre .0) (s .pre .1) h (not-given (c .before .before .before .before .before)) (c .before .before .before .put .ensures)
+    (c .before .before .between .result) (c .before .before .between .ensures)
     (c .raise .ensures)
 
 pub enter-pair-spec : {M : Type 1} → statement M

@@ -26,23 +26,41 @@ put-part-requires : tie.Need-put-part-requires
 put-part-requires c κs = search needs
 
 put-number-requires : tie.Need-put-number-requires
-put-number-requires c κs = omega (arith, c .before .before .before .put-part .ensures .next, number-and-colon (c .before .before .before .before .before .before .before .before .args .line) (omega arith))
+put-number-requires c κs = omega (
+  arith,
+  c .before .before .before .put-part .ensures .next,
+  number-and-colon
+      (c .before .before .before .before .before .before .before .before .args .line) (omega arith),
+)
 
 slice-aggregate-put-part-2 : tie.Need-slice-aggregate-put-part-2
 slice-aggregate-put-part-2 c = search needs
 
 put-part-requires-2 : tie.Need-put-part-requires-2
-put-part-requires-2 c κs = omega (arith, c .before .before .before .before .before .before .before .before .put-part .ensures .next, c .before .before .before .before .put-number .ensures .next, number-and-colon (c .before .before .before .before .before .before .before .before .before .before .before .before .before .args .line) (omega arith))
+put-part-requires-2 c κs = omega (
+  arith,
+  c .before .before .before .before .before .before .before .before .put-part .ensures .next,
+  c .before .before .before .before .put-number .ensures .next,
+  number-and-colon
+      (c .before .before .before .before .before .before .before .before .before .before .before .before .before .args .line) (omega arith),
+)
 
 put-plan-cause-requires : tie.Need-put-plan-cause-requires
-put-plan-cause-requires c κs = omega (arith, c .before .before .before .before .before .before .before .before .before .before .before .before .put-part .ensures .next, c .before .before .before .before .before .before .before .before .put-number .ensures .next, c .before .before .before .put-part2 .ensures .next, number-and-colon (c .before .before .before .before .before .before .before .before .before .before .before .before .before .before .before .before .before .args .line) (omega arith))
+put-plan-cause-requires c κs = omega (
+  arith,
+  c .before .before .before .before .before .before .before .before .before .before .before .before .put-part .ensures .next,
+  c .before .before .before .before .before .before .before .before .put-number .ensures .next,
+  c .before .before .before .put-part2 .ensures .next,
+  number-and-colon (c .before .before .before .before .before .before .before .before .before .before .before .before .before .before .before .before .before .args .line) (omega arith),
+)
 
 same-length-2 : tie.Need-same-length-2
 same-length-2 c = search needs
 
 returns-2 : tie.Need-returns-2
 unfolding planWords
-returns-2 c = rw (pick-other {A = List ℕ} (c .before .before .before .before .before .before .before .before .before .before .before .before .before .before .before .before .before .before .if1 .left)) (then (c .before .before .before .before .before .before .before .before .before .before .before .before .before .before .before .put-part .ensures) (then (c .before .before .before .before .before .before .before .before .before .before .before .put-number .ensures) (then (c .before .before .before .before .before .before .put-part2 .ensures) (c .before .before .put-plan-cause .ensures))))
+returns-2 c = rw (pick-other {A = List ℕ}
+    (c .before .before .before .before .before .before .before .before .before .before .before .before .before .before .before .before .before .before .if1 .left)) (then (c .before .before .before .before .before .before .before .before .before .before .before .before .before .before .before .put-part .ensures) (then (c .before .before .before .before .before .before .before .before .before .before .before .put-number .ensures) (then (c .before .before .before .before .before .before .put-part2 .ensures) (c .before .before .put-plan-cause .ensures))))
 
 pub put-plan-spec : {M : Type 1} → statement M
 put-plan-spec =

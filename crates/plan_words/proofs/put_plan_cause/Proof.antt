@@ -64,13 +64,20 @@ unfolding planCause pick ℕ-discrete
 returns-4 c = rw (c .before .before .before .before .before .if4 .taken) (c .before .before .put-bytes4 .ensures)
 
 put-cause-requires : tie.Need-put-cause-requires
-put-cause-requires c κs = omega (arith, length-append (cause (c .before .before .before .before .before .before .args .number)) (10 ∷ []), cause-length (c .before .before .before .before .before .before .args .number))
+put-cause-requires c κs = omega (
+  arith,
+  length-append (cause (c .before .before .before .before .before .before .args .number)) (10 ∷ []),
+  cause-length
+      (c .before .before .before .before .before .before .args .number),
+)
 
 same-length-5 : tie.Need-same-length-5
 same-length-5 c = search needs
 
 returns-5 : tie.Need-returns-5
-returns-5 c = rw (as-everywhere (c .before .before .before .before .before .before .before .before .before .args .number) (c .before .before .before .before .before .before .before .if1 .left) (c .before .before .before .before .before .before .if2 .left) (c .before .before .before .before .before .if3 .left) (c .before .before .before .before .if4 .left)) (c .before .before .put-cause .ensures)
+returns-5 c = rw (as-everywhere (c .before .before .before .before .before .before .before .before .before .args .number)
+    (c .before .before .before .before .before .before .before .if1 .left) (c .before .before .before .before .before .before .if2 .left)
+    (c .before .before .before .before .before .if3 .left) (c .before .before .before .before .if4 .left)) (c .before .before .put-cause .ensures)
 
 pub put-plan-cause-spec : {M : Type 1} → statement M
 put-plan-cause-spec =

@@ -13,13 +13,24 @@ put-bytes-requires : tie.Need-put-bytes-requires
 put-bytes-requires c κs = search needs
 
 put-number-requires : tie.Need-put-number-requires
-put-number-requires c κs = omega (arith, c .before .before .before .put-bytes .ensures .next, number-and-tab (c .before .before .before .before .before .before .before .args .total) (omega arith))
+put-number-requires c κs = omega (
+  arith,
+  c .before .before .before .put-bytes .ensures .next,
+  number-and-tab
+      (c .before .before .before .before .before .before .before .args .total) (omega arith),
+)
 
 slice-aggregate-put-bytes-2 : tie.Need-slice-aggregate-put-bytes-2
 slice-aggregate-put-bytes-2 c = search needs
 
 put-bytes-requires-2 : tie.Need-put-bytes-requires-2
-put-bytes-requires-2 c κs = omega (arith, c .before .before .before .before .before .before .before .before .before .put-bytes .ensures .next, c .before .before .before .before .before .put-number .ensures .next, number-and-tab (c .before .before .before .before .before .before .before .before .before .before .before .before .before .args .total) (omega arith))
+put-bytes-requires-2 c κs = omega (
+  arith,
+  c .before .before .before .before .before .before .before .before .before .put-bytes .ensures .next,
+  c .before .before .before .before .before .put-number .ensures .next,
+  number-and-tab
+      (c .before .before .before .before .before .before .before .before .before .before .before .before .before .args .total) (omega arith),
+)
 
 same-length : tie.Need-same-length
 same-length c = search needs
@@ -29,7 +40,9 @@ unfolding verdictLine
 returns c =
     let a = c .before .before .before .before .before .before .before .before .before .before .before .before .before .before .before .before .args in
     rw (c .before .before .before .before .before .if1 .taken) (
-      line-ended _ _ _ (next-field _ _ (first-field _ (c .before .before .before .before .before .before .before .before .before .before .before .before .put-bytes .ensures)) (c .before .before .before .before .before .before .before .before .put-number .ensures)) (last-field _ (c .before .before .put-bytes2 .ensures)),
+      line-ended _ _ _ (next-field _ _ (first-field _
+          (c .before .before .before .before .before .before .before .before .before .before .before .before .put-bytes .ensures))
+          (c .before .before .before .before .before .before .before .before .put-number .ensures)) (last-field _ (c .before .before .put-bytes2 .ensures)),
       omega (
         arith,
         c .before .before .before .before .before .before .before .before .before .before .before .before .put-bytes .ensures .next,
@@ -43,7 +56,13 @@ slice-aggregate-put-bytes-3 : tie.Need-slice-aggregate-put-bytes-3
 slice-aggregate-put-bytes-3 c = search needs
 
 put-bytes-requires-3 : tie.Need-put-bytes-requires-3
-put-bytes-requires-3 c κs = omega (arith, c .before .before .before .before .before .before .before .before .before .put-bytes .ensures .next, c .before .before .before .before .before .put-number .ensures .next, number-and-tab (c .before .before .before .before .before .before .before .before .before .before .before .before .before .args .total) (omega arith))
+put-bytes-requires-3 c κs = omega (
+  arith,
+  c .before .before .before .before .before .before .before .before .before .put-bytes .ensures .next,
+  c .before .before .before .before .before .put-number .ensures .next,
+  number-and-tab
+      (c .before .before .before .before .before .before .before .before .before .before .before .before .before .args .total) (omega arith),
+)
 
 same-length-2 : tie.Need-same-length-2
 same-length-2 c = search needs
@@ -53,7 +72,9 @@ unfolding verdictLine
 returns-2 c =
     let a = c .before .before .before .before .before .before .before .before .before .before .before .before .before .before .before .before .args in
     rw (c .before .before .before .before .before .if1 .left) (
-      line-ended _ _ _ (next-field _ _ (first-field _ (c .before .before .before .before .before .before .before .before .before .before .before .before .put-bytes .ensures)) (c .before .before .before .before .before .before .before .before .put-number .ensures)) (last-field _ (c .before .before .put-bytes3 .ensures)),
+      line-ended _ _ _ (next-field _ _ (first-field _
+          (c .before .before .before .before .before .before .before .before .before .before .before .before .put-bytes .ensures))
+          (c .before .before .before .before .before .before .before .before .put-number .ensures)) (last-field _ (c .before .before .put-bytes3 .ensures)),
       omega (
         arith,
         c .before .before .before .before .before .before .before .before .before .before .before .before .put-bytes .ensures .next,

@@ -110,10 +110,16 @@ ends-at c =
     rw (c .line .ensures .bytes) (line-stays-on-sheet (begin top .args .plan .now) (top .loop .at) (top .loop .inv .on-plan))
 
 add-rest : tie.Need-add-rest Inv-loop μ-loop
-add-rest c = let line = c .before .before .before .before .before .before .before in omega (arith, ends-at line, plan-fits (begin (line .before .before .before)))
+add-rest c = let line = c .before .before .before .before .before .before .before in omega (
+  arith,
+  ends-at line,
+  plan-fits (begin
+      (line .before .before .before)),
+)
 
 -- the offset of the next line
-rest-is : (c : tie.After-rest Inv-loop μ-loop) → let top = c .before .before .before .before .before .before .before .before .before .before .before in c .rest .result ≡ afterLine (begin top .args .plan .now) (top .loop .at)
+rest-is : (c : tie.After-rest Inv-loop μ-loop) → let top = c .before .before .before .before .before .before .before .before .before .before .before in
+    c .rest .result ≡ afterLine (begin top .args .plan .now) (top .loop .at)
 rest-is c =
     let line = c .before .before .before .before .before .before .before .before in
     let top = line .before .before .before in

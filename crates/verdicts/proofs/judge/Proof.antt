@@ -10,12 +10,14 @@ judge-network-requires : tie.Need-judge-network-requires
 judge-network-requires c κs =
     let read = c .before .before in
     rw (← (read .read .ensures)) at
-    (accepted-is-listed (c .before .before .before .before .before .args .sheet .now) (sym (ap (λ x. x .answer) (read .read .ensures)) ∙ c .enum-told .given .1))
+    (accepted-is-listed (c .before .before .before .before .before .args .sheet .now) (sym (ap (λ x. x .answer) (read .read .ensures))
+    ∙ c .enum-told .given .1))
 
 returns : tie.Need-returns
 returns c =
     let a = c .before .before .before .before .before .before .args in
-    sym (refused-is-told (a .sheet .now) (a .plan .now) _ _ (sym (ap (λ x. x .answer) (c .before .before .before .read .ensures)) ∙ c .before .answer .given .1))
+    sym (refused-is-told (a .sheet .now) (a .plan .now) _ _ (sym (ap (λ x. x .answer) (c .before .before .before .read .ensures))
+    ∙ c .before .answer .given .1))
 
 pub judge-spec : {M : Type 1} → statement M
 judge-spec =

@@ -11,7 +11,9 @@ judge-parts-spec =
     (tie.spec
     (λ c. let s = c .before .before .before .before .before .before .before in sym (length-take-le (s .args .m) (s .args .one .now) (s .pre .3)))
     (λ c. let s = c .before .before .before .before .before .before .before .before in sym (length-take-le (s .args .m) (s .args .two .now) (s .pre .4)))
-    (λ c. let s = c .before .before .before .before .before .before .before .before .before in sym (length-take-le (s .args .n) (s .args .mark .now) (s .pre .6)))
-    (λ c. let s = c .before .before .before .before .before .before .before .before .before .before in sym (length-take-le (s .args .m) (s .args .capacity .now) (s .pre .5)))
+    (λ c. let s = c .before .before .before .before .before .before .before .before .before in sym (length-take-le (s .args .n) (s .args .mark .now)
+    (s .pre .6)))
+    (λ c. let s = c .before .before .before .before .before .before .before .before .before .before in sym (length-take-le (s .args .m)
+    (s .args .capacity .now) (s .pre .5)))
     (λ c κs. search needs)
     (λ c. search needs))

@@ -48,7 +48,9 @@ account-requires c κs =
     )
 
 -- what the lines come to, with the ends of the tree
-comes : (c : tie.After-account) → let a = c .before .before .before .before .before .before .before .before .before .before .before .before .before .before .args in let ls = links (a .one .now) (a .two .now) in
+comes : (c : tie.After-account)
+    → let a = c .before .before .before .before .before .before .before .before .before .before .before .before .before .before .args in let ls = links
+    (a .one .now) (a .two .now) in
     Comes ls (account 1 [] (requests true (a .sheet .now) (ranges (a .starts .now) (a .stops .now) 0 (a .n)) ls (look (ends ls (a .n) (a .marks .now)))
     (a .plan .now))) (c .account .result)
 comes c =

@@ -26,7 +26,8 @@ as-many c =
 
 -- the trimmed sizes at the front of the list
 front : (c : tie.After-trim) → let a = c .before .before .before .before .before .before .args in
-    take (length (a .capacity .now)) (c .trim .last .1 .1 .1 .1 .1 .0) ≡ trimmed (regionBy (a .n) (a .one .now) (a .two .now) (a .marks .now) (a .capacity .now))
+    take (length (a .capacity .now)) (c .trim .last .1 .1 .1 .1 .1 .0) ≡ trimmed (regionBy (a .n) (a .one .now) (a .two .now) (a .marks .now)
+    (a .capacity .now))
 front c =
     let a = c .before .before .before .before .before .before .args in
     ap (take (length (a .capacity .now))) (c .trim .ensures)

@@ -1,0 +1,4 @@
+pub mod SameRecords
+pub mod RecordLaws
+pub mod Held
+pub mod LinesRead
