@@ -2,7 +2,8 @@
  * Reads one sheet on standard input and writes the report, or the line "refused", tab, number,
  * tab, line. With the word "whole" behind its name it plans in whole circuits; with the word
  * "ranges" it writes the report headed "span" on a range sheet; with the word "order" it writes the
- * numbers of the sites in the order of work, one a line. With the word "replay" and two file names,
+ * numbers of the sites in the order of work, one a line, and with the word "named" also their names, and
+ * a refusal in words on standard error, as the program does. With the word "replay" and two file names,
  * a sheet and a booking log, it writes the answer to each line of the log, or "refused", tab, text,
  * tab, number, tab, line.
  *
@@ -147,6 +148,26 @@ static int judge(const char *sheet_name, const char *plan_name)
     return end_output();
 }
 
+/* Says on standard error what the refusal of a sheet means. */
+static void say(uint64_t answer)
+{
+    uint8_t words[WADERARMOIRE_WORDS_BYTES];
+    fflush(stdout);
+    size_t length = waderarmoire_words(waderarmoire_number(answer), waderarmoire_line(answer), words,
+                                       sizeof words);
+    fwrite(words, 1, length, stderr);
+}
+
+/* Writes the number and the name of each site of a list. */
+static void print_sites(const size_t *sites, size_t count, size_t sheet_len)
+{
+    for (size_t place = 0; place < count; place++) {
+        uint64_t name = waderarmoire_name(sheet, sheet_len, sites[place]);
+        printf("%zu\t%.*s\n", sites[place], (int)waderarmoire_length(name),
+               (const char *)sheet + waderarmoire_offset(name));
+    }
+}
+
 int main(int count, char **words)
 {
     if (count == 4 && strcmp(words[1], "replay") == 0)
@@ -166,8 +187,9 @@ int main(int count, char **words)
 
     const char *word = count > 1 ? words[1] : "plan";
     int in_order = strcmp(word, "order") == 0;
+    int named = strcmp(word, "named") == 0;
     uint64_t answer;
-    if (in_order)
+    if (in_order || named)
         answer = waderarmoire_order(sheet, sheet_len, list, WADERARMOIRE_SITES);
     else if (strcmp(word, "whole") == 0)
         answer = waderarmoire_whole(sheet, sheet_len, report, sizeof report);
@@ -177,8 +199,12 @@ int main(int count, char **words)
         answer = waderarmoire_plan(sheet, sheet_len, report, sizeof report);
 
     size_t length = waderarmoire_length(answer);
-    if (waderarmoire_number(answer) != 0)
+    if (waderarmoire_number(answer) != 0) {
         printf("refused\t%u\t%u\n", waderarmoire_number(answer), waderarmoire_line(answer));
+        if (named)
+            say(answer);
+    } else if (named)
+        print_sites(list, length, sheet_len);
     else if (in_order)
         for (size_t place = 0; place < length; place++)
             printf("%zu\n", list[place]);

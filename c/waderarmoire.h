@@ -5,7 +5,7 @@
  * whole circuits, or lists its sites in the order of work, or replays a booking log over it, or
  * trims it with the sheet of a neighbouring region, or tells within what its total and trimmed sizes
  * lie for sizes still under survey, or judges a plan drawn by hand, or tells why one of the texts is
- * refused. Link with libwaderarmoire.a, which is built for x86-64 Linux.
+ * refused. Further calls look up the name of a site and put a refusal into words. Link with libwaderarmoire.a, which is built for x86-64 Linux.
  *
  * The library allocates nothing, keeps nothing between calls, has no global state and calls
  * nothing but memcpy and memset: any number of threads may call it at once, each with a buffer
@@ -13,9 +13,9 @@
  * touches no other memory of the caller's. Every call ends, whatever the sheet holds.
  *
  * A plan or an order needs at most 176 KiB of stack, whatever the shape of the tree, two regions, a
- * step of one or a judgement at most 160 KiB, a replay or a report on ranges at most 128 KiB: nothing recurses
- * (measured on the largest trees, with what a new thread itself needs). A thread of
- * WADERARMOIRE_STACK_BYTES has enough for every sheet and log.
+ * step of one or a judgement at most 160 KiB, a replay or a report on ranges at most 128 KiB: nothing
+ * recurses but the digits of a number of nine or more, twenty deep at most (measured on the largest trees, with
+ * what a new thread itself needs). A thread of WADERARMOIRE_STACK_BYTES has enough for every sheet and log.
  *
  * The heading of a sheet tells its edition, and that its limits: under "network", tab, "1" it may
  * have 256 sites and 16,384 bytes, under "network", tab, "2" 384 sites and 24,576 bytes.
@@ -52,6 +52,9 @@ extern "C" {
 /* The largest plan drawn by hand that is judged, in bytes and in lines. */
 #define WADERARMOIRE_PLAN_BYTES 65536
 #define WADERARMOIRE_PLAN_LINES 1024
+
+/* A buffer of this length is enough for the words of every refusal. */
+#define WADERARMOIRE_WORDS_BYTES 256
 
 /* A thread with a stack of this length can plan every sheet. */
 #define WADERARMOIRE_STACK_BYTES 196608
@@ -206,6 +209,29 @@ uint64_t waderarmoire_judge(const uint8_t *sheet, size_t sheet_len, const uint8_
                             size_t plan_len);
 
 /*
+ * Looks up where the name of a site stands on a sheet, by the site's number: sites are counted from 1 by
+ * their lines, as in the order of work. The answer holds an offset and a length, waderarmoire_offset and
+ * waderarmoire_length: the bytes of the site's own line, in the sheet itself. The length is 0 for a number
+ * without a site, and for every number over a sheet that is refused. The caller owes the same for the sheet.
+ */
+uint64_t waderarmoire_name(const uint8_t *sheet, size_t sheet_len, size_t site);
+
+/*
+ * Writes what a refusal means, a line of text ended by a line feed, from the start of a buffer of text_len bytes as
+ * far as it goes, and tells the length of the line; WADERARMOIRE_WORDS_BYTES are enough. No byte 0 is put behind
+ * it. The first is for a refusal of one sheet: of a plan, an order, ranges or a step of a region. The others
+ * also take which text or sheet is refused, waderarmoire_text. All take their words from one table; they are
+ * those of the programs. The caller owes that text points to text_len bytes that may be written.
+ */
+size_t waderarmoire_words(uint64_t number, size_t line, uint8_t *text, size_t text_len);
+size_t waderarmoire_words_of_replay(uint64_t of, uint64_t number, size_t line, uint8_t *text,
+                                    size_t text_len);
+size_t waderarmoire_words_of_regions(uint64_t of, uint64_t number, size_t line, uint8_t *text,
+                                     size_t text_len);
+size_t waderarmoire_words_of_judge(uint64_t of, uint64_t number, size_t line, uint8_t *text,
+                                   size_t text_len);
+
+/*
  * The number of the refusal, or 0 for success:
  *   1  no bytes, or more than 16,384 (edition 2: 24,576)
  *   2  wrong heading, letter or line ending
@@ -215,8 +241,8 @@ uint64_t waderarmoire_judge(const uint8_t *sheet, size_t sheet_len, const uint8_
  *   6  link to a name not given on a line above (a-z read as A-Z)
  *   7  link whose sites are already joined by links above, or are one site
  *   8  fewer than two sites, or not all sites are joined
- *   9  report longer than the buffer; of the order, more sites than places in the list; of
- *      regions, more links than places
+ *   9  answer longer than the buffer or list for it: the report, of the order the sites, of regions
+ *      the links
  *  10  wrong number of fields
  *  11  a name is not 1 to 12 letters or digits
  *  12  a number is not written in decimal without a leading zero
@@ -248,10 +274,19 @@ static inline unsigned waderarmoire_line(uint64_t answer)
     return (unsigned)(answer >> 20) & 0xfffffu;
 }
 
-/* The length of the report in bytes, or the count of sites of the order or of lines answered; 0 on a refusal. */
+/*
+ * The length of the report in bytes, or of a name, or the count of sites of the order or of lines
+ * answered; 0 on a refusal.
+ */
 static inline size_t waderarmoire_length(uint64_t answer)
 {
     return (size_t)(answer & 0xfffffu);
+}
+
+/* Of a name, the offset of its first byte on the sheet. */
+static inline size_t waderarmoire_offset(uint64_t answer)
+{
+    return (size_t)(answer >> 20);
 }
 
 /* How many sizes two regions have, the first and the second, if they are not refused. */

@@ -7,10 +7,10 @@ use native.Mathlib.Nat.{one-mul}
 use native.Mathlib.Numerals.{add-one, one-add}
 use native.Mathlib.Omega.{arith}
 use lib.ListN.{replicate, length-map}
-use Rattle.model.specs.Limits.{PLACES, SITES}
+use Rattle.model.specs.Limits.{SITES}
 use Rattle.lists.specs.Numbers.{sum, look, upfrom}
 use Rattle.model.specs.Flows.{Links, sites}
-use Rattle.model.specs.Cuts.{group, inCut, cutSize, cutCount, ownerAmong, owner}
+use Rattle.model.specs.Cuts.{inCut, cutSize, cutCount, ownerAmong, owner}
 use Rattle.lists.specs.Sums.{pick-same, pick-other, same?, less-one, less-none, sum-eq}
 use Rattle.lists.specs.Places.{length-upfrom, look-values}
 use Rattle.lists.specs.Parts.{sum-past, over-upfrom}
@@ -83,11 +83,8 @@ module _ (ls : Links) (n : ℕ) (c t : ℕ → ℕ) (few : n ≤ SITES) {labels 
     cut = labelled n labels (look labels (suc i))
 
     cut-in : (k : ℕ) → k < n → cut k ≡ inCut ls c t (suc i) (suc k)
-    unfolding labelled inCut
-    cut-in k h = rw (less-one h, one-mul, add-one, at k h, at i lt) refl
-      where
-        at : (x : ℕ) → x < n → look labels (suc x) ≡ group ls c t (suc x)
-        at x l = ap (λ r. look r (suc x)) (made .grouped) ∙ look-values (group ls c t) PLACES (suc x) (omega arith)
+    unfolding labelled
+    cut-in k h = rw (less-one h, one-mul, add-one) (made .grouped (suc i) (suc k) (omega arith) (omega arith))
 
     cut-past : (k : ℕ) → n ≤ k → cut k ≡ 0
     cut-past = labelled-past n labels (look labels (suc i))

@@ -1,18 +1,20 @@
--- The groups of sites: labels by the links that are kept, taken in one at a time, the last first.
-use mathlib.Core.Path.{_≡_, refl, sym, ap, ap₂, _∙_}
-use mathlib.Core.List.{List, [], _∷_, map, map-map, map-id}
+-- The groups of sites: labels by the links that are kept, taken in one at a time, the last first; then settled.
+use mathlib.Core.Path.{_≡_, refl, sym, ap, ap₂, subst, _∙_}
+use mathlib.Core.List.{List, [], _∷_}
 use Prim.Native.Nat.{ℕ, suc, _+_, _≤_, _<_}
 use native.Mathlib.Nat.{add-zero, zero-add}
 use native.Mathlib.Numerals.{add-one}
+use native.Mathlib.Decide.{decLt}
 use native.Mathlib.Omega.{arith}
-use lib.ListN.{length, drop, getD, length-map, drop-of-length-le}
+use lib.ListN.{length, drop, getD, drop-of-length-le, List·getD-eq-default}
 use lib.Seq.{drop-cons}
-use Rattle.model.specs.Limits.{PLACES}
-use Rattle.lists.specs.Numbers.{pick, less, look, upfrom}
-use Rattle.model.specs.Flows.{Links, label, relabel}
-use Rattle.model.specs.Cuts.{kept, group}
-use Rattle.lists.specs.Sums.{pick-same, pick-other, less-one, less-none}
-use Rattle.lists.specs.Places.{length-upfrom, look-values}
+use Rattle.model.specs.Limits.{PLACES, SITES}
+use Rattle.lists.specs.Numbers.{pick, is, less, look, upfrom}
+use Rattle.model.specs.Flows.{Links, label}
+use Rattle.model.specs.Cuts.{kept, group, inCut}
+use Rattle.lists.specs.Sums.{pick-same, pick-other, cases, less-one, less-none}
+use Rattle.tree_labels.specs.Labels.{Tells, linked, Settled}
+use Rattle.tree_labels.specs.Roots.{own-tells, labels-same, labels-low}
 use Rattle.tree.specs.Offer.{links}
 use Rattle.tree.specs.Links.{length-links, links-one, links-two}
 
@@ -34,49 +36,53 @@ kept-next u ls j h =
     rw add-one (kept-same (λ i. u (j + suc i)) (λ i. u (suc j + i)) (drop (suc j) ls) (λ i. ap u (omega arith))) in
     rw (drop-cons ls j (0, 0) h, rest, add-zero) refl
 
--- ---- labels as a table over the sites
-
--- the link between p and q relabels a table
-relabelled : {now : List ℕ} (m : ℕ) (rest : Links) (p q : ℕ) → p < m → q < m → now ≡ map (label rest) (upfrom 0 m)
-    → map (relabel (look now p) (look now q)) now ≡ map (label ((p, q) ∷ rest)) (upfrom 0 m)
-unfolding label
-relabelled {now} m rest p q hp hq e =
-    let at : (x : ℕ) → x < m → look now x ≡ label rest x = λ x l. ap (λ t. look t x) e ∙ look-values (label rest) m x l in
-    rw (at p hp, at q hq, e) (map-map (relabel (label rest p) (label rest q)) (label rest) (upfrom 0 m))
+-- ---- the labels by them, held by parents
 
 -- the labels by the kept links from position j on
-abbrev pub groupsFrom : List ℕ → List ℕ → List ℕ → List ℕ → ℕ → List ℕ
-groupsFrom a b c t j = map (label (keptFrom (λ i. less (look t i) (look c i)) (links a b) j)) (upfrom 0 PLACES)
-
-pub length-groups : (a b c t : List ℕ) (j : ℕ) → length (groupsFrom a b c t j) ≡ PLACES
-length-groups a b c t j = length-map (upfrom 0 PLACES) (label (keptFrom (λ i. less (look t i) (look c i)) (links a b) j)) ∙ length-upfrom 0 PLACES
+abbrev pub groupFrom : List ℕ → List ℕ → List ℕ → List ℕ → ℕ → ℕ → ℕ
+groupFrom a b c t j = label (keptFrom (λ i. less (look t i) (look c i)) (links a b) j)
 
 module _ (a b c t : List ℕ) (same : length b ≡ length a) where
-  pub groups-none : upfrom 0 PLACES ≡ groupsFrom a b c t (length a)
+  pub groups-none : Tells (upfrom 0 PLACES) (groupFrom a b c t (length a))
   unfolding label kept
   groups-none =
       let past : drop (length a) (links a b) ≡ [] = drop-of-length-le (links a b) {i = length a} (omega (arith, length-links a b (sym same))) in
-      rw past (sym (map-id (upfrom 0 PLACES)))
+      rw past (own-tells PLACES (λ x. x) (λ x. refl))
 
-  module _ {now : List ℕ} (j : ℕ) (h : j < length a) (e : now ≡ groupsFrom a b c t (j + 1)) where
-    pub groups-in : look a j < PLACES → look b j < PLACES → look t j < look c j
-        → map (relabel (look now (look a j)) (look now (look b j))) now ≡ groupsFrom a b c t j
-    groups-in p q l =
+  module _ {parents : List ℕ} (j : ℕ) (h : j < length a) where
+    pub groups-in : look t j < look c j → Tells parents (linked (groupFrom a b c t (j + 1)) (look a j) (look b j)) → Tells parents (groupFrom a b c t j)
+    unfolding linked label
+    groups-in l w =
         let u : ℕ → ℕ = λ i. less (look t i) (look c i) in
         let from : keptFrom u (links a b) j ≡ (look a j, look b j) ∷ keptFrom u (links a b) (j + 1) =
         kept-next u (links a b) j (omega (arith, length-links a b (sym same)))
         ∙ rw (less-one l, pick-same {u = 1} refl)
         (ap₂ (λ x y. (x, y) ∷ keptFrom u (links a b) (j + 1)) (links-one a b j h (omega arith)) (links-two a b j h (omega arith))) in
-        rw from (relabelled PLACES (keptFrom u (links a b) (j + 1)) (look a j) (look b j) p q e)
+        rw from w
 
-    pub groups-out : look c j ≤ look t j → now ≡ groupsFrom a b c t j
-    groups-out l =
+    pub groups-out : look c j ≤ look t j → Tells parents (groupFrom a b c t (j + 1)) → Tells parents (groupFrom a b c t j)
+    groups-out l w =
         let u : ℕ → ℕ = λ i. less (look t i) (look c i) in
         let from : keptFrom u (links a b) j ≡ keptFrom u (links a b) (j + 1) =
         kept-next u (links a b) j (omega (arith, length-links a b (sym same)))
         ∙ rw (less-none {a = look t j} {b = look c j} (λ k. omega arith), pick-other {u = 0} {v = 1} (λ k. omega arith)) refl in
-        rw from e
+        rw from w
 
-  pub groups-all : groupsFrom a b c t 0 ≡ map (group (links a b) (look c) (look t)) (upfrom 0 PLACES)
+  pub groups-all : {parents : List ℕ} → Tells parents (groupFrom a b c t 0) → Tells parents (group (links a b) (look c) (look t))
   unfolding group
-  groups-all = rw (kept-same (λ i. less (look t (0 + i)) (look c (0 + i))) (λ i. less (look t i) (look c i)) (links a b) (λ i. rw zero-add refl)) refl
+  groups-all {parents} = subst (λ ks. Tells parents (label ks))
+      (kept-same (λ i. less (look t (0 + i)) (look c (0 + i))) (λ i. less (look t i) (look c i)) (links a b) (λ i. rw zero-add refl))
+
+-- ---- and settled
+
+-- the labels have places, and are the same just for the sites of one cut
+module _ {parents labels : List ℕ} (s : Settled parents labels) (long : length parents ≡ PLACES) where
+  pub settled-small : (x : ℕ) → look labels x ≤ SITES
+  settled-small x = cases (decLt x PLACES)
+      (λ l. omega (arith, labels-low s x))
+      (λ l. omega (arith, List·getD-eq-default labels 0 {n = x} (omega (arith, s .long))))
+
+  pub settled-cuts : (ls : Links) (c t : ℕ → ℕ) → Tells parents (group ls c t) → (a x : ℕ) → a ≤ SITES → x ≤ SITES
+      → is (look labels x) (look labels a) ≡ inCut ls c t a x
+  unfolding inCut
+  settled-cuts ls c t w a x h k = labels-same s (group ls c t) w x a (omega arith) (omega arith)

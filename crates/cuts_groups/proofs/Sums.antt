@@ -1,20 +1,16 @@
--- Sums over links kept at the labels of their sites: one link more, the labels as places, and what the sums come to.
+-- Sums over links kept at the labels of their sites: one link more, and what the sums come to.
 use mathlib.Core.Path.{_≡_, refl, sym, ap, _∙_}
 use mathlib.Core.Logic.{_≢_}
-use mathlib.Core.List.{List, map}
+use mathlib.Core.List.{List}
 use Prim.Native.Nat.{ℕ, _+_, _*_, _≤_, _<_}
-use native.Mathlib.Decide.{decLt}
 use native.Mathlib.Omega.{arith}
-use lib.ListN.{length, set, length-set, length-map, List·getD-eq-default}
+use lib.ListN.{length, set, length-set}
 use lib.Seq.{getD-set-same, getD-set-other}
-use Rattle.model.specs.Limits.{PLACES, SITES}
-use Rattle.lists.specs.Numbers.{is, differ, less, look, upfrom}
-use Rattle.model.specs.Flows.{one, two, label}
-use Rattle.model.specs.Cuts.{kept, group, inCut, cutSize}
-use Rattle.lists.specs.Sums.{is-same, is-other, differ-same, differ-other, same?, cases, sum-eq, less-one, less-lt}
-use Rattle.theory_trees.specs.Labels.{label-label}
-use Rattle.lists.specs.Places.{length-upfrom, look-values}
-use Rattle.theory_trees.specs.TerminalCuts.{kept-agree}
+use Rattle.model.specs.Limits.{SITES}
+use Rattle.lists.specs.Numbers.{is, differ, look}
+use Rattle.model.specs.Flows.{one, two}
+use Rattle.model.specs.Cuts.{inCut, cutSize}
+use Rattle.lists.specs.Sums.{is-same, is-other, differ-same, differ-other, same?, sum-eq}
 use Rattle.tree.specs.Offer.{links}
 use Rattle.tree.specs.Links.{length-links, links-one, links-two}
 use Rattle.tree_links.specs.Chains.{Placed}
@@ -49,47 +45,21 @@ module _ (labels : List ℕ) (a b d : ℕ) where
       (λ e. rw (is-other f, is-other e, differ-same {u = 0} refl)
       (getD-set-other r q l v 0 (λ z. e (sym z)) ∙ getD-set-other s p l (look s p + d) 0 (λ z. f (sym z)) ∙ omega arith)))
 
--- ---- the labels of groups: the sizes of cuts
+-- ---- the labels of cuts: their sizes
 
-module _ {labels a b : List ℕ} (k : Placed a b) (c t : List ℕ) (grouped : labels ≡ map (group (links a b) (look c) (look t)) (upfrom 0 PLACES)) where
-  abbrev label-of : ℕ → ℕ
-  label-of = group (links a b) (look c) (look t)
-
-  look-group : (x : ℕ) → x ≤ SITES → look labels x ≡ label-of x
-  look-group x h = ap (λ r. look r x) grouped ∙ look-values label-of PLACES x (omega arith)
-
-  -- a label has a place, as sites have
-  group-small : (x : ℕ) → x ≤ SITES → label-of x ≤ SITES
-  unfolding group
-  group-small x h =
-      let ls = links a b in
-      let u : ℕ → ℕ = λ i. less (look t i) (look c i) in
-      let all = length-links a b (sym (k .seconds)) in
-      let low : (y : ℕ) → y ≤ SITES → less y PLACES ≡ 1 = λ y p. less-one {a = y} {b = PLACES} (omega arith) in
-      let shared = kept-agree u ls (λ y. less y PLACES)
-      (λ i p q. rw (links-one a b i (omega arith) (omega (arith, k .seconds)), links-two a b i (omega arith) (omega (arith, k .seconds)))
-      (low (look a i) (omega (arith, k .sites i (omega arith))) ∙ sym (low (look b i) (omega (arith, k .sites i (omega arith))))))
-      (label (kept u ls) x) x (label-label (kept u ls) x) in
-      omega (arith, less-lt (shared ∙ low x h))
-
-  pub labels-small : (x : ℕ) → look labels x ≤ SITES
-  labels-small x = cases (decLt x PLACES)
-      (λ h. rw (look-group x (omega arith)) (group-small x (omega arith)))
-      (λ h. omega (
-        arith,
-        List·getD-eq-default labels 0 {n = x}
-            (omega (arith, ap length grouped, length-map (upfrom 0 PLACES) label-of, length-upfrom 0 PLACES)),
-      ))
-
-  -- the sum at the label of a site is the size of the cut with that label
-  pub leaving-is-size : (x : ℕ) → x ≤ SITES → leaving labels a b c (look labels x) ≡ cutSize (links a b) (look c) (look t) x
-  unfolding leaving leaves cutSize inCut
-  leaving-is-size x h = rw (length-links a b (sym (k .seconds)), look-group x h) (sum-eq (length a)
-      (λ j. differ (is (look labels (look a j)) (label-of x)) (is (look labels (look b j)) (label-of x)) * look c j)
-      (λ j. differ (is (label-of (one (links a b) j)) (label-of x)) (is (label-of (two (links a b) j)) (label-of x)) * look c j)
-      (λ j p. rw (
-        links-one a b j p (omega (arith, k .seconds)),
-        links-two a b j p (omega (arith, k .seconds)),
-        look-group (look a j) (omega (arith, k .sites j p)),
-        look-group (look b j) (omega (arith, k .sites j p)),
-      ) refl))
+-- the sum at the label of a site is the size of the cut with that label
+pub leaving-is-size : (labels : List ℕ) {a b : List ℕ} → Placed a b → (c t : List ℕ)
+    → ((y x : ℕ) → y ≤ SITES → x ≤ SITES → is (look labels x) (look labels y) ≡ inCut (links a b) (look c) (look t) y x)
+    → (x : ℕ) → x ≤ SITES → leaving labels a b c (look labels x) ≡ cutSize (links a b) (look c) (look t) x
+unfolding leaving leaves cutSize
+leaving-is-size labels {a} {b} k c t grouped x h =
+    let cut = inCut (links a b) (look c) (look t) x in
+    rw (length-links a b (sym (k .seconds))) (sum-eq (length a)
+    (λ j. differ (is (look labels (look a j)) (look labels x)) (is (look labels (look b j)) (look labels x)) * look c j)
+    (λ j. differ (cut (one (links a b) j)) (cut (two (links a b) j)) * look c j)
+    (λ j p. rw (
+      links-one a b j p (omega (arith, k .seconds)),
+      links-two a b j p (omega (arith, k .seconds)),
+      grouped x (look a j) h (omega (arith, k .sites j p)),
+      grouped x (look b j) h (omega (arith, k .sites j p)),
+    ) refl))

@@ -1,12 +1,12 @@
 -- Sites grouped by labels: what leaves the sites of a label, and what a tally holds.
 use mathlib.Core.Path.{_≡_}
-use mathlib.Core.List.{List, map}
+use mathlib.Core.List.{List}
 use Prim.Native.Nat.{ℕ, _+_, _-_, _*_, _/_, _%_, _≤_}
 use lib.ListN.{length}
 use Rattle.model.specs.Limits.{LINKS, PLACES, SITES, SIZE, WORDS}
-use Rattle.lists.specs.Numbers.{is, differ, less, sum, upfrom, look}
+use Rattle.lists.specs.Numbers.{is, differ, less, sum, look}
 use Rattle.model.specs.Flows.{Links}
-use Rattle.model.specs.Cuts.{group, cutSize}
+use Rattle.model.specs.Cuts.{inCut, cutSize}
 use Rattle.tree_sets.specs.Members.{bit}
 
 -- d can be added at the labels of two sites
@@ -25,9 +25,9 @@ leaves labels a b l = differ (is (look labels a) l) (is (look labels b) l)
 unfoldable pub leaving : List ℕ → List ℕ → List ℕ → List ℕ → ℕ → ℕ
 leaving labels one two c l = sum (length one) (λ j. leaves labels (look one j) (look two j) l * look c j)
 
--- what is counted of a network: the labels of its sites, and for each label the size of the cut of a site with it
+-- what is counted of a network: labels of its sites, the same just for those in one cut, and for each label the size of the cut of a site with it
 pub record Tallied (ls : Links) (c t : ℕ → ℕ) (labels sums : List ℕ) : Type 0 where
-  pub grouped : labels ≡ map (group ls c t) (upfrom 0 PLACES)
+  pub grouped : (a x : ℕ) → a ≤ SITES → x ≤ SITES → is (look labels x) (look labels a) ≡ inCut ls c t a x
   pub small : (x : ℕ) → look labels x ≤ SITES
   pub sizes : (a : ℕ) → a ≤ SITES → look sums (look labels a) ≡ cutSize ls c t a
 

@@ -15,6 +15,7 @@ ghost use Rattle.lists.specs.Numbers.{upfrom, look};
 ghost use Rattle.model.specs.Cuts.{group};
 ghost use Rattle.model.specs.Whole.{EndSets};
 ghost use Rattle.tree.specs.Offer.{links};
+ghost use Rattle.tree_labels.specs.Labels.{Lower, Tells};
 ghost use Rattle.tree_links.specs.Chains.{Placed, Limited};
 ghost use Rattle.tree_sets.specs.Members.{member};
 ghost use Rattle.cuts_groups.specs.Groups.{Addable, Tallied, leaves, leaving, labelled, inWords};
@@ -39,17 +40,17 @@ pub struct Owned {
 pub const NONE: usize = 0;
 
 // Joins the sites of the links whose balanced capacity is below the given one, the last link first.
-fn join_kept(one: &[usize], two: &[usize], capacity: &[u64], balanced: &[u64], labels: &mut [u16])
-    requires { ⌜ (now labels ≡ upfrom 0 PLACES) × Placed (now one) (now two) × Limited (now one) (now capacity)
+fn join_kept(one: &[usize], two: &[usize], capacity: &[u64], balanced: &[u64], parents: &mut [u16])
+    requires { ⌜ (now parents ≡ upfrom 0 PLACES) × Placed (now one) (now two) × Limited (now one) (now capacity)
         × (length (now balanced) ≡ length (now one)) ⌝ }
-    ensures { λ _. ⌜ now (labels .exit) ≡ map
-        (group (links (now (one .entry)) (now (two .entry))) (look (now (capacity .entry))) (look (now (balanced .entry)))) (upfrom 0 PLACES) ⌝ }
+    ensures { λ _. ⌜ (length (now (parents .exit)) ≡ PLACES) × Lower (now (parents .exit)) × Tells (now (parents .exit))
+        (group (links (now (one .entry)) (now (two .entry))) (look (now (capacity .entry))) (look (now (balanced .entry)))) ⌝ }
 {
     let mut j = one.len();
     while 0 < j {
         j -= 1;
         if balanced[j] < capacity[j] {
-            tree_labels::join(labels, one[j], two[j]);
+            tree_labels::join(parents, one[j], two[j]);
         }
     }
 }
@@ -91,14 +92,14 @@ fn of_links(one: &[usize], two: &[usize], capacity: &[u64], balanced: &[u64]) ->
     ensures { λ r. ⌜ Tallied (links (now (one .entry)) (now (two .entry))) (look (now (capacity .entry))) (look (now (balanced .entry))) (r .labels)
         (r .leaving) ⌝ }
 {
-    let mut labels = tree_labels::own_labels();
+    let mut labels = tree_labels::own_parents();
     join_kept(one, two, capacity, balanced, &mut labels);
+    tree_labels::settle(&mut labels);
     let leaving = sums_leaving(one, two, capacity, &labels);
     Tally { labels, leaving }
 }
 
 // For each label the places of its sites among the first n, as a set of WORDS words: that of label l from word WORDS l on. Place i is that of site i + 1.
-//
 fn sets(n: usize, labels: &[u16; PLACES]) -> [u64; SETS]
     requires { ⌜ (n ≤ SITES) × ((x : ℕ) → look (now labels) x ≤ SITES) ⌝ }
     ensures { λ r. ⌜ ((l i : ℕ) → inWords r l i ≡ labelled n (now (labels .entry)) l i) ⌝ }

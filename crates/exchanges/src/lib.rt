@@ -8,7 +8,7 @@ ghost use Rattle.planner.specs.Taken.{Listed};
 ghost use Rattle.region_sizes.specs.Offered.{regionBy};
 ghost use Rattle.exchanges.specs.Outcome.{exchanged};
 ghost use Rattle.exchanges.specs.Taken.{deliverBetween, Taken};
-ghost use Rattle.exchanges.specs.declared.Outcome.the-variants.{Refused};
+ghost use Rattle.exchanges.specs.declared.Outcome.the-variants.{Answered, Refused};
 use model::SITES;
 use region_sharing::Shared;
 use sheet::Lists;
@@ -43,8 +43,21 @@ fn short_list(sheet: u64) -> Outcome
     }
 }
 
-// The answers for two regions that share one link, by its number in each: each is given its trimmed sizes, at the front of its lent list, and their
-// sum; or the first list with fewer places than its region has links is refused.
+// What both regions are told: the number of their trimmed sizes, and the sum.
+fn answered(count: usize, sum: u64, count2: usize, sum2: u64) -> Outcome
+    ensures { λ r. ⌜ r ≡ Answered (record { count = count; sum = sum }) (record { count = count2; sum = sum2 }) ⌝ }
+{
+    Outcome::Answered {
+        first: Answer { count, sum },
+        second: Answer {
+            count: count2,
+            sum: sum2,
+        },
+    }
+}
+
+// The answers for two regions that share one link, by its number in each: each is charted once, and given its trimmed sizes, at the front of its lent list,
+// and their sum; or the first list with fewer places than its region has links is refused.
 fn deliver(
     n: usize,
     one: &[usize],
@@ -84,17 +97,35 @@ fn deliver(
     if sizes2.len() < count2 {
         return short_list(2);
     }
-    let shown = region_sizes::first_size(n, one, two, marks, capacity, link);
-    let shown2 = region_sizes::first_size(n2, one2, two2, marks2, capacity2, link2);
-    let sum = region_sizes::give(n, one, two, marks, capacity, link, shown2, sizes);
-    let sum2 = region_sizes::give(n2, one2, two2, marks2, capacity2, link2, shown, sizes2);
-    Outcome::Answered {
-        first: Answer { count, sum },
-        second: Answer {
-            count: count2,
-            sum: sum2,
-        },
-    }
+    let chart = region_sizes::chart_of(n, one, two, marks, capacity);
+    let chart2 = region_sizes::chart_of(n2, one2, two2, marks2, capacity2);
+    let shown = region_sizes::size_by(n, chart, one, two, capacity, link);
+    let shown2 = region_sizes::size_by(n2, chart2, one2, two2, capacity2, link2);
+    let sum = region_sizes::give_by(
+        n,
+        chart,
+        one,
+        two,
+        marks,
+        capacity,
+        link,
+        shown,
+        shown2,
+        sizes,
+    );
+    let sum2 = region_sizes::give_by(
+        n2,
+        chart2,
+        one2,
+        two2,
+        marks2,
+        capacity2,
+        link2,
+        shown2,
+        shown,
+        sizes2,
+    );
+    answered(count, sum, count2, sum2)
 }
 
 // The exchange between two accepted sheets, each network lent as far as there are sites or links.

@@ -32,12 +32,12 @@ open-nowhere a b [] h = refl
 open-nowhere a b (e ∷ es) h =
     rw (same-other a b e (h 0 (omega arith))) (omega (arith, open-nowhere a b es (λ i l. h (suc i) (omega arith))))
 
-module _ (f s m : List ℕ) {a b count k : ℕ} (p : FirstPlace f s a b count k) where
-  pub a-pair-that-is-found-has-its-amount-open : placesOf a b (entries f s m count) ≤ 1 → k < count → openOf a b (entries f s m count) ≡ look m k
+module _ (f m : List ℕ) {a b count k : ℕ} (p : FirstPlace f a b count k) where
+  pub a-pair-that-is-found-has-its-amount-open : placesOf a b (entries f m count) ≤ 1 → k < count → openOf a b (entries f m count) ≡ look m k
   a-pair-that-is-found-has-its-amount-open o l =
-      open-at a b (entries f s m count) k (omega (arith, length-entries f s m count)) o (first-there f s m a b count k p l)
-      ∙ rw (entries-at f s m count k l) refl
+      open-at a b (entries f m count) k (omega (arith, length-entries f m count)) o (first-there f m a b count k p l)
+      ∙ rw (entries-at f m count k l) refl
 
-  pub a-pair-that-is-not-found-has-nothing-open : k ≡ count → openOf a b (entries f s m count) ≡ 0
+  pub a-pair-that-is-not-found-has-nothing-open : k ≡ count → openOf a b (entries f m count) ≡ 0
   a-pair-that-is-not-found-has-nothing-open e =
-      open-nowhere a b (entries f s m count) (λ i l. first-before f s m a b count k p i (omega (arith, length-entries f s m count)))
+      open-nowhere a b (entries f m count) (λ i l. first-before f m a b count k p i (omega (arith, length-entries f m count)))

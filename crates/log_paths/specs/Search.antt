@@ -1,37 +1,36 @@
--- A path walked from its lowest link up, in search of a link that has P: there is none below p.
+-- A path walked from its lowest link up, in search of a link that has P: there is none before the link where the walk stands.
 use mathlib.Core.Path.{_≡_}
-use Prim.Native.Nat.{ℕ, _+_, _-_, _≤_, _<_}
+use mathlib.Core.Logic.{_≢_}
+use Prim.Native.Nat.{ℕ, _+_, _≤_, _<_}
 use native.Mathlib.Decide.{decLt}
 use native.Mathlib.Omega.{arith}
 use Rattle.model.specs.Limits.{SITES}
 use Rattle.lists.specs.Sums.{same?, cases}
-use Rattle.tree_sets.specs.Members.{member, firstFrom}
-use Rattle.tree_sets.specs.Laws.{First, first-absent}
-use Rattle.tree_sets.specs.declared.Found.the-variants.{Absent}
+use Rattle.tree_sets.specs.Members.{member}
+use Rattle.tree_sets.specs.Walks.{Standing, Walked}
 use Rattle.tree_sets.specs.declared.Set.{Set}
+use Rattle.tree_sets.specs.declared.Walk.{Walk}
 
-pub record Clear (path : Set) (P : ℕ → Type 0) (p : ℕ) : Type 0 where
-  pub low : p ≤ SITES
-  pub none : (j : ℕ) → j < p → member path j ≡ 1 → P j → ⊥
+pub record Clear (path : Set) (P : ℕ → Type 0) (w : Walk) : Type 0 where
+  pub none : (j : ℕ) → j < w .place → member path j ≡ 1 → P j → ⊥
+  pub stands : w .left ≢ 0 → Standing (member path) w
+  pub ended : w .left ≡ 0 → w .place ≡ SITES
 
 module _ (path : Set) (P : ℕ → Type 0) where
-  pub clear-start : Clear path P 0
-  clear-start = record { low = omega arith; none = λ j l. absurd (omega arith) }
+  pub clear-start : {w : Walk} → Walked (member path) 0 w → Clear path P w
+  clear-start h = record { none = λ j l o. absurd (h .miss j (omega arith) l o); stands = h .stands; ended = h .ended }
 
-  module _ {p : ℕ} (c : Clear path P p) where
-    -- a link that is found is one of SITES places
-    pub clear-place : {m : ℕ} → First (member path) p (SITES - p) m → m < SITES
-    clear-place f = omega (arith, f .to, c .low)
-
-    -- where the link that is found does not have P, the search goes on behind it
-    pub clear-next : {m : ℕ} → First (member path) p (SITES - p) m → (P m → ⊥) → Clear path P (m + 1)
-    clear-next {m} f d = record {
-      low = omega (arith, clear-place f);
-      none = λ j l o h. same? j m
-          (λ e. d (rw e at h))
-          (λ e. cases (decLt j p) (λ q. c .none j q o h) (λ q. f .miss j (omega arith) (omega arith) o));
+  module _ {w : Walk} (c : Clear path P w) where
+    -- where the link does not have P, the search goes on behind it
+    pub clear-next : {r : Walk} → (P (w .place) → ⊥) → Walked (member path) (w .place + 1) r → Clear path P r
+    clear-next d h = record {
+      none = λ j l o p. same? j (w .place)
+          (λ e. d (rw e at p))
+          (λ e. cases (decLt j (w .place)) (λ q. c .none j q o p) (λ q. h .miss j (omega arith) l o));
+      stands = h .stands;
+      ended = h .ended;
     }
 
-    -- where none is found, no link of the path has P
-    pub clear-end : firstFrom (member path) p (SITES - p) ≡ Absent → (j : ℕ) → j < SITES → member path j ≡ 1 → P j → ⊥
-    clear-end e j l o h = cases (decLt j p) (λ q. c .none j q o h) (λ q. first-absent (member path) p (SITES - p) e j (omega arith) (omega arith) o)
+    -- where the walk has ended, no link of the path has P
+    pub clear-end : w .left ≡ 0 → (j : ℕ) → j < SITES → member path j ≡ 1 → P j → ⊥
+    clear-end e j l o p = c .none j (omega (arith, c .ended e)) o p

@@ -4,7 +4,6 @@ use model::PLACES;
 use model::ROWS;
 use model::SITES;
 use model::WORDS;
-use tree_sets::Found;
 use tree_sets::Set;
 ghost use mathlib.Core.Bool.{true, not};
 ghost use mathlib.Core.Path.{_≡_};
@@ -151,19 +150,18 @@ fn crossed(
     ensures { λ r. ⌜ r ≡ not (eqb (crossed (links (now (one .entry)) (now (two .entry))) (look (now (ends .entry))) a b) 0) ⌝ }
 {
     let path = between(rows, a, b);
-    let mut p: usize = 0;
-    loop {
-        let Found::At(link) = path.next(p) else {
-            return false;
-        };
+    let mut w = tree_sets::start(&path.words);
+    while w.left != 0 {
+        let link = w.place;
         if another(ends, a, b, one[link]) {
             return true;
         }
         if another(ends, a, b, two[link]) {
             return true;
         }
-        p = link + 1;
+        w = tree_sets::onward(&path.words, w);
     }
+    false
 }
 
 // Whether two sites are two different ends with no other end on their path, which is looked through unless each end is known to have one link.

@@ -16,20 +16,19 @@ use Rattle.log_pairs.specs.Arrays.{entries}
 use Rattle.log_steps.specs.Steps.{Holds, Standing, Answered}
 use Rattle.log_steps.specs.declared.Replied.{Replied}
 
-pub record Replayed (ls : Links) (n : ℕ) (c : ℕ → ℕ) (rs : List Request) (f s m l : List ℕ) (count : ℕ) : Type 0 where
+pub record Replayed (ls : Links) (n : ℕ) (c : ℕ → ℕ) (rs : List Request) (f m l : List ℕ) (count : ℕ) : Type 0 where
   pub kept : Kept ls n c (after ls c [] rs)
-  pub holds : Holds ls (after ls c [] rs) f s m l count
+  pub holds : Holds ls (after ls c [] rs) f m l count
 
 module _ (ls : Links) (n : ℕ) (c : ℕ → ℕ) where
   -- before the first request
-  pub replayed-start : Replayed ls n c [] (replicate OPEN 0) (replicate OPEN 0) (replicate OPEN 0) (replicate SITES 0) 0
+  pub replayed-start : Replayed ls n c [] (replicate OPEN 0) (replicate OPEN 0) (replicate SITES 0) 0
   unfolding after entries upfrom load
   replayed-start = record {
     kept = kept-empty ls c n;
     holds = record {
       pairs = record {
-        firsts = refl;
-        seconds = refl;
+        pairs = refl;
         amounts = refl;
         few = omega arith;
         same = refl;
@@ -40,28 +39,28 @@ module _ (ls : Links) (n : ℕ) (c : ℕ → ℕ) where
     };
   }
 
-  module _ {rs : List Request} {f s m l : List ℕ} {count : ℕ} (r : Replayed ls n c rs f s m l count) where
+  module _ {rs : List Request} {f m l : List ℕ} {count : ℕ} (r : Replayed ls n c rs f m l count) where
     -- the next request can be answered
-    pub replayed-standing : Standing ls n c f s m l count
+    pub replayed-standing : Standing ls n c f m l count
     replayed-standing =
         let h = r .holds in
         let p = h .pairs in
         record {
           kept = rw (p .same) (r .kept);
           holds = record {
-            pairs = record { firsts = p .firsts; seconds = p .seconds; amounts = p .amounts; few = p .few; same = refl; behind = p .behind };
+            pairs = record { pairs = p .pairs; amounts = p .amounts; few = p .few; same = refl; behind = p .behind };
             places = h .places;
             loads = rw (p .same) (h .loads);
           };
         }
 
     -- its answer is that to what is open after those before it
-    pub replayed-answer : {q : Request} {f′ s′ m′ l′ : List ℕ} {reply : Replied} → Answered ls c (entries f s m count) q f′ s′ m′ l′ reply
+    pub replayed-answer : {q : Request} {f′ m′ l′ : List ℕ} {reply : Replied} → Answered ls c (entries f m count) q f′ m′ l′ reply
         → reply .answer ≡ answer ls c (after ls c [] rs) q
     replayed-answer a = rw (← (r .holds .pairs .same)) (a .said)
 
-    pub replayed-next : {q : Request} {f′ s′ m′ l′ : List ℕ} {reply : Replied} → Asked n q → Answered ls c (entries f s m count) q f′ s′ m′ l′ reply
-        → Replayed ls n c (rs ++ (q ∷ [])) f′ s′ m′ l′ (reply .count)
+    pub replayed-next : {q : Request} {f′ m′ l′ : List ℕ} {reply : Replied} → Asked n q → Answered ls c (entries f m count) q f′ m′ l′ reply
+        → Replayed ls n c (rs ++ (q ∷ [])) f′ m′ l′ (reply .count)
     replayed-next {q} h a = record {
       kept = rw (after-one-more ls c [] rs q) (a-request-keeps-what-is-kept ls n c (after ls c [] rs) q (r .kept) h);
       holds = rw (after-one-more ls c [] rs q, ← (r .holds .pairs .same)) (a .holds);

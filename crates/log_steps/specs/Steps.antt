@@ -22,20 +22,20 @@ pub record Given (n : ℕ) (one two c rows : List ℕ) : Type 0 where
   pub table : Table (links one two) n rows
 
 -- the arrays hold the open pairs es, and at place j the load of link j, 0 behind the links
-pub record Holds (ls : Links) (es : List Pair) (f s m l : List ℕ) (count : ℕ) : Type 0 where
-  pub pairs : Held es f s m count
+pub record Holds (ls : Links) (es : List Pair) (f m l : List ℕ) (count : ℕ) : Type 0 where
+  pub pairs : Held es f m count
   pub places : length l ≡ SITES
   pub loads : (j : ℕ) → look l j ≡ load ls es j
 
 -- the open pairs of the arrays are ones that a replay keeps, and their loads stand beside them
-pub record Standing (ls : Links) (n : ℕ) (c : ℕ → ℕ) (f s m l : List ℕ) (count : ℕ) : Type 0 where
-  pub kept : Kept ls n c (entries f s m count)
-  pub holds : Holds ls (entries f s m count) f s m l count
+pub record Standing (ls : Links) (n : ℕ) (c : ℕ → ℕ) (f m l : List ℕ) (count : ℕ) : Type 0 where
+  pub kept : Kept ls n c (entries f m count)
+  pub holds : Holds ls (entries f m count) f m l count
 
 -- a request is answered, and the arrays hold what is open after it
-pub record Answered (ls : Links) (c : ℕ → ℕ) (es : List Pair) (r : Request) (f s m l : List ℕ) (reply : Replied) : Type 0 where
+pub record Answered (ls : Links) (c : ℕ → ℕ) (es : List Pair) (r : Request) (f m l : List ℕ) (reply : Replied) : Type 0 where
   pub said : reply .answer ≡ answer ls c es r
-  pub holds : Holds ls (next ls c es r) f s m l (reply .count)
+  pub holds : Holds ls (next ls c es r) f m l (reply .count)
 
 -- ---- a pair, its lower site first
 
@@ -45,11 +45,11 @@ pub record Wanted (n : ℕ) (p : Pair) : Type 0 where
   pub limited : p .amount ≤ AMOUNT
 
 -- a pair is opened or refused
-pub record Opened (ls : Links) (c : ℕ → ℕ) (es : List Pair) (p : Pair) (f s m l : List ℕ) (reply : Replied) : Type 0 where
+pub record Opened (ls : Links) (c : ℕ → ℕ) (es : List Pair) (p : Pair) (f m l : List ℕ) (reply : Replied) : Type 0 where
   pub said : reply .answer ≡ answerOpen ls c es p
-  pub holds : Holds ls (pick (answerOpen ls c es p) 0 (grow (p .first) (p .second) (p .amount) es) es) f s m l (reply .count)
+  pub holds : Holds ls (pick (answerOpen ls c es p) 0 (grow (p .first) (p .second) (p .amount) es) es) f m l (reply .count)
 
 -- a pair is given up or refused
-pub record GivenUp (ls : Links) (c : ℕ → ℕ) (es : List Pair) (p : Pair) (f s m l : List ℕ) (reply : Replied) : Type 0 where
+pub record GivenUp (ls : Links) (c : ℕ → ℕ) (es : List Pair) (p : Pair) (f m l : List ℕ) (reply : Replied) : Type 0 where
   pub said : reply .answer ≡ answerGiveUp ls c es p
-  pub holds : Holds ls (pick (answerGiveUp ls c es p) 0 (shrink (p .first) (p .second) (p .amount) es) es) f s m l (reply .count)
+  pub holds : Holds ls (pick (answerGiveUp ls c es p) 0 (shrink (p .first) (p .second) (p .amount) es) es) f m l (reply .count)

@@ -5,7 +5,6 @@ use model::Pair;
 use model::ROWS;
 use model::Request;
 use model::SITES;
-use tree_sets::Found;
 use tree_sets::Set;
 ghost use mathlib.Core.Path.{_≡_};
 ghost use Rattle.lists.specs.Numbers.{look};
@@ -27,16 +26,15 @@ fn overfills(path: Set, x: u64, capacity: &[u64], load: &[u64; SITES]) -> bool
     requires { ⌜ Measured path x (now capacity) (now load) ⌝ }
     ensures { λ r. ⌜ Tells r (Passing path x (now (capacity .entry)) (now (load .entry))) ⌝ }
 {
-    let mut p: usize = 0;
-    loop {
-        let Found::At(link) = path.next(p) else {
-            return false;
-        };
+    let mut w = tree_sets::start(&path.words);
+    while w.left != 0 {
+        let link = w.place;
         if 2 * capacity[link] < load[link] + x {
             return true;
         }
-        p = link + 1;
+        w = tree_sets::onward(&path.words, w);
     }
+    false
 }
 
 // x more on every link of a path.
@@ -44,13 +42,11 @@ pub fn raise(path: Set, x: u64, load: &mut [u64; SITES])
     requires { ⌜ Raising path x (now load) ⌝ }
     ensures { λ _. ⌜ now (load .exit) ≡ raised path x (now (load .entry)) ⌝ }
 {
-    let mut p: usize = 0;
-    loop {
-        let Found::At(j) = path.next(p) else {
-            return;
-        };
+    let mut w = tree_sets::start(&path.words);
+    while w.left != 0 {
+        let j = w.place;
         load[j] += x;
-        p = j + 1;
+        w = tree_sets::onward(&path.words, w);
     }
 }
 
@@ -59,13 +55,11 @@ fn lower(path: Set, x: u64, load: &mut [u64; SITES])
     requires { ⌜ Lowering path x (now load) ⌝ }
     ensures { λ _. ⌜ now (load .exit) ≡ lowered path x (now (load .entry)) ⌝ }
 {
-    let mut p: usize = 0;
-    loop {
-        let Found::At(j) = path.next(p) else {
-            return;
-        };
+    let mut w = tree_sets::start(&path.words);
+    while w.left != 0 {
+        let j = w.place;
         load[j] -= x;
-        p = j + 1;
+        w = tree_sets::onward(&path.words, w);
     }
 }
 
@@ -78,20 +72,19 @@ fn open(
     rows: &[u64; ROWS],
     p: Pair,
     count: usize,
-    first: &mut [usize; OPEN],
-    second: &mut [usize; OPEN],
+    pairs: &mut [u32; OPEN],
     amount: &mut [u64; OPEN],
     load: &mut [u64; SITES],
 ) -> Replied
     requires { ⌜ Given n (now one) (now two) (now capacity) (now rows) × Wanted n p
-        × Standing (links (now one) (now two)) n (look (now capacity)) (now first) (now second) (now amount) (now load) count ⌝ }
+        × Standing (links (now one) (now two)) n (look (now capacity)) (now pairs) (now amount) (now load) count ⌝ }
     ensures { λ r. ⌜ Opened (links (now (one .entry)) (now (two .entry))) (look (now (capacity .entry)))
-        (entries (now (first .entry)) (now (second .entry)) (now (amount .entry)) count) p
-        (now (first .exit)) (now (second .exit)) (now (amount .exit)) (now (load .exit)) r ⌝ }
+        (entries (now (pairs .entry)) (now (amount .entry)) count) p
+        (now (pairs .exit)) (now (amount .exit)) (now (load .exit)) r ⌝ }
 {
     let path = log_paths::between(rows, p.first, p.second);
     let full = overfills(path, p.amount, capacity, load);
-    let place = log_pairs::find(p.first, p.second, count, first, second);
+    let place = log_pairs::find(p.first, p.second, count, pairs);
     if full {
         return Replied { answer: 15, count };
     }
@@ -99,16 +92,7 @@ fn open(
         return Replied { answer: 16, count };
     }
     raise(path, p.amount, load);
-    let more = log_pairs::grow(
-        p.first,
-        p.second,
-        p.amount,
-        place,
-        count,
-        first,
-        second,
-        amount,
-    );
+    let more = log_pairs::grow(p.first, p.second, p.amount, place, count, pairs, amount);
     Replied {
         answer: 0,
         count: more,
@@ -124,18 +108,17 @@ fn give_up(
     rows: &[u64; ROWS],
     p: Pair,
     count: usize,
-    first: &mut [usize; OPEN],
-    second: &mut [usize; OPEN],
+    pairs: &mut [u32; OPEN],
     amount: &mut [u64; OPEN],
     load: &mut [u64; SITES],
 ) -> Replied
     requires { ⌜ Given n (now one) (now two) (now capacity) (now rows) × Wanted n p
-        × Standing (links (now one) (now two)) n (look (now capacity)) (now first) (now second) (now amount) (now load) count ⌝ }
+        × Standing (links (now one) (now two)) n (look (now capacity)) (now pairs) (now amount) (now load) count ⌝ }
     ensures { λ r. ⌜ GivenUp (links (now (one .entry)) (now (two .entry))) (look (now (capacity .entry)))
-        (entries (now (first .entry)) (now (second .entry)) (now (amount .entry)) count) p
-        (now (first .exit)) (now (second .exit)) (now (amount .exit)) (now (load .exit)) r ⌝ }
+        (entries (now (pairs .entry)) (now (amount .entry)) count) p
+        (now (pairs .exit)) (now (amount .exit)) (now (load .exit)) r ⌝ }
 {
-    let place = log_pairs::find(p.first, p.second, count, first, second);
+    let place = log_pairs::find(p.first, p.second, count, pairs);
     if place == count {
         return Replied { answer: 14, count };
     }
@@ -144,16 +127,7 @@ fn give_up(
     }
     let path = log_paths::between(rows, p.first, p.second);
     lower(path, p.amount, load);
-    let fewer = log_pairs::shrink(
-        p.first,
-        p.second,
-        p.amount,
-        place,
-        count,
-        first,
-        second,
-        amount,
-    );
+    let fewer = log_pairs::shrink(p.first, p.second, p.amount, place, count, pairs, amount);
     Replied {
         answer: 0,
         count: fewer,
@@ -169,16 +143,15 @@ pub fn step(
     rows: &[u64; ROWS],
     request: Request,
     count: usize,
-    first: &mut [usize; OPEN],
-    second: &mut [usize; OPEN],
+    pairs: &mut [u32; OPEN],
     amount: &mut [u64; OPEN],
     load: &mut [u64; SITES],
 ) -> Replied
     requires { ⌜ Given n (now one) (now two) (now capacity) (now rows) × Asked n request
-        × Standing (links (now one) (now two)) n (look (now capacity)) (now first) (now second) (now amount) (now load) count ⌝ }
+        × Standing (links (now one) (now two)) n (look (now capacity)) (now pairs) (now amount) (now load) count ⌝ }
     ensures { λ r. ⌜ Answered (links (now (one .entry)) (now (two .entry))) (look (now (capacity .entry)))
-        (entries (now (first .entry)) (now (second .entry)) (now (amount .entry)) count) request
-        (now (first .exit)) (now (second .exit)) (now (amount .exit)) (now (load .exit)) r ⌝ }
+        (entries (now (pairs .entry)) (now (amount .entry)) count) request
+        (now (pairs .exit)) (now (amount .exit)) (now (load .exit)) r ⌝ }
 {
     match request {
         Request::Open(e) => {
@@ -191,8 +164,7 @@ pub fn step(
                 rows,
                 more,
                 count,
-                first,
-                second,
+                pairs,
                 amount,
                 load,
             )
@@ -207,8 +179,7 @@ pub fn step(
                 rows,
                 less,
                 count,
-                first,
-                second,
+                pairs,
                 amount,
                 load,
             )

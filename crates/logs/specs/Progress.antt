@@ -33,15 +33,15 @@ module _ (s : List ℕ) (names : List (ℕ × ℕ)) (ls : Links) (t : ℕ → �
   asked ats = map (requestAt false s names ls t log) ats
 
   -- the first i lines are done, and the next one starts at an offset
-  pub record Progress (f g m load : List ℕ) (count at i : ℕ) (list : List ℕ) : Type 0 where
+  pub record Progress (f m load : List ℕ) (count at i : ℕ) (list : List ℕ) : Type 0 where
     pub done : List ℕ
     pub counted : length done ≡ i
     pub left : lines log ≡ done ++ linesFrom log (length log - at) at
     pub on-log : at ≤ length log
-    pub replayed : replays.Replayed ls (length names) c (asked done) f g m load count
+    pub replayed : replays.Replayed ls (length names) c (asked done) f m load count
     pub listed : list ≡ answers ls c [] (asked done) ++ drop i l
 
-  pub start : Progress (replicate OPEN 0) (replicate OPEN 0) (replicate OPEN 0) (replicate SITES 0) 0 0 0 l
+  pub start : Progress (replicate OPEN 0) (replicate OPEN 0) (replicate SITES 0) 0 0 0 l
   unfolding answers
   start = record {
     done = [];
@@ -52,11 +52,11 @@ module _ (s : List ℕ) (names : List (ℕ × ℕ)) (ls : Links) (t : ℕ → �
     listed = refl;
   }
 
-  module _ {f g m load : List ℕ} {count at i : ℕ} {list : List ℕ} (P : Progress f g m load count at i list) where
+  module _ {f m load : List ℕ} {count at i : ℕ} {list : List ℕ} (P : Progress f m load count at i list) where
     answered : length (answers ls c [] (asked (P .done))) ≡ i
     answered = each-line-gets-one-answer ls c [] (asked (P .done)) ∙ length-map (P .done) (requestAt false s names ls t log) ∙ P .counted
 
-    pub standing : Standing ls (length names) c f g m load count
+    pub standing : Standing ls (length names) c f m load count
     standing = replays.replayed-standing ls (length names) c (P .replayed)
 
     module _ (enough : length (lines log) ≤ length l) where
@@ -77,8 +77,8 @@ module _ (s : List ℕ) (names : List (ℕ × ℕ)) (ls : Links) (t : ℕ → �
       pub room : at < length log → i < length l
       room h = omega (arith, ap length (P .left), length-append (P .done) (linesFrom log (length log - at) at), ap length (lines-step log at h), P .counted)
 
-      module _ (h : at < length log) {f′ g′ m′ load′ : List ℕ} {reply : Replied}
-          (a : Answered ls c (entries f g m count) (requestAt false s names ls t log at) f′ g′ m′ load′ reply) where
+      module _ (h : at < length log) {f′ m′ load′ : List ℕ} {reply : Replied}
+          (a : Answered ls c (entries f m count) (requestAt false s names ls t log at) f′ m′ load′ reply) where
         -- the answer behind those before it
         put : set list i (reply .answer) ≡ answers ls c [] (asked (P .done ++ (at ∷ []))) ++ drop (i + 1) l
         put =
@@ -92,7 +92,7 @@ module _ (s : List ℕ) (names : List (ℕ × ℕ)) (ls : Links) (t : ℕ → �
             (sym (answers-one-more ls c [] (asked (P .done)) (requestAt false s names ls t log at))
             ∙ ap (answers ls c []) (sym (map-append (requestAt false s names ls t log) (P .done) (at ∷ []))))
 
-        pub next : Progress f′ g′ m′ load′ (reply .count) (afterLine log at) (i + 1) (set list i (reply .answer))
+        pub next : Progress f′ m′ load′ (reply .count) (afterLine log at) (i + 1) (set list i (reply .answer))
         next = record {
           done = P .done ++ (at ∷ []);
           counted = omega (arith, length-append (P .done) (at ∷ []), P .counted);

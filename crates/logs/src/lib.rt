@@ -55,8 +55,7 @@ fn answer_lines(
         (links (now (one .entry)) (now (two .entry))) (look (now (ends .entry))) (now (log .entry)))
         ++ drop (length (lines (now (log .entry)))) (now (list .entry)) ⌝ }
 {
-    let mut first = [0usize; OPEN];
-    let mut second = [0usize; OPEN];
+    let mut pairs = [0u32; OPEN];
     let mut amount = [0u64; OPEN];
     let mut load = [0u64; SITES];
     let mut count = 0;
@@ -88,8 +87,7 @@ fn answer_lines(
             rows,
             request,
             count,
-            &mut first,
-            &mut second,
+            &mut pairs,
             &mut amount,
             &mut load,
         );

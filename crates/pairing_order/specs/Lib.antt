@@ -1,2 +1,5 @@
 pub mod PairList
+pub mod Groups
 pub mod Laws
+pub mod Grouping
+pub mod Chains

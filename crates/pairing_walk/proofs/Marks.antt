@@ -27,16 +27,19 @@ use Rattle.theory_walk.specs.Lowest.{lowest-none, lowest-some, lowest-least}
 use Rattle.theory_walk.specs.Regions.{region-ends, not-within, root-inner}
 use Rattle.theory_walk.specs.PartsMeaning.{root-iff-lowest}
 use Rattle.theory_walk.specs.PartsLoops.{flat-next}
-use Rattle.tree_sets.specs.Members.{member}
+use Rattle.pairing_children.specs.Neighbours.{NoChild}
 use Rattle.pairing_halves.specs.declared.Tops.{Tops}
 use Rattle.pairing_walk.specs.declared.Frame.{Frame}
 use Rattle.pairing_walk.specs.Frames.{Entered, Passed}
 use Rattle.pairing_walk.specs.Visits.{covered, untouched}
 
--- y is a child to come of x, by a frame of fs
-unfoldable pub Due : List Frame → ℕ → ℕ → Type 0
-Due [] x y = ⊥
-Due (f ∷ fs) x y = ((f .site ≡ x) × (member (f .below) (y - 1) ≡ 1) × (f .next ≤ y)) ⊎ Due fs x y
+-- y is a child to come of x, by a frame, and by one of the frames fs
+abbrev DueBy : Links → Frame → ℕ → ℕ → Type 0
+DueBy ls f x y = (f .site ≡ x) × (¬ NoChild ls (f .site) (f .link) y) × (f .next ≤ y)
+
+unfoldable pub Due : Links → List Frame → ℕ → ℕ → Type 0
+Due ls [] x y = ⊥
+Due ls (f ∷ fs) x y = DueBy ls f x y ⊎ Due ls fs x y
 
 module _ (ls : Links) (n : ℕ) (terminal : ℕ → ℕ) where
   -- x is of the part of a root that is not above r
@@ -45,7 +48,7 @@ module _ (ls : Links) (n : ℕ) (terminal : ℕ → ℕ) where
 
   -- what is done while the part of root r is walked, with the sites of fs entered and not left
   pub record Marked (fs : List Frame) (r : ℕ) (done : List ℕ) : Type 0 where
-    pub closed : (i x y : ℕ) → i < length ls → within ls terminal i ≡ 1 → at ls x i ≡ 1 → at ls y i ≡ 1 → look done x ≡ 1 → (look done y ≡ 1) ⊎ Due fs x y
+    pub closed : (i x y : ℕ) → i < length ls → within ls terminal i ≡ 1 → at ls x i ≡ 1 → at ls y i ≡ 1 → look done x ≡ 1 → (look done y ≡ 1) ⊎ Due ls fs x y
     pub stacked : Each (λ f. look done (f .site) ≡ 1) fs
     pub rooted : (x : ℕ) → look done x ≡ 1 → Rooted r x
     pub passed : (x : ℕ) → 1 ≤ x → x ≤ r → terminal x ≢ 1 → look done x ≡ 1
@@ -64,7 +67,7 @@ marked-starts ls n terminal = record {
 -- ---- a site that is entered
 
 module _ {ls : Links} {n : ℕ} (T : Tree ls n) {terminal : ℕ → ℕ} {fs : List Frame} {r : ℕ} {done : List ℕ} (M : Marked ls n terminal fs r done) where
-  module _ {t : ℕ → ℕ} {v j down : ℕ} {base : Tops} {h : Frame} (E : Entered ls t v j down base h) (inside : v < PLACES) where
+  module _ {s₀ v j down : ℕ} {base : Tops} {h : Frame} (E : Entered ls s₀ v j down base h) (inside : v < PLACES) where
     abbrev after : List ℕ
     after = set done v 1
 
@@ -78,12 +81,12 @@ module _ {ls : Links} {n : ℕ} (T : Tree ls n) {terminal : ℕ → ℕ} {fs : L
     before x d e = sym (getD-set-other done v x 1 0 d) ∙ e
 
     -- a site that a link joins to it is its parent, or a child to come
-    neighbour : (i y : ℕ) → i < length ls → at ls v i ≡ 1 → at ls y i ≡ 1 → y ≢ v → (i ≡ j) ⊎ ((h .site ≡ v) × (member (h .below) (y - 1) ≡ 1) × (h .next ≤ y))
+    neighbour : (i y : ℕ) → i < length ls → at ls v i ≡ 1 → at ls y i ≡ 1 → y ≢ v → (i ≡ j) ⊎ DueBy ls h v y
     neighbour i y l p q d = same? i j inl (λ o.
         let b = between-is T v y i l (joins (at-end ls i p) (at-end ls i q)) in
         let y₁ = at-site ls (T .ends) i l q .0 in
-        let m = E .children .all y y₁ (rw b l) (λ z. o (sym b ∙ z)) in
-        inr (E .site, m, cases (decLt y (h .next)) (λ k. absurd (E .first .miss y y₁ k m)) (λ k. omega arith)))
+        let m : ¬ NoChild ls v j y = λ no. elim no [ inl z ↦ o (sym b ∙ z) | inr z ↦ omega (arith, b, z) ] in
+        inr (E .site, rw (E .site, E .link) m, cases (decLt y (h .next)) (λ k. absurd (m (E .first .miss y y₁ k))) (λ k. omega arith)))
       where
         joins : (one ls i ≡ v) ⊎ (two ls i ≡ v) → (one ls i ≡ y) ⊎ (two ls i ≡ y) → Joins (getD ls i (0, 0)) v y
         joins (inl e) (inl f) = absurd (d (sym f ∙ e))
@@ -92,7 +95,7 @@ module _ {ls : Links} {n : ℕ} (T : Tree ls n) {terminal : ℕ → ℕ} {fs : L
         joins (inr e) (inr f) = absurd (d (sym f ∙ e))
 
     module _ {gs : List Frame} {s : ℕ} (parent : (y : ℕ) → j < length ls → at ls y j ≡ 1 → y ≢ v → look done y ≡ 1)
-        (stays : (x y : ℕ) → Due fs x y → y ≢ v → Due gs x y) (stack : Each (λ f. look done (f .site) ≡ 1) gs) (its : Rooted ls n terminal s v)
+        (stays : (x y : ℕ) → Due ls fs x y → y ≢ v → Due ls gs x y) (stack : Each (λ f. look done (f .site) ≡ 1) gs) (its : Rooted ls n terminal s v)
         (up : r ≤ s) (past : (x : ℕ) → 1 ≤ x → x ≤ s → x ≢ v → terminal x ≢ 1 → look done x ≡ 1) where
       pub marked-enters : Marked ls n terminal (h ∷ gs) s after
       unfolding Due
@@ -113,14 +116,14 @@ module _ {ls : Links} {n : ℕ} (T : Tree ls n) {terminal : ℕ → ℕ} {fs : L
 
 module _ {ls : Links} {n : ℕ} (T : Tree ls n) {terminal : ℕ → ℕ} {f : Frame} {fs : List Frame} {r : ℕ} {done : List ℕ}
     (M : Marked ls n terminal (f ∷ fs) r done) where
-  module _ {up : ℕ} {g : Frame} (P : Passed f up g) where
+  module _ {up : ℕ} {g : Frame} (P : Passed ls f up g) where
     -- other children are still to come
-    due-passed : (x y : ℕ) → Due (f ∷ fs) x y → y ≢ f .next → Due (g ∷ fs) x y
+    due-passed : (x y : ℕ) → Due ls (f ∷ fs) x y → y ≢ f .next → Due ls (g ∷ fs) x y
     unfolding Due
     due-passed x y (inl d) o = inl (
       P .site ∙ d .0,
-      rw (P .children) (d .1),
-      cases (decLt y (g .next)) (λ k. absurd (P .next .miss y (omega (arith, d .2)) k (d .1))) (λ k. omega arith),
+      rw (P .site, P .link) (d .1),
+      cases (decLt y (g .next)) (λ k. absurd (d .1 (P .next .miss y (omega (arith, d .2)) k))) (λ k. omega arith),
     )
     due-passed x y (inr d) o = inr d
 
@@ -139,7 +142,7 @@ module _ {ls : Links} {n : ℕ} (T : Tree ls n) {terminal : ℕ → ℕ} {f : Fr
 
     -- an inner site, which is done now
     pub marked-child : terminal (f .site) ≢ 1 → terminal (f .next) ≢ 1 → f .next < PLACES → between ls (f .site) (f .next) < length ls
-        → {t : ℕ → ℕ} {down : ℕ} {base : Tops} {h : Frame} → Entered ls t (f .next) (between ls (f .site) (f .next)) down base h
+        → {s₀ down : ℕ} {base : Tops} {h : Frame} → Entered ls s₀ (f .next) (between ls (f .site) (f .next)) down base h
         → Marked ls n terminal (h ∷ g ∷ fs) r (set done (f .next) 1)
     marked-child inner inner′ inside l E =
         let k = between ls (f .site) (f .next) in
@@ -276,7 +279,7 @@ module _ {ls : Links} {n : ℕ} (T : Tree ls n) {terminal : ℕ → ℕ} {r : �
         )
 
     -- and it is done now
-    pub marked-root : {t : ℕ → ℕ} {j down : ℕ} {base : Tops} {h : Frame} → length ls ≤ j → q < PLACES → Entered ls t q j down base h
+    pub marked-root : {s₀ j down : ℕ} {base : Tops} {h : Frame} → length ls ≤ j → q < PLACES → Entered ls s₀ q j down base h
         → Marked ls n terminal (h ∷ []) q (set done q 1)
     marked-root l inside E =
         let s = next-site in

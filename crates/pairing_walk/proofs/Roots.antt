@@ -18,7 +18,7 @@ use Rattle.theory_walk.specs.PartsLoops.{few-after-sites}
 use Rattle.pairing_halves.specs.declared.Tops.{Tops}
 use Rattle.pairing_halves.specs.Arrays.{flat, flatPairs, Added}
 use Rattle.pairing_halves.specs.Adding.{pairs-append, length-pairs, added-more}
-use Rattle.pairing_walk.specs.Visits.{walkOf, Visit, Visited, Walkable, partsTo}
+use Rattle.pairing_walk.specs.Visits.{walkOf, Visit, Visited, Fit, partsTo}
 
 -- after the walk from root r: the lists of ups and downs are empty, and the pairs of the parts so far are added
 pub record Ended (ends a b c p₀ : List ℕ) (r : ℕ) (p : List ℕ) (top : Tops) : Type 0 where
@@ -31,7 +31,7 @@ no-halves : (l : Halves) → Filled l → Each (λ h. h .1 ≤ 0) l → l ≡ []
 no-halves [] f h = refl
 no-halves (x ∷ l) f h = absurd (omega (arith, f .0, h .0))
 
-module _ {ends last before a b c : List ℕ} (w : Walkable (suc (length a)) ends last before a b c) where
+module _ {ends a b c : List ℕ} (w : Fit (suc (length a)) ends a b c) where
   pub number : length (links a b) ≡ length a
   number = length-links a b (omega (arith, w .tree .firsts, w .tree .seconds))
 
@@ -49,13 +49,12 @@ module _ {ends last before a b c : List ℕ} (w : Walkable (suc (length a)) ends
     module _ {root : ℕ} {u d : List ℕ} where
       -- the walk starts at a root with all sites below it, and with room for them
       pub root-visit : r ≤ suc (length a) → Site (suc (length a)) root → look ends root ≢ 1 → HALVES ≤ length u → HALVES ≤ length d → 2 * NUMBERS ≤ length p
-          → Visit (suc (length a)) ends last before a b c (suc (length a)) root (length a) 0 0 u d p top
+          → Visit (suc (length a)) ends a b c (suc (length a)) root (length a) 0 0 u d p top
       root-visit h site inner hu hd hp =
           let few = size-le (links a b) (suc (length a)) (length a) root in
           record {
             tree = w .tree;
             balanced = w .balanced;
-            chained = w .chained;
             site = site;
             start = inr (sym number, inner, omega arith);
             fuelled = few;
@@ -65,7 +64,7 @@ module _ {ends last before a b c : List ℕ} (w : Walkable (suc (length a)) ends
           }
 
       -- and ends with its pairs behind those before
-      pub root-ended : Visit (suc (length a)) ends last before a b c (suc (length a)) root (length a) 0 0 u d p top
+      pub root-ended : Visit (suc (length a)) ends a b c (suc (length a)) root (length a) 0 0 u d p top
           → partsTo root ends a b c ≡ partsTo r ends a b c ++ pairsFrom (links a b) (suc (length a)) (look c) (look ends) root → {x y z : List ℕ} {s : Tops}
           → Visited (walkOf (suc (length a)) ends a b c (suc (length a)) root (length a) 0 0) u d p top x y z s → Ended ends a b c p₀ root z s
       unfolding pairsFrom flat

@@ -76,8 +76,8 @@ gathering-starts n ends a b c fuel v j down u d p base =
     }
 
 -- a site and the subtrees of its children
-pub size-below : {n : ℕ} {ends last before a b c : List ℕ} {fuel v j up down : ℕ} {u d p : List ℕ} {base : Tops}
-    → Visit n ends last before a b c fuel v j up down u d p base
+pub size-below : {n : ℕ} {ends a b c : List ℕ} {fuel v j up down : ℕ} {u d p : List ℕ} {base : Tops}
+    → Visit n ends a b c fuel v j up down u d p base
     → size (links a b) n j v ≡ 1 + ahead n (links a b) v j 1
 size-below {n} {ends = ends} {a = a} {b = b} {c = c} {v = v} {j = j} {up = up} {down = down} W =
     let all : suc n - 1 ≡ n = omega arith in
@@ -103,7 +103,7 @@ module _ {n : ℕ} {ends a b c : List ℕ} {fuel v j down : ℕ} {u d p : List �
   ls = links a b
 
   -- a child
-  module _ {last before : List ℕ} {up : ℕ} (W : Visit n ends last before a b c (suc fuel) v j up down u d p base)
+  module _ {up : ℕ} (W : Visit n ends a b c (suc fuel) v j up down u d p base)
       (k : ℕ) (is-k : k ≡ between ls v x) (below : k < length ls) (new : k ≢ j) where
     child-here : Child ls n v j x k
     child-here = child (W .tree .tree) v j x k below new (rw (← is-k) at (between-joins ls v x (rw (← is-k) below)))
@@ -122,11 +122,10 @@ module _ {n : ℕ} {ends a b c : List ℕ} {fuel v j down : ℕ} {u d p : List �
     split = ap (sizes ls n) taken
 
     -- it is visited with what is sent up and what comes down
-    pub gathering-visits : (s o : ℕ) → s + o ≡ 2 * look c k → Visit n ends last before a b c fuel x k s o u′ d′ p′ top
+    pub gathering-visits : (s o : ℕ) → s + o ≡ 2 * look c k → Visit n ends a b c fuel x k s o u′ d′ p′ top
     gathering-visits s o e = record {
       tree = W .tree;
       balanced = W .balanced;
-      chained = W .chained;
       site = child-here .site;
       start = inl (child-here .up, e);
       fuelled = omega (arith, split, size-below W, W .fuelled, g .ups-fit);
@@ -161,8 +160,8 @@ module _ {n : ℕ} {ends a b c : List ℕ} {fuel v j down : ℕ} {u d p : List �
 
 -- ---- all children visited
 
-module _ {n : ℕ} {ends last before a b c : List ℕ} {fuel v j up down : ℕ} {u d p : List ℕ} {base : Tops}
-    (W : Visit n ends last before a b c (suc fuel) v j up down u d p base)
+module _ {n : ℕ} {ends a b c : List ℕ} {fuel v j up down : ℕ} {u d p : List ℕ} {base : Tops}
+    (W : Visit n ends a b c (suc fuel) v j up down u d p base)
     (inner : look ends v ≢ 1) {u′ d′ p′ : List ℕ} {top : Tops} {rest x : ℕ} (g : Gathering n ends a b c fuel v j down u d p base u′ d′ p′ top rest x)
     (l : n < x) where
   abbrev G : Part
@@ -242,12 +241,12 @@ module _ {n : ℕ} {ends last before a b c : List ℕ} {fuel v j up down : ℕ} 
 -- ---- other sites
 
 -- there is fuel, and what is left of it for the children
-pub some-fuel : {n : ℕ} {ends last before a b c : List ℕ} {fuel v j up down : ℕ} {u d p : List ℕ} {base : Tops}
-    → Visit n ends last before a b c fuel v j up down u d p base → fuel ≡ suc (fuel - 1)
+pub some-fuel : {n : ℕ} {ends a b c : List ℕ} {fuel v j up down : ℕ} {u d p : List ℕ} {base : Tops}
+    → Visit n ends a b c fuel v j up down u d p base → fuel ≡ suc (fuel - 1)
 some-fuel W = omega (arith, size-below W, W .fuelled)
 
-module _ {n : ℕ} {ends last before a b c : List ℕ} {fuel v j up down : ℕ} {u d p : List ℕ} {base : Tops}
-    (W : Visit n ends last before a b c (suc fuel) v j up down u d p base) where
+module _ {n : ℕ} {ends a b c : List ℕ} {fuel v j up down : ℕ} {u d p : List ℕ} {base : Tops}
+    (W : Visit n ends a b c (suc fuel) v j up down u d p base) where
   -- a terminal
   pub alone-room : (base .ups + 2 ≤ length u) × (base .downs + 2 ≤ length d)
   alone-room = let s = size-below W in (omega (arith, W .ups-room), omega (arith, W .downs-room))
@@ -260,8 +259,8 @@ module _ {n : ℕ} {ends last before a b c : List ℕ} {fuel v j up down : ℕ} 
       (record { ups = q .below; downs = s .below; pairs = rw k (added-nothing p (base .pairs)) })
 
 -- what comes down to an inner site is no more than its links carry
-pub down-within : {n : ℕ} {ends last before a b c : List ℕ} {fuel v j up down : ℕ} {u d p : List ℕ} {base : Tops}
-    → Visit n ends last before a b c fuel v j up down u d p base
+pub down-within : {n : ℕ} {ends a b c : List ℕ} {fuel v j up down : ℕ} {u d p : List ℕ} {base : Tops}
+    → Visit n ends a b c fuel v j up down u d p base
     → look ends v ≢ 1 → down ≤ sumAt (links a b) v (look c)
 down-within {ends = ends} {a = a} {b = b} {c = c} {v = v} {j = j} {up = up} {down = down} W inner = within (W .start)
   where

@@ -16,7 +16,8 @@ use Rattle.model.specs.declared.Pairs.{Pairs}
 use Rattle.model.specs.Edition.{largest}
 use Rattle.tree.specs.Offer.{links}
 use Rattle.tree.specs.Accepted.{TreeWithin}
-use Rattle.tree_links.specs.Chains.{Chained}
+use Rattle.tree_links.specs.Chains.{Chained, Summed}
+use Rattle.pairing_children.specs.Neighbours.{Listed}
 use Rattle.theory_walk.specs.Children.{size}
 use Rattle.theory_walk.specs.Walk.{Start}
 use Rattle.pairing_halves.specs.declared.Tops.{Tops}
@@ -32,11 +33,10 @@ pub record Visited (w : Part) (u d p : List ℕ) (b : Tops) (x y z : List ℕ) (
   pub downs : Held d (b .downs) y (r .downs) (flat (w .downs))
   pub pairs : Added p (b .pairs) z (r .pairs) (flatPairs (w .pairs))
 
--- site v of a tree with balanced capacities and chained links, as the walk comes to it, with fuel and room in the arrays for all the sites below it
-pub record Visit (n : ℕ) (ends last before one two c : List ℕ) (fuel v j up down : ℕ) (u d p : List ℕ) (b : Tops) : Type 0 where
+-- site v of a tree with balanced capacities, as the walk comes to it, with fuel and room in the arrays for all the sites below it
+pub record Visit (n : ℕ) (ends one two c : List ℕ) (fuel v j up down : ℕ) (u d p : List ℕ) (b : Tops) : Type 0 where
   pub tree : TreeWithin largest n one two c
   pub balanced : Balanced (links one two) (look ends) (look c)
-  pub chained : Chained one two last before
   pub site : Site n v
   pub start : Start (links one two) (look c) (look ends) j v up down
   pub fuelled : size (links one two) n j v ≤ fuel
@@ -51,6 +51,16 @@ pub record Walkable (n : ℕ) (ends last before one two c : List ℕ) : Type 0 w
   pub tree : TreeWithin largest n one two c
   pub chained : Chained one two last before
   pub balanced : Balanced (links one two) (look ends) (look c)
+
+-- the same but for the chains
+pub record Fit (n : ℕ) (ends one two c : List ℕ) : Type 0 where
+  pub tree : TreeWithin largest n one two c
+  pub balanced : Balanced (links one two) (look ends) (look c)
+
+-- what the walk looks up: what the links at each site carry together, and the lists of neighbours
+pub record Laid (sums first after one two c : List ℕ) : Type 0 where
+  pub summed : Summed (links one two) (look c) sums
+  pub lists : Listed one two 0 first after
 
 -- 1 if x is a terminal or is done, that is, entered by a walk: no walk starts from it
 unfoldable pub covered : (ℕ → ℕ) → List ℕ → ℕ → ℕ

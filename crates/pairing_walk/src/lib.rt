@@ -8,17 +8,16 @@ use model::Pair;
 use model::Pairs;
 use model::SITES;
 use pairing_halves::Tops;
-use tree_sets::Set;
 ghost use mathlib.Core.Path.{_≡_};
 ghost use Prim.Native.Nat.{suc, _*_, _≤_, _<_, _+_, _-_};
-ghost use Rattle.model.specs.Limits.{NUMBERS, PLACES, SITES};
+ghost use Rattle.model.specs.Limits.{NUMBERS, PLACES, SITES, SIZE};
 ghost use lib.ListN.{length, set, take};
 ghost use Rattle.lists.specs.Numbers.{look, pick};
 ghost use Rattle.model.specs.Pairing.{lowestInner};
 ghost use Rattle.pairing_halves.specs.Arrays.{flatPairs, Added};
 ghost use Rattle.tree.specs.Offer.{links};
-ghost use Rattle.pairing_walk.specs.Frames.{childOf, Entering, Entered, Coming, Passed};
-ghost use Rattle.pairing_walk.specs.Visits.{covered, Walkable, Begun, partsTo, pairOf, Linkable, singlesTo, Singles, pairsOf};
+ghost use Rattle.pairing_walk.specs.Frames.{over, childOf, Entering, Entered, Passing, Passed};
+ghost use Rattle.pairing_walk.specs.Visits.{covered, Walkable, Fit, Laid, Begun, partsTo, pairOf, Linkable, singlesTo, Singles, pairsOf};
 ghost use Rattle.pairing_walk.specs.Visits.{spelledAt, spelled, Spells, listing};
 
 // 1 for a terminal and for a site that is done, which no walk starts from.
@@ -48,14 +47,14 @@ fn next_root(past: usize, n: usize, ends: &[u8; PLACES], done: &mut [u8]) -> usi
 }
 
 // A site whose children are walked: the link to its parent, what comes down over it, what remains for the children to send up,
-// the ends of the lists when it was entered, its children, and the child to come, PLACES after the last.
+// the ends of the lists when it was entered, the half link to the child to come, and that child, PLACES after the last.
 struct Frame {
     site: usize,
     link: usize,
     down: u64,
     rest: u64,
     base: Tops,
-    below: Set,
+    at: usize,
     next: usize,
 }
 
@@ -72,42 +71,34 @@ fn enter(
     v: usize,
     child: Child,
     base: Tops,
-    last: &[usize; PLACES],
-    before: &[usize; CHAINS],
+    sums: &[u64; PLACES],
+    first: &[u16; PLACES],
+    after: &[u16; CHAINS],
     one: &[usize],
     two: &[usize],
-    capacity: &[u64],
 ) -> Frame
-    requires { ⌜ Entering v (child .down) (now last) (now before) (now one) (now two) (now capacity) ⌝ }
-    ensures { λ r. ⌜ Entered (links (now (one .entry)) (now (two .entry))) (look (now (capacity .entry))) v (child .link) (child .down) base r ⌝ }
+    requires { ⌜ Entering v (child .down) (now sums) (now first) (now after) (now one) (now two) ⌝ }
+    ensures { λ r. ⌜ Entered (links (now (one .entry)) (now (two .entry))) (look (now (sums .entry)) v) v (child .link) (child .down) base r ⌝ }
 {
-    let sum = tree_links::sum_at(v, last, before, one, two, capacity);
-    let below = pairing_children::children(v, child.link, last, before, one, two);
-    let next = pairing_children::next_site(below, 0);
+    let sum = sums[v];
+    let next = pairing_children::next_child(first[v], child.link, after, one, two);
     Frame {
         site: v,
         link: child.link,
         down: child.down,
         rest: sum - child.down,
         base,
-        below,
-        next,
+        at: next.at,
+        next: next.site,
     }
 }
 
 // The child to come of a site: it sends up the lesser of twice its capacity and of what remains, and the others come down.
-fn child_of(
-    frame: Frame,
-    last: &[usize; PLACES],
-    before: &[usize; CHAINS],
-    one: &[usize],
-    two: &[usize],
-    capacity: &[u64],
-) -> Child
-    requires { ⌜ Coming frame (now last) (now before) (now one) (now two) (now capacity) ⌝ }
-    ensures { λ r. ⌜ r ≡ childOf (links (now (one .entry)) (now (two .entry))) (look (now (capacity .entry))) frame ⌝ }
+fn child_of(frame: Frame, capacity: &[u64]) -> Child
+    requires { ⌜ (1 ≤ frame .at) × (over frame < length (now capacity)) × (look (now capacity) (over frame) ≤ SIZE) ⌝ }
+    ensures { λ r. ⌜ r ≡ childOf (look (now (capacity .entry))) frame ⌝ }
 {
-    let link = pairing_children::link_to(frame.site, frame.next, last, before, one, two);
+    let link = (frame.at - 1) / 2;
     let both = 2 * capacity[link];
     let up = pairing_halves::lesser(both, frame.rest);
     Child {
@@ -118,21 +109,21 @@ fn child_of(
 }
 
 // The frame once the child to come has sent up its halves, before the next child.
-fn pass(frame: Frame, up: u64) -> Frame
-    requires { ⌜ (up ≤ frame .rest) × (frame .next ≤ SITES) ⌝ }
-    ensures { λ r. ⌜ Passed frame up r ⌝ }
+fn pass(frame: Frame, up: u64, after: &[u16; CHAINS], one: &[usize], two: &[usize]) -> Frame
+    requires { ⌜ Passing frame up (now after) (now one) (now two) ⌝ }
+    ensures { λ r. ⌜ Passed (links (now (one .entry)) (now (two .entry))) frame up r ⌝ }
 {
     let base = frame.base;
-    let below = frame.below;
-    let next = pairing_children::next_site(below, frame.next);
+    let at = frame.at;
+    let next = pairing_children::next_child(after[at - 1], frame.link, after, one, two);
     Frame {
         site: frame.site,
         link: frame.link,
         down: frame.down,
         rest: frame.rest - up,
         base,
-        below,
-        next,
+        at: next.at,
+        next: next.site,
     }
 }
 
@@ -140,31 +131,32 @@ fn pass(frame: Frame, up: u64) -> Frame
 fn enter_root(
     root: usize,
     base: Tops,
-    last: &[usize; PLACES],
-    before: &[usize; CHAINS],
+    sums: &[u64; PLACES],
+    first: &[u16; PLACES],
+    after: &[u16; CHAINS],
     one: &[usize],
     two: &[usize],
-    capacity: &[u64],
 ) -> Frame
-    requires { ⌜ Entering root 0 (now last) (now before) (now one) (now two) (now capacity) ⌝ }
-    ensures { λ r. ⌜ Entered (links (now (one .entry)) (now (two .entry))) (look (now (capacity .entry))) root (length (now (one .entry))) 0 base r ⌝ }
+    requires { ⌜ Entering root 0 (now sums) (now first) (now after) (now one) (now two) ⌝ }
+    ensures { λ r. ⌜ Entered (links (now (one .entry)) (now (two .entry))) (look (now (sums .entry)) root) root (length (now (one .entry))) 0 base r ⌝ }
 {
     let whole = Child {
         link: one.len(),
         up: 0,
         down: 0,
     };
-    enter(root, whole, base, last, before, one, two, capacity)
+    enter(root, whole, base, sums, first, after, one, two)
 }
 
-// The walks from the roots, `first` the lowest of them: the pairs are added to their list, and its end is returned. A site is done once a walk has
+// The walks from the roots, `lowest` the lowest of them: the pairs are added to their list, and its end is returned. A site is done once a walk has
 // entered it, and the next root is the lowest inner site that is not. The sites from the root to the one at hand stand in frames, the root's in the
 // place of the number of sites, each child's in the place below.
 fn visit(
-    first: usize,
+    lowest: usize,
     ends: &[u8; PLACES],
-    last: &[usize; PLACES],
-    before: &[usize; CHAINS],
+    sums: &[u64; PLACES],
+    first: &[u16; PLACES],
+    after: &[u16; CHAINS],
     one: &[usize],
     two: &[usize],
     capacity: &[u64],
@@ -173,26 +165,27 @@ fn visit(
     downs: &mut [u64],
     pairs: &mut [u64],
 ) -> usize
-    requires { ⌜ Walkable (suc (length (now one))) (now ends) (now last) (now before) (now one) (now two) (now capacity)
-        × Begun (suc (length (now one))) (now ends) (now done) first (now ups) (now downs) (now pairs) ⌝ }
+    requires { ⌜ Fit (suc (length (now one))) (now ends) (now one) (now two) (now capacity)
+        × Laid (now sums) (now first) (now after) (now one) (now two) (now capacity)
+        × Begun (suc (length (now one))) (now ends) (now done) lowest (now ups) (now downs) (now pairs) ⌝ }
     ensures { λ r. ⌜ Added (now (pairs .entry)) 0 (now (pairs .exit)) r
         (flatPairs (partsTo (suc (length (now (one .entry)))) (now (ends .entry)) (now (one .entry)) (now (two .entry)) (now (capacity .entry)))) ⌝ }
 {
     let sites = one.len() + 1;
     let mut level = sites;
-    let mut root = first;
+    let mut root = lowest;
     let mut top = Tops {
         ups: 0,
         downs: 0,
         pairs: 0,
     };
-    let mut frame = enter_root(root, top, last, before, one, two, capacity);
+    let mut frame = enter_root(root, top, sums, first, after, one, two);
     let mut frames = [frame; PLACES];
     loop {
         let c = frame.next;
         if c < PLACES {
-            let child = child_of(frame, last, before, one, two, capacity);
-            let passed = pass(frame, child.up);
+            let child = child_of(frame, capacity);
+            let passed = pass(frame, child.up, after, one, two);
             if ends[c] == 1 {
                 top = pairing_halves::alone(c, child.up, child.down, ups, downs, top);
                 frame = passed;
@@ -201,7 +194,7 @@ fn visit(
             done[c] = 1;
             frames[level] = passed;
             level -= 1;
-            frame = enter(c, child, top, last, before, one, two, capacity);
+            frame = enter(c, child, top, sums, first, after, one, two);
             continue;
         }
         let base = frame.base;
@@ -215,7 +208,7 @@ fn visit(
         if root == 0 {
             return top.pairs;
         }
-        frame = enter_root(root, top, last, before, one, two, capacity);
+        frame = enter_root(root, top, sums, first, after, one, two);
     }
 }
 
@@ -235,17 +228,22 @@ fn walk_parts(
         (flatPairs (partsTo (suc (length (now (one .entry)))) (now (ends .entry)) (now (one .entry)) (now (two .entry)) (now (capacity .entry)))) ⌝ }
 {
     let mut done = [0u8; PLACES];
-    let first = next_root(0, one.len() + 1, ends, &mut done);
-    if first == 0 {
+    let lowest = next_root(0, one.len() + 1, ends, &mut done);
+    if lowest == 0 {
         return 0;
     }
+    let near = pairing_children::list_neighbours(last, before, one, two);
+    let first = near.first;
+    let after = near.after;
+    let sums = tree_links::sums(one, two, capacity);
     let mut ups = [0u64; HALVES];
     let mut downs = [0u64; HALVES];
     visit(
-        first,
+        lowest,
         ends,
-        last,
-        before,
+        &sums,
+        &first,
+        &after,
         one,
         two,
         capacity,

@@ -44,7 +44,7 @@ cause n =
     (pick n 6 (bytes "link to a name not given on a line above")
     (pick n 7 (bytes "link whose sites are already joined by links above, or are one site")
     (pick n 8 (bytes "fewer than two sites, or not all sites are joined")
-    (pick n 9 (bytes "report longer than the buffer")
+    (pick n 9 (bytes "answer longer than the buffer or list for it")
     (pick n 10 (bytes "wrong number of fields")
     (pick n 11 (bytes "a name is not 1 to 12 letters or digits")
     (pick n 12 (bytes "a number is not written in decimal without a leading zero")

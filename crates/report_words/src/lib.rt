@@ -94,7 +94,12 @@ pub fn put_cause(buf: &mut [u8], at: usize, number: u64) -> usize
             b"fewer than two sites, or not all sites are joined",
             b'\n',
         ),
-        9 => put_bytes(buf, at, b"report longer than the buffer", b'\n'),
+        9 => put_bytes(
+            buf,
+            at,
+            b"answer longer than the buffer or list for it",
+            b'\n',
+        ),
         10 => put_bytes(buf, at, b"wrong number of fields", b'\n'),
         11 => put_bytes(buf, at, b"a name is not 1 to 12 letters or digits", b'\n'),
         12 => put_bytes(

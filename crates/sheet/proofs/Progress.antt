@@ -2,17 +2,17 @@
 -- Each step takes one line from those left to those read.
 use mathlib.Core.Bool.{true, false, cond}
 use mathlib.Core.List.{List, [], _∷_, _++_, map, map-append, reverse, reverseAux-append}
-use mathlib.Core.Path.{_≡_, refl, sym, ap, ap₂, subst, _∙_}
+use mathlib.Core.Path.{_≡_, refl, sym, ap, subst, _∙_}
 use Prim.Native.Nat.{ℕ, _+_, _-_, _≤_, _<_}
 use native.Mathlib.Nat.{sub-zero}
 use native.Mathlib.Numerals.{add-one}
 use native.Mathlib.Omega.{arith}
-use lib.ListN.{length, replicate, set, take, drop, length-append, length-map}
+use lib.ListN.{length, replicate, set, length-append, length-map}
 use Rattle.model.specs.Limits.{PLACES, SITES}
 use Rattle.lists.specs.Numbers.{upfrom}
 use Rattle.model.specs.Flows.{Site}
 use Rattle.model.specs.declared.Edition.{Edition}
-use Rattle.tree_labels.specs.Labels.{linked, whole}
+use Rattle.tree_labels.specs.Labels.{Joins, Settled, whole}
 use Rattle.tree_labels.specs.LabelPlaces.{whole-sites}
 use Rattle.text_lines.specs.Lines.{afterLine}
 use Rattle.sheet_names.specs.Names.{TABLE, part, ranges, hash, entered, Indexes}
@@ -21,9 +21,9 @@ use Rattle.sheet.specs.Sheet.{Network, empty, withSite, withLink, refuse
 use Rattle.sheet.specs.Reading.{padded, lists, reading}
 use Rattle.sheet.specs.Sound.{Sound, Accepts, none-is-sound, a-line-keeps-sound, links-are-few}
 use Rattle.sheet.specs.ReadLaws.{lines-end, lines-step}
-use Rattle.sheet.specs.Held.{labels, Held}
+use Rattle.sheet.specs.Held.{LabelsOf, Held}
 use Rattle.sheet.specs.ListLaws.{padded-more, names-are}
-use Rattle.sheet.specs.LabelLaws.{own-labels, length-labels, labels-join, linked-at-the-sites, alike-tells}
+use Rattle.sheet.specs.LabelLaws.{own-labels, labels-join, alike-tells}
 use Rattle.sheet.specs.declared.Lists.{Lists}
 use Rattle.sheet.specs.declared.stepping.Step.{Step}
 use Rattle.sheet.specs.declared.stepping.Step.the-variants as step
@@ -63,12 +63,12 @@ linkStored net a b size = record {
 }
 
 -- the lists hold the network of the lines before the line at an offset, the table its names, and the lines from there on decide
-pub record Progress (ed : Edition) (s : List ℕ) (net : Lists) (table tags : List ℕ) (at number : ℕ) : Type 0 where
+pub record Progress (ed : Edition) (s : List ℕ) (net : Lists) (table parents : List ℕ) (at number : ℕ) : Type 0 where
   pub fits : ed .sites ≤ SITES
   pub read : Network
   pub lists-are : net ≡ lists read
   pub indexed : Indexes s (read .names) table
-  pub labels-are : tags ≡ labels PLACES (reverse (read .links))
+  pub labels-are : LabelsOf (read .links) parents
   pub sound : Sound ed s read
   pub on-sheet : at ≤ length s
   pub numbered : number ≤ at + 1
@@ -80,14 +80,14 @@ start ed h s = record {
   read = empty;
   lists-are = refl;
   indexed = no-sites s;
-  labels-are = sym (own-labels PLACES);
+  labels-are = own-labels;
   sound = none-is-sound ed s;
   on-sheet = omega arith;
   numbered = omega arith;
   rest = rw sub-zero;
 }
 
-module _ {ed : Edition} {s table tags : List ℕ} {net : Lists} {at number : ℕ} (P : Progress ed s net table tags at number) where
+module _ {ed : Edition} {s table parents : List ℕ} {net : Lists} {at number : ℕ} (P : Progress ed s net table parents at number) where
   -- how many sites and links there are, and that the lists have their places
   sites-are : net .sites ≡ length (P .read .names)
   unfolding lists
@@ -97,8 +97,8 @@ module _ {ed : Edition} {s table tags : List ℕ} {net : Lists} {at number : ℕ
   unfolding lists
   links-are = ap (λ n. n .links) (P .lists-are)
 
-  pub lengths : (length tags ≡ PLACES) × (net .sites ≤ SITES)
-  lengths = (ap length (P .labels-are) ∙ length-labels PLACES (reverse (P .read .links)), omega (arith, sites-are, P .sound .few, P .fits))
+  pub lengths : (length parents ≡ PLACES) × (net .sites ≤ SITES)
+  lengths = (P .labels-are .long, omega (arith, sites-are, P .sound .few, P .fits))
 
   -- the names of the lists, of which the table is
   ranges-are : ranges (net .start) (net .end) 0 (net .sites) ≡ P .read .names
@@ -108,8 +108,8 @@ module _ {ed : Edition} {s table tags : List ℕ} {net : Lists} {at number : ℕ
   pub table-is : Indexes s (ranges (net .start) (net .end) 0 (net .sites)) table
   table-is = rw ranges-are (P .indexed)
 
-  -- the network that the lists and the labels hold
-  pub held : Held (net .start) (net .end) (net .sites) tags (P .read)
+  -- the network that the lists and the parents hold
+  pub held : Held (net .start) (net .end) (net .sites) parents (P .read)
   held = record { names = ranges-are; labels-are = P .labels-are }
 
   module _ (w : Step) (h : at < length s) (e : w ≡ stepOf ed s (P .read) number at) where
@@ -125,9 +125,9 @@ module _ {ed : Edition} {s table tags : List ℕ} {net : Lists} {at number : ℕ
     -- and the lines left go on from it
     on : (next : Network) → added (P .read) w ≡ accepted next → (after : Lists) → after ≡ lists next → (entries : List ℕ)
         → Indexes s (next .names) entries
-        → (joined : List ℕ) → joined ≡ labels PLACES (reverse (next .links)) → Progress ed s after entries joined (afterLine s at) (number + 1)
+        → {joined : List ℕ} → LabelsOf (next .links) joined → Progress ed s after entries joined (afterLine s at) (number + 1)
     unfolding afterLine andThen
-    on next q after l entries t joined m =
+    on next q after l entries t m =
         let read = line-is ∙ q in
         record {
           fits = P .fits;
@@ -142,15 +142,15 @@ module _ {ed : Edition} {s table tags : List ℕ} {net : Lists} {at number : ℕ
         }
 
     -- a heading leaves the lists as they are
-    pub by-heading : w ≡ step.Nothing → Progress ed s net table tags (afterLine s at) (number + 1)
-    by-heading q = on (P .read) (ap (added (P .read)) q) net (P .lists-are) table (P .indexed) tags (P .labels-are)
+    pub by-heading : w ≡ step.Nothing → Progress ed s net table parents (afterLine s at) (number + 1)
+    by-heading q = on (P .read) (ap (added (P .read)) q) net (P .lists-are) table (P .indexed) (P .labels-are)
 
     -- a site takes the next place of the names
     pub site-fits : (a b m : ℕ) → w ≡ step.Site a b m → net .sites < SITES
     site-fits a b m q = omega (arith, sites-are, sound-next _ (ap (added (P .read)) q) .few, length-append (P .read .names) ((a, b) ∷ []))
 
     pub by-site : (a b m : ℕ) → w ≡ step.Site a b m → (entries : List ℕ) → entries ≡ entered table (hash (part s (a, b))) (net .sites + 1)
-        → Progress ed s (siteStored net a b m) entries tags (afterLine s at) (number + 1)
+        → Progress ed s (siteStored net a b m) entries parents (afterLine s at) (number + 1)
     unfolding lists
     by-site a b m q entries e =
         let names = P .read .names in
@@ -161,7 +161,7 @@ module _ {ed : Edition} {s table tags : List ℕ} {net : Lists} {at number : ℕ
         on (withSite (P .read) (a, b) m) (ap (added (P .read)) q) _
         (rw (P .lists-are, placed (λ r. r .0) names (a, b) room, placed (λ r. r .1) names (a, b) room, marked, length-append names ((a, b) ∷ [])))
         entries (rw (e, sites-are) (site-entered (P .indexed) (a, b) room (sound-next _ (ap (added (P .read)) q) .different)))
-        tags (P .labels-are)
+        (P .labels-are)
 
     -- a link takes the next place of the links, and joins its sites
     link-behind : (a b : ℕ) → reverse (P .read .links ++ ((a, b) ∷ [])) ≡ (a, b) ∷ reverse (P .read .links)
@@ -177,12 +177,11 @@ module _ {ed : Edition} {s table tags : List ℕ} {net : Lists} {at number : ℕ
         let few = P .sound .few in
         omega (arith, links-are, links-are-few (P .sound) (omega arith))
 
-    pub by-link : (a b size : ℕ) → w ≡ step.Link a b size → (joined : List ℕ) → joined ≡ linked (take (net .sites + 1) tags) a b
-        → Progress ed s (linkStored net a b size) table (joined ++ drop (net .sites + 1) tags) (afterLine s at) (number + 1)
+    pub by-link : (a b size : ℕ) → w ≡ step.Link a b size → {after : List ℕ} → Joins parents after a b
+        → Progress ed s (linkStored net a b size) table after (afterLine s at) (number + 1)
     unfolding lists
-    by-link a b size q joined e =
+    by-link a b size q joins =
         let ls = P .read .links in
-        let are-sites = link-sites a b size q in
         let cs = P .read .capacities in
         let fits = link-fits a b size q in
         let room : length ls < SITES = omega (arith, links-are) in
@@ -190,12 +189,7 @@ module _ {ed : Edition} {s table tags : List ℕ} {net : Lists} {at number : ℕ
         = rw (← (P .sound .capacities)) (padded-more SITES cs size (omega (arith, P .sound .capacities))) in
         on (withLink (P .read) (a, b) size) (ap (added (P .read)) q) _
         (rw (P .lists-are, placed (λ l. l .0) ls (a, b) room, placed (λ l. l .1) ls (a, b) room, sized, length-append ls ((a, b) ∷ [])))
-        table (P .indexed)
-        (joined ++ drop (net .sites + 1) tags)
-        (ap (λ j. j ++ drop (net .sites + 1) tags) e ∙ ap₂ (λ k m. linked (take (k + 1) m) a b ++ drop (k + 1) m) sites-are (P .labels-are)
-        ∙ linked-at-the-sites PLACES (length (P .read .names)) (reverse ls) (P .sound .ends) (omega (arith, P .sound .few, P .fits)) a b (are-sites .0)
-        (are-sites .1)
-        ∙ labels-join PLACES a b (reverse ls) (fits .1) (fits .2) ∙ ap (labels PLACES) (sym (link-behind a b)))
+        table (P .indexed) (labels-join (P .labels-are) joins)
 
     -- a refused line decides
     pub by-refusal : (n l : ℕ) → w ≡ step.Refused n l → andThen (readLines ed s (length s) 1 0 empty) finish ≡ refused n l
@@ -204,27 +198,26 @@ module _ {ed : Edition} {s table tags : List ℕ} {net : Lists} {at number : ℕ
 
   -- ---- after the last line
 
-  module _ (h : length s ≤ at) where
+  module _ (h : length s ≤ at) {labels : List ℕ} (settled : Settled parents labels) where
     finished : andThen (readLines ed s (length s) 1 0 empty) finish ≡ finish (P .read)
     unfolding andThen
     finished = rw (P .rest, lines-end ed s (length s - at) number at (P .read) h)
 
-    all-joined : finish (P .read) ≡ cond (whole tags (net .sites)) (accepted (P .read)) (refused 8 0)
+    all-joined : finish (P .read) ≡ cond (whole labels (net .sites)) (accepted (P .read)) (refused 8 0)
     unfolding finish
     all-joined =
         rw (
-          whole-sites tags (net .sites) (omega (arith, lengths)),
-          alike-tells (P .read .links) PLACES 1 (length (P .read .names)) (omega arith) (omega (arith, P .sound .few)),
-          ← (P .labels-are),
+          whole-sites labels (net .sites) (omega (arith, lengths, settled .long)),
+          alike-tells (P .labels-are) settled 1 (length (P .read .names)) (omega (arith, P .sound .few, P .fits)),
           ← sites-are,
         )
 
     -- under two sites, or not all joined
-    pub by-parts : whole tags (net .sites) ≡ false → andThen (readLines ed s (length s) 1 0 empty) finish ≡ refused 8 0
+    pub by-parts : whole labels (net .sites) ≡ false → andThen (readLines ed s (length s) 1 0 empty) finish ≡ refused 8 0
     by-parts e = finished ∙ all-joined ∙ rw e
 
     -- else the network is that of the lists
-    pub by-acceptance : whole tags (net .sites) ≡ true
+    pub by-acceptance : whole labels (net .sites) ≡ true
         → reading (andThen (readLines ed s (length s) 1 0 empty) finish) ≡ record { answer = Accepted; network = net }
     unfolding reading
     by-acceptance e = rw (finished, all-joined, e, ← (P .lists-are))

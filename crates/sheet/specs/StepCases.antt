@@ -1,4 +1,4 @@
--- A step, case by case: the ending of the line first, then its number; and that a site which a look-up finds has a label.
+-- A step, case by case: the ending of the line first, then its number; and that a site which a look-up finds has a place.
 use mathlib.Core.List.{List}
 use mathlib.Core.Logic.{_≢_}
 use mathlib.Core.Path.{_≡_}
@@ -30,12 +30,12 @@ module _ (ed : Edition) (s : List ℕ) (net : Network) (k at : ℕ) where
   unfolding stepOf
   later-step h d = rw (lt-ltb (at + lineLength (drop at s)) (length s) (omega (arith, length-of-line s at)), ne-eqb k 1 d)
 
--- a site that is found has one of n labels
+-- a site that is found has one of n places
 abbrev pub Labelled : ℕ → Found → Type 0
 Labelled n (At v) = v < n
 Labelled n Absent = Unit {0}
 
--- what is found among fewer than n sites has one of n labels
+-- what is found among fewer than n sites has one of n places
 pub labelled : (s f : List ℕ) (names : List (ℕ × ℕ)) (n : ℕ) → length names < n → Labelled n (lookup s names f)
 labelled s f names n l = by (lookup s names f) (lookup-says s f names 1)
   where

@@ -34,6 +34,12 @@ pub struct Lists {
     pub links: usize,
 }
 
+// A part of a sheet, from a start to an end.
+pub struct Range {
+    pub start: usize,
+    pub end: usize,
+}
+
 // What reading a sheet comes to; the network of a sheet that is refused is empty.
 pub struct Reading {
     pub answer: Answer,
@@ -73,24 +79,24 @@ fn read_lines(sheet: &[u8], edition: Edition) -> Reading
 {
     let mut net = nothing();
     let mut table = [0u16; TABLE];
-    let mut labels = tree_labels::own_labels();
+    let mut parents = tree_labels::own_parents();
     let mut at = 0;
     let mut number = 1;
     while text_lines::has_line(sheet, at) {
-        let line = text_lines::line(sheet, at);
+        let found = sheet_scan::scan(sheet, at, edition);
         let step = stepping::step_at(
             edition,
             sheet,
-            line,
+            found,
             &net.start,
             &net.end,
             net.sites,
             &table,
-            &labels,
+            &parents,
             number,
             at,
         );
-        at = text_lines::rest(sheet, at + line.len());
+        at = found.next;
         number += 1;
         match step {
             Step::Refused { number: n, line } => {
@@ -111,12 +117,12 @@ fn read_lines(sheet: &[u8], edition: Edition) -> Reading
                 net.two[i] = two;
                 net.capacity[i] = size;
                 net.links = i + 1;
-                let places = net.sites + 1;
-                tree_labels::join(&mut labels[..places], one, two);
+                tree_labels::join(&mut parents, one, two);
             }
         }
     }
-    if !tree_labels::is_whole(&labels, net.sites) {
+    tree_labels::settle(&mut parents);
+    if !tree_labels::is_whole(&parents, net.sites) {
         return refusal(8, 0);
     }
     Reading {
@@ -171,20 +177,31 @@ pub fn read_high(sheet: &[u8]) -> Reading
     read_as(sheet, Edition::high())
 }
 
+// Where the name of a site stands on the sheet, by the site's number; 0 to 0 for a number without a site, or over a sheet that is refused.
+pub fn name_range(sheet: &[u8], site: usize) -> Range
+    ensures { λ r. ⌜ (r .start, r .end) ≡ nameRange editions (now (sheet .entry)) site ⌝ }
+{
+    let edition = edition_of(sheet);
+    if site < 1 {
+        return Range { start: 0, end: 0 };
+    }
+    if site > edition.sites {
+        return Range { start: 0, end: 0 };
+    }
+    let reading = read_as(sheet, edition);
+    let network = reading.network;
+    let i = site - 1;
+    Range {
+        start: network.start[i],
+        end: network.end[i],
+    }
+}
+
 // The name of a site, by its number: the bytes of its own `N` or `T` line, that very part of the sheet; an empty part for a number without a site, or
 // over a sheet that is refused.
 pub fn name(sheet: &[u8], site: usize) -> &[u8]
     ensures { λ r. ⌜ IsPart (sheet .entry) (nameRange editions (now (sheet .entry)) site) r ⌝ }
 {
-    let edition = edition_of(sheet);
-    if site < 1 {
-        return &sheet[0..0];
-    }
-    if site > edition.sites {
-        return &sheet[0..0];
-    }
-    let reading = read_as(sheet, edition);
-    let network = reading.network;
-    let i = site - 1;
-    sheet_names::part(sheet, network.start[i], network.end[i])
+    let range = name_range(sheet, site);
+    sheet_names::part(sheet, range.start, range.end)
 }

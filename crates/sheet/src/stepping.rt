@@ -7,6 +7,7 @@ ghost use Rattle.model.specs.Flows.{Links};
 ghost use Rattle.text_lines.specs.Lines.{lineAt};
 ghost use Rattle.sheet_kinds.specs.FormedLines.{Formed};
 ghost use Rattle.sheet_names.specs.Names.{ranges, Indexes};
+ghost use Rattle.sheet_scan.specs.Scan.{scanned};
 ghost use Rattle.sheet.specs.Sheet.{Network, siteStep, linkStep, headingStep, recordStep, stepOf};
 ghost use Rattle.sheet.specs.Held.{LabelsOf, Held};
 ghost use Rattle.sheet.specs.StepCases.{Labelled};
@@ -16,6 +17,7 @@ use model::SITES;
 use sheet_kinds::Line;
 use sheet_names::Found;
 use sheet_names::TABLE;
+use sheet_scan::Scanned;
 
 // What a line adds to the network, or its refusal: the number and the line.
 pub enum Step {
@@ -52,10 +54,10 @@ fn site_step(
     }
 }
 
-// What a link line adds, by what the look-ups of its two names found, and the labels of the sites.
-fn link_step(here: usize, labels: &[u16; PLACES], first: Found, second: Found, size: u64) -> Step
+// What a link line adds, by what the look-ups of its two names found, and the parents of the sites.
+fn link_step(here: usize, parents: &[u16; PLACES], first: Found, second: Found, size: u64) -> Step
     requires { ⌜ Labelled PLACES first × Labelled PLACES second ⌝ }
-    ensures { λ r. ⌜ ((ls : Links) → LabelsOf ls (now (labels .entry)) → r ≡ linkStep here ls size first second) ⌝ }
+    ensures { λ r. ⌜ ((ls : Links) → LabelsOf ls (now (parents .entry)) → r ≡ linkStep here ls size first second) ⌝ }
 {
     let Found::At(one) = first else {
         return Step::Refused {
@@ -69,7 +71,7 @@ fn link_step(here: usize, labels: &[u16; PLACES], first: Found, second: Found, s
             line: here,
         };
     };
-    if labels[one] == labels[two] {
+    if tree_labels::root(parents, one) == tree_labels::root(parents, two) {
         return Step::Refused {
             number: 7,
             line: here,
@@ -97,13 +99,13 @@ fn record_step(
     ends: &[usize; SITES],
     sites: usize,
     table: &[u16; TABLE],
-    labels: &[u16; PLACES],
+    parents: &[u16; PLACES],
     at: usize,
     line: Line,
 ) -> Step
     requires { ⌜ (sites ≤ SITES) × Indexes (now sheet) (ranges (now starts) (now ends) 0 sites) (now table)
         × (at + length (lineAt (now sheet) at) < length (now sheet)) × Formed (edition .size) (lineAt (now sheet) at) line ⌝ }
-    ensures { λ r. ⌜ ((net : Network) → Held (now (starts .entry)) (now (ends .entry)) sites (now (labels .entry)) net
+    ensures { λ r. ⌜ ((net : Network) → Held (now (starts .entry)) (now (ends .entry)) sites (now (parents .entry)) net
         → r ≡ recordStep edition (now (sheet .entry)) net here at line) ⌝ }
 {
     match line {
@@ -125,40 +127,41 @@ fn record_step(
             let two = sheet_names::part(sheet, at + start2, at + end2);
             let first = sheet_names::find(sheet, starts, ends, sites, table, one);
             let second = sheet_names::find(sheet, starts, ends, sites, table, two);
-            link_step(here, labels, first, second, size)
+            link_step(here, parents, first, second, size)
         }
         Line::Fault(number) => Step::Refused { number, line: here },
     }
 }
 
-// What the line at an offset adds, `number` being its number, to any network that the lists and the labels hold.
+// What the line at an offset, as it was scanned, adds, `number` being its number, to any network that the lists and the parents hold.
 pub fn step_at<'a>(
     edition: Edition,
     sheet: &[u8],
-    line: &[u8],
+    found: Scanned,
     starts: &'a [usize; SITES],
     ends: &'a [usize; SITES],
     sites: usize,
     table: &[u16; TABLE],
-    labels: &[u16; PLACES],
+    parents: &[u16; PLACES],
     number: usize,
     at: usize,
 ) -> Step
     requires { ⌜ (sites ≤ SITES) × Indexes (now sheet) (ranges (now starts) (now ends) 0 sites) (now table) × (at ≤ length (now sheet))
-        × (now line ≡ lineAt (now sheet) at) ⌝ }
-    ensures { λ r. ⌜ ((net : Network) → Held (now (starts .entry)) (now (ends .entry)) sites (now (labels .entry)) net
+        × (found ≡ scanned edition (now sheet) at) ⌝ }
+    ensures { λ r. ⌜ ((net : Network) → Held (now (starts .entry)) (now (ends .entry)) sites (now (parents .entry)) net
         → r ≡ stepOf edition (now (sheet .entry)) net number at) ⌝ }
 {
-    if at + line.len() >= sheet.len() {
+    if found.end >= sheet.len() {
         return Step::Refused {
             number: 2,
             line: number,
         };
     }
     if number == 1 {
+        let line = text_lines::line(sheet, at);
         return heading_step(edition, line);
     }
-    let kind = sheet_kinds::classify(line, edition);
+    let kind = found.line;
     record_step(
         edition,
         number,
@@ -167,7 +170,7 @@ pub fn step_at<'a>(
         ends,
         sites,
         table,
-        labels,
+        parents,
         at,
         kind,
     )

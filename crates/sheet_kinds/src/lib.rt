@@ -150,7 +150,7 @@ fn of_range(low: u64, high: u64, taken: u64) -> Capacity
 }
 
 // The capacity that two numbers within the limit give.
-fn paired(sizing: Sizing, first: u64, second: u64) -> Capacity
+pub fn paired(sizing: Sizing, first: u64, second: u64) -> Capacity
     ensures { λ r. ⌜ r ≡ paired sizing first second ⌝ }
 {
     match sizing {

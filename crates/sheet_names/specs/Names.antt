@@ -60,9 +60,9 @@ unfoldable pub hashFrom : ℕ → List ℕ → ℕ
 hashFrom h [] = h
 hashFrom h (b ∷ bs) = hashFrom ((h * 31 + b) % HASHES) bs
 
--- the hash of a name, a number below HASHES: that of its last eight caseless bytes, or of all of fewer
+-- the hash of a name, a number below HASHES: that of its last eight caseless bytes (1531 is the greatest prime below HASHES), or of all of fewer
 unfoldable pub hash : List ℕ → ℕ
-hash f = cond (ltb (length f) 8) (hashFrom 0 (caseless f)) (lastWord (caseless f) % 65521 % HASHES)
+hash f = cond (ltb (length f) 8) (hashFrom 0 (caseless f)) (lastWord (caseless f) % 1531)
 
 -- the table with one site more, whose name has the hash h: it is the newest with that hash, and the one that was comes before it
 abbrev pub entered : List ℕ → ℕ → ℕ → List ℕ

@@ -36,9 +36,9 @@ pub hash-below : (f : List ℕ) → hash f < HASHES
 unfolding hash
 hash-below f = by (ltb (length f) 8)
   where
-    by : (t : Bool) → cond t (hashFrom 0 (caseless f)) (lastWord (caseless f) % 65521 % HASHES) < HASHES
+    by : (t : Bool) → cond t (hashFrom 0 (caseless f)) (lastWord (caseless f) % 1531) < HASHES
     by true = from-below 0 (caseless f) (omega arith)
-    by false = mod-lt (lastWord (caseless f) % 65521) (omega arith)
+    by false = let below : lastWord (caseless f) % 1531 < 1531 = mod-lt (lastWord (caseless f)) (omega arith) in omega arith
 
 -- names that are the same have one hash
 pub same-names-have-one-hash : (f g : List ℕ) → SameName f g → hash f ≡ hash g

@@ -57,7 +57,7 @@ fn hash(name: &[u8]) -> usize
     if name.len() < 8 {
         return hash_bytes(name);
     }
-    (text_fields::last_word(name) % 65521) as usize % HASHES
+    (text_fields::last_word(name) % 1531) as usize
 }
 
 // The table with one site more, whose name is the part from a start to an end: it is the newest with its hash, and the one that was comes before it.

@@ -1,27 +1,30 @@
 -- What stands ready on the way to the report of a range sheet: the networks of an accepted sheet with its low and with its high sizes, as lists and taken
 -- apart; what is worked out of them is the span, and can be written.
 use mathlib.Core.Path.{_≡_, refl, sym, ap, subst, _∙_}
-use mathlib.Core.List.{List, [], map}
-use Prim.Native.Nat.{ℕ, suc, _*_, _≤_, _<_}
+use mathlib.Core.Bool.{true}
+use mathlib.Core.List.{List, map, _++_}
+use Prim.Native.Nat.{ℕ, suc, _+_, _*_, _≤_, _<_}
 use native.Mathlib.Omega.{arith}
+use borrow.Author.Tests.{le-leb}
+use lib.Dec.{leb}
 use lib.ListN.{length, take, length-map, List·getD-map}
 use Rattle.lists.specs.Numbers.{look}
-use Rattle.lists.specs.Places.{over-eq}
-use Rattle.lists.specs.Sums.{contradiction, pick-other}
+use Rattle.lists.specs.Sums.{contradiction}
 use Rattle.model.specs.Edition.{largest, rangesLow, rangesHigh}
-use Rattle.model.specs.Flows.{one, two, sites, ends, total, atTerminals}
+use Rattle.model.specs.Flows.{one, two, ends, total, atTerminals}
 use Rattle.model.specs.Limits.{LINKS, REPORT, SITES, SIZE}
 use Rattle.model.specs.Parts.{pairListOfParts}
+use Rattle.model.specs.Trimming.{balanced}
 use Rattle.model.specs.declared.Edition.{Edition}
 use Rattle.theory_trees.specs.Greatest.{balanced-is-greatest, balanced-has-each-link}
-use Rattle.theory_trees.specs.Sites.{sites-site}
 use Rattle.theory_ranges.specs.Ranges.{the-largest-total-is-the-sum-at-the-terminals}
-use Rattle.theory_regions.specs.Regions.{own, ownSum}
+use Rattle.theory_regions.specs.Regions.{own}
 use Rattle.tree.specs.Accepted.{MarkedTree}
 use Rattle.tree.specs.Offer.{links}
 use Rattle.trimming.specs.Outcome.{capacities}
-use Rattle.region_sizes.specs.Offered.{regionBy}
-use Rattle.text_writers.specs.Wrote.{Wrote}
+use Rattle.region_sizes.specs.Chart.{Charted}
+use Rattle.region_sizes.specs.Laws.{the-front-is-trimmed, without-a-far-site}
+use Rattle.region_sizes.specs.declared.Chart.{Chart}
 use Rattle.text_fields.specs.FieldLaws.{name-length}
 use Rattle.sheet.specs.Ranges.{Ranged, ReadAlike, a-range-sheet-is-read-alike}
 use Rattle.sheet.specs.Reading.{lists, reading}
@@ -33,13 +36,12 @@ use Rattle.report.specs.Length.{SmallSpan, a-small-span-has-a-small-report}
 use Rattle.report.specs.Span.{trimmedSizes, largestTotal, spanOf, spanText, spanReport}
 use Rattle.report.specs.SpanShown.{spanBy, Ranges}
 use Rattle.planner.specs.Figures.{halves, halves-can-be-shown}
-use Rattle.planner.specs.Fits.{too-long, long-enough}
-use Rattle.planner.specs.Outcome.{Planned, deliver}
+use Rattle.planner.specs.Outcome.{deliver}
 use Rattle.planner.specs.Shows.{starts, stops, names}
 use Rattle.planner.specs.Small.{name-or-nothing, few-links, total-shown-within}
 use Rattle.planner.specs.Taken.{padded-length, padded-front, links-again}
 use Rattle.planner.specs.Works.{named-site}
-use Rattle.planner.specs.declared.Outcome.the-variants.{Report, Refused}
+use Rattle.planner.specs.declared.Outcome.the-variants.{Refused}
 use Rattle.spans.specs.Outcome.{networkOf, spanRead, spanned}
 
 -- ---- what is read
@@ -171,20 +173,22 @@ module _ {s : List ℕ} {low high : Lists} (r : Listed s low high) where
 unfoldable pub totalBy : ℕ → List ℕ → List ℕ → List ℕ → List ℕ → ℕ
 totalBy n one two marks c = total (pairListOfParts (links one two) n (look (capacities n one two marks c)) (look (ends (links one two) n marks)))
 
--- with 0 for the far site the sum over the own ends is that over all ends
-all-ends : (n : ℕ) (one two marks t : List ℕ) → ownSum (regionBy n one two marks []) 0 t ≡ atTerminals (links one two) n (look (ends
-    (links one two) n marks)) (look t)
-unfolding ownSum atTerminals own
-all-ends n one two marks t = over-eq (sites n) _ _
-    (λ w q. rw (pick-other {u = w} {v = 0} (λ e. omega (arith, sites-site n w q .0)) 0 (look (ends (links one two) n marks) w)) refl)
+module _ {n : ℕ} {one two marks c : List ℕ} (w : MarkedTree largest n one two marks c) {chart : Chart} (charted : Charted n one two marks chart) where
+  -- by the chart of a tree its trimmed sizes stand at the front of a list
+  pub the-front-is-worked-out : (rest list : List ℕ) → list ≡ balanced (links one two) n (look (chart .ends)) c ++ rest
+      → take (length one) list ≡ capacities n one two marks c
+  unfolding capacities
+  the-front-is-worked-out rest list e =
+      the-front-is-trimmed (w .within) (look (chart .ends)) rest list e ∙ ap (λ (t : ℕ → ℕ). balanced (links one two) n t c) (charted .ended)
 
--- so it is the largest total
-pub the-sum-over-all-ends-is-the-largest-total : (n : ℕ) (one two marks c : List ℕ) → MarkedTree largest n one two marks c
-    → ownSum (regionBy n one two marks []) 0 (capacities n one two marks c) ≡ totalBy n one two marks c
-unfolding totalBy capacities
-the-sum-over-all-ends-is-the-largest-total n one two marks c w =
-    all-ends n one two marks (capacities n one two marks c)
-    ∙ sym (the-largest-total-is-the-sum-at-the-terminals (w .within .tree) (look (ends (links one two) n marks)) c)
+  -- and their sum over all ends is the largest total
+  pub the-sum-is-the-largest-total : atTerminals (links one two) n (own (look (chart .ends)) 0) (look (balanced (links one two) n (look (chart .ends)) c))
+      ≡ totalBy n one two marks c
+  unfolding totalBy capacities
+  the-sum-is-the-largest-total =
+      without-a-far-site (links one two) n (look (chart .ends)) (look (balanced (links one two) n (look (chart .ends)) c))
+      ∙ ap (λ (t : ℕ → ℕ). atTerminals (links one two) n t (look (balanced (links one two) n t c))) (charted .ended)
+      ∙ sym (the-largest-total-is-the-sum-at-the-terminals (w .within .tree) (look (ends (links one two) n marks)) c)
 
 -- the two networks of a range sheet have the same sites and links
 pub the-two-networks : (s : List ℕ) (low high : Network) → readAs rangesLow s ≡ accepted low → readAs rangesHigh s ≡ accepted high → Ranged low high
@@ -330,16 +334,6 @@ module _ {s starting stopping : List ℕ} {n : ℕ} {one-sites two-sites marks l
     unfolding spanned spanRead networkOf spanReport
     the-span-is-delivered b = rw (the-lists-show-the-span, a .read-low, a .read-high) refl
 
--- ---- what is measured
-
--- a report that is measured, written or not
-pub measured-too-long : {none after : List ℕ} {k : ℕ} (r b : List ℕ) → Wrote none 0 r after k → length b < k
-    → deliver r b ≡ record { outcome = Refused 9 0; buffer = b }
-measured-too-long r b w h = too-long r b (omega (arith, w .next))
-
-pub measured-fitting : {none after written : List ℕ} {k m : ℕ} (r b : List ℕ) → Wrote none 0 r after k → k ≤ length b → Wrote b 0 r written m
-    → deliver r b ≡ record { outcome = Report k; buffer = written }
-measured-fitting {written = written} {k = k} {m = m} r b v h w =
-    let same : m ≡ k = omega (arith, v .next, w .next) in
-    let the-planned : ℕ → Planned = λ i. record { outcome = Report i; buffer = written } in
-    long-enough r b written m (omega (arith, v .next)) w ∙ ap the-planned same
+-- a buffer with room for the longest report has room for any
+pub a-report-fits-its-room : (k room : ℕ) → 0 + k ≤ REPORT → REPORT ≤ room → true ≡ leb k room
+a-report-fits-its-room k room h l = sym (le-leb k room (omega arith))

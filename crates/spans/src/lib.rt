@@ -1,39 +1,61 @@
 // The span of a range sheet (document 02, Card 11): sizes still under survey are known as between a low and a high one; the report tells what the total and
 // the trimmed sizes lie between.
 ghost use mathlib.Core.Path.{_≡_};
-ghost use mathlib.Core.List.{_++_};
 ghost use Prim.Native.Nat.{_≤_};
-ghost use lib.ListN.{length, take, drop};
-ghost use Rattle.model.specs.Edition.{largest};
-ghost use Rattle.tree.specs.Accepted.{MarkedTree};
-ghost use Rattle.trimming.specs.Outcome.{capacities};
+ghost use lib.Dec.{leb};
+ghost use lib.ListN.{length, take};
 ghost use Rattle.text_writers.specs.Wrote.{Room};
 ghost use Rattle.report.specs.Span.{spanText};
 ghost use Rattle.report.specs.SpanShown.{spanBy, Ranges};
 ghost use Rattle.planner.specs.Outcome.{deliver};
 ghost use Rattle.spans.specs.Outcome.{spanned};
-ghost use Rattle.spans.specs.Ready.{totalBy, Apart, Listed};
+ghost use Rattle.spans.specs.Ready.{Apart, Listed};
+use model::REPORT;
 use model::SITES;
 use planner::Outcome;
 use sheet::Answer;
 use sheet::Lists;
 
-// The trimmed sizes of a tree, at the front of a lent list, and its largest total in halves.
-fn work_out(
-    n: usize,
+// Whether the report of lists goes into so many bytes. Its length is measured only where there are fewer than the longest report has.
+fn fits(
+    sheet: &[u8],
+    start: &[usize],
+    end: &[usize],
     one: &[usize],
     two: &[usize],
-    marks: &[u8],
-    capacity: &[u64],
-    sizes: &mut [u64],
-) -> u64
-    requires { ⌜ MarkedTree largest n (now one) (now two) (now marks) (now capacity) × (length (now one) ≤ length (now sizes)) ⌝ }
-    ensures told { λ r. ⌜ r ≡ totalBy n (now (one .entry)) (now (two .entry)) (now (marks .entry)) (now (capacity .entry)) ⌝ }
-    ensures left { λ r. ⌜ now (sizes .exit) ≡ capacities n (now (one .entry)) (now (two .entry)) (now (marks .entry)) (now (capacity .entry))
-        ++ drop (length (now (one .entry))) (now (sizes .entry)) ⌝ }
+    low: &[u64],
+    high: &[u64],
+    least: &[u64],
+    greatest: &[u64],
+    lower: u64,
+    upper: u64,
+    room: usize,
+) -> bool
+    requires { ⌜ Ranges (now sheet) (now start) (now end) (now one) (now two) (now low) (now high) (now least) (now greatest)
+        × Room 0 (spanText (spanBy (now sheet) (now start) (now end) (now one) (now two) (now low) (now high) (now least) (now greatest) lower upper)) ⌝ }
+    ensures { λ r. ⌜ r ≡ leb (length (spanText
+        (spanBy (now (sheet .entry)) (now (start .entry)) (now (end .entry)) (now (one .entry)) (now (two .entry)) (now (low .entry)) (now (high .entry))
+        (now (least .entry)) (now (greatest .entry)) lower upper))) room ⌝ }
 {
-    region_sizes::trim(n, one, two, marks, capacity, sizes);
-    region_sizes::own_sum(n, one, two, marks, 0, &sizes[..one.len()])
+    if REPORT <= room {
+        return true;
+    }
+    let mut none = [0u8; 1];
+    let length = report::write_span(
+        sheet,
+        start,
+        end,
+        one,
+        two,
+        low,
+        high,
+        least,
+        greatest,
+        lower,
+        upper,
+        &mut none,
+    );
+    length <= room
 }
 
 // The report of lists into the buffer; a buffer too short for it keeps its bytes.
@@ -60,8 +82,8 @@ fn deliver(
         (spanBy (now (sheet .entry)) (now (start .entry)) (now (end .entry)) (now (one .entry)) (now (two .entry)) (now (low .entry)) (now (high .entry))
         (now (least .entry)) (now (greatest .entry)) lower upper)) (now (report .entry)) .buffer ⌝ }
 {
-    let mut none = [0u8; 1];
-    let length = report::write_span(
+    let room = report.len();
+    if fits(
         sheet,
         start,
         end,
@@ -73,29 +95,28 @@ fn deliver(
         greatest,
         lower,
         upper,
-        &mut none,
-    );
-    if length > report.len() {
-        return Outcome::Refused { number: 9, line: 0 };
+        room,
+    ) {
+        let length = report::write_span(
+            sheet,
+            start,
+            end,
+            one,
+            two,
+            low,
+            high,
+            least,
+            greatest,
+            lower,
+            upper,
+            report,
+        );
+        return Outcome::Report { length };
     }
-    report::write_span(
-        sheet,
-        start,
-        end,
-        one,
-        two,
-        low,
-        high,
-        least,
-        greatest,
-        lower,
-        upper,
-        report,
-    );
-    Outcome::Report { length }
+    Outcome::Refused { number: 9, line: 0 }
 }
 
-// The lists of an accepted range sheet: its low and its high sizes trimmed, and their span reported.
+// The lists of an accepted range sheet: its tree is charted once, its low and its high sizes are trimmed, and their span is reported.
 fn span_lists(
     sheet: &[u8],
     start: &[usize],
@@ -115,8 +136,9 @@ fn span_lists(
     let m = one.len();
     let mut least = [0u64; SITES];
     let mut greatest = [0u64; SITES];
-    let lower = work_out(n, one, two, marks, low, &mut least);
-    let upper = work_out(n, one, two, marks, high, &mut greatest);
+    let chart = region_sizes::chart_of(n, one, two, marks, low);
+    let lower = region_sizes::trim(n, chart, one, two, low, 0, &mut least);
+    let upper = region_sizes::trim(n, chart, one, two, high, 0, &mut greatest);
     deliver(
         sheet,
         start,

@@ -155,14 +155,14 @@ fn between(b: u8, low: u8, high: u8) -> bool
 }
 
 // Whether a byte is one of 0-9.
-fn is_digit(b: u8) -> bool
+pub fn is_digit(b: u8) -> bool
     ensures { λ r. ⌜ r ≡ isDigit b ⌝ }
 {
     between(b, b'0', b'9')
 }
 
 // Whether a byte is one of A-Z, a-z, 0-9.
-fn is_letter_or_digit(b: u8) -> bool
+pub fn is_letter_or_digit(b: u8) -> bool
     ensures { λ r. ⌜ r ≡ isLetterOrDigit b ⌝ }
 {
     if between(b, b'A', b'Z') {

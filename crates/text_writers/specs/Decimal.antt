@@ -1,14 +1,13 @@
--- Laws of numbers in decimal: the last digit stands behind the others, and a number below 10 ^ k has at most k digits.
-use mathlib.Core.Path.{_≡_, sym, ap, _∙_}
-use mathlib.Core.List.{List, [], _∷_, _++_, append-assoc}
-use Prim.Native.Nat.{ℕ, zero, suc, _+_, _-_, _/_, _%_, _^_, _≤_, _<_}
+-- Laws of numbers in decimal: the last digit stands behind the others, a number below 10 ^ k has at most k digits, and its low digits are those of its rest.
+use mathlib.Core.Path.{_≡_, refl, ap, _∙_}
+use mathlib.Core.List.{List, [], _∷_, _++_, append-assoc, append-nil}
+use Prim.Native.Nat.{ℕ, zero, suc, _+_, _*_, _/_, _%_, _^_, _≤_, _<_}
 use native.Mathlib.Omega.{arith}
 use native.Mathlib.Decide.{decLt}
-use native.Mathlib.Nat.{pow-suc}
+use native.Mathlib.Nat.{pow-suc, one-le-pow, mul-le-mul}
 use borrow.Author.Tests.{lt-ltb, le-ltb}
-use lib.ListN.{length, set, take, drop, length-append, length-drop, length-set}
-use lib.Seq.{drop-cons, getD-set-same, drop-set-lt, take-all}
-use Rattle.text_writers.specs.Fields.{digits, decimal}
+use lib.ListN.{length, length-append}
+use Rattle.text_writers.specs.Fields.{digits, decimal, padded}
 
 -- any fuel above the number gives the same digits
 fuel-free : (f g n : ℕ) → n < f → n < g → digits f n ≡ digits g n
@@ -60,21 +59,33 @@ decimal-some n = elim (decLt n 10) [
   | no l ↦ omega (arith, decimal-shorter n (omega arith))
 ]
 
--- ---- digits found from the last to the first, in a list of places
+-- ---- digits in pieces
 
-digit-put : (l : List ℕ) (k x : ℕ) → k < length l → drop k (set l k x) ≡ x ∷ drop (suc k) l
-digit-put l k x h = drop-cons (set l k x) k 0 (omega (arith, length-set l k x)) ∙ rw (getD-set-same l k x 0 h, drop-set-lt (suc k) l k x (omega arith))
+-- a number from its high and its low part, over any power of ten
+pub decimal-pieces : (k h l n : ℕ) → n ≡ h * 10 ^ k + l → 1 ≤ h → l < 10 ^ k → decimal n ≡ decimal h ++ padded k l
+unfolding padded
+decimal-pieces zero h l n e p q = rw append-nil (ap decimal (omega (arith, e, q)))
+decimal-pieces (suc k) h l n e p q =
+    let x = h * 10 ^ k in
+    let tens : n ≡ x * 10 + l = omega (arith, ap (λ m. h * m) (pow-suc 10 k)) in
+    let some : 1 * 1 ≤ x = mul-le-mul p (one-le-pow k 10 (omega arith)) in
+    let high : n / 10 ≡ x + l / 10 = omega (arith, tens) in
+    let last : n % 10 ≡ l % 10 = omega (arith, tens) in
+    let low : l / 10 < 10 ^ k = omega (arith, pow-suc 10 k) in
+    decimal-large n (omega (arith, tens, some)) ∙ rw (last, decimal-pieces k h (l / 10) (n / 10) high p low)
+    (append-assoc (decimal h) (padded k (l / 10)) ((48 + l % 10) ∷ []))
 
--- one digit more
-pub digit-next : (n rest k : ℕ) (l : List ℕ) → decimal n ≡ decimal rest ++ drop (suc k) l → 10 ≤ rest → k < length l → 1 ≤ k
-    → decimal n ≡ decimal (rest / 10) ++ drop (suc (k - 1)) (set l k (48 + rest % 10))
-digit-next n rest k l e h q p =
-    let same : suc (k - 1) ≡ k = omega arith in
-    rw (same, digit-put l k (48 + rest % 10) q) (e ∙ rw (decimal-large rest h) (append-assoc (decimal (rest / 10)) ((48 + rest % 10) ∷ []) (drop (suc k) l)))
+-- a number with as many digits as are told
+pub decimal-full : (k n : ℕ) → 10 ^ k ≤ n → n < 10 ^ suc k → decimal n ≡ padded (suc k) n
+unfolding padded
+decimal-full zero n p q = decimal-small n (omega arith) ∙ (let e : n % 10 ≡ n = omega arith in rw e)
+decimal-full (suc k) n p q =
+    let low : 10 ^ k ≤ n / 10 = omega (arith, pow-suc 10 k) in
+    let high : n / 10 < 10 ^ suc k = omega (arith, pow-suc 10 (suc k)) in
+    decimal-large n (omega (arith, pow-suc 10 k, one-le-pow k 10 (omega arith))) ∙ rw (decimal-full k (n / 10) low high)
 
--- the first digit, and with it all of them
-pub digit-last : (n rest k m : ℕ) (l : List ℕ) → decimal n ≡ decimal rest ++ drop (suc k) l → rest < 10 → k < length l → m ≡ length l - k
-    → take m (drop k (set l k (48 + rest))) ≡ decimal n
-digit-last n rest k m l e h q same =
-    take-all m (drop k (set l k (48 + rest))) (omega (arith, length-drop k (set l k (48 + rest)), length-set l k (48 + rest)))
-    ∙ digit-put l k (48 + rest) q ∙ sym (e ∙ rw (decimal-small rest h))
+-- so many digits are so many
+pub padded-length : (k n : ℕ) → length (padded k n) ≡ k
+unfolding padded
+padded-length zero n = refl
+padded-length (suc k) n = omega (arith, length-append (padded k (n / 10)) ((48 + n % 10) ∷ []), padded-length k (n / 10))

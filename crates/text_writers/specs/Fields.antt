@@ -12,6 +12,11 @@ digits (suc fuel) n = cond (ltb n 10) ((48 + n) ∷ []) (digits fuel (n / 10) ++
 unfoldable pub decimal : ℕ → List ℕ
 decimal n = digits (suc n) n
 
+-- the last k digits of a number, zeros in front where it has fewer
+unfoldable pub padded : ℕ → ℕ → List ℕ
+padded zero n = []
+padded (suc k) n = padded k (n / 10) ++ ((48 + n % 10) ∷ [])
+
 -- fields parted by one tab and ended by byte 10
 unfoldable pub line : List (List ℕ) → List ℕ
 line [] = []

@@ -1,2 +1,3 @@
 pub mod Labels
 pub mod LabelPlaces
+pub mod Roots

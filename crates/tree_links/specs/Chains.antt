@@ -42,6 +42,10 @@ pub record Limited (one c : List ℕ) : Type 0 where
   pub places : length one ≤ length c
   pub small : (j : ℕ) → j < length one → look c j ≤ SIZE
 
+-- place v of a list holds what the links at site v carry together
+abbrev pub Summed : Links → (ℕ → ℕ) → List ℕ → Type 0
+Summed ls t l = (v : ℕ) → v ≤ SITES → look l v ≡ sumAt ls v t
+
 -- an accepted tree is placed, and its capacities are limited
 module _ {n : ℕ} {a b c : List ℕ} (w : TreeWithin largest n a b c) where
   pub offer-placed : Placed a b

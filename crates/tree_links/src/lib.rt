@@ -1,14 +1,16 @@
 // Inner: the links at each site of a tree as chains, the sums along them, and the ends. Only the planner's own crates call it.
 ghost use mathlib.Core.Logic.{_≢_};
 ghost use mathlib.Core.Path.{_≡_};
-ghost use Prim.Native.Nat.{ℕ, _+_, _*_, _≤_, _<_};
+ghost use Prim.Native.Nat.{ℕ, suc, _+_, _*_, _≤_, _<_};
 ghost use lib.ListN.{length};
 ghost use Rattle.model.specs.Limits.{SITES};
 ghost use Rattle.lists.specs.Numbers.{pick, look};
 ghost use Rattle.model.specs.Flows.{sumAt, leaf, mark, endAt, ends};
+ghost use Rattle.model.specs.Edition.{largest};
 ghost use Rattle.tree.specs.Offer.{links};
+ghost use Rattle.tree.specs.Accepted.{TreeWithin};
 ghost use Rattle.tree.specs.Steps.{Tells};
-ghost use Rattle.tree_links.specs.Chains.{Placed, Chained, Limited};
+ghost use Rattle.tree_links.specs.Chains.{Placed, Chained, Limited, Summed};
 use model::CHAINS;
 use model::PLACES;
 
@@ -78,6 +80,22 @@ pub fn sum_at(
         p = link_before(v, p - 1, one, two, before);
     }
     total
+}
+
+// What the links at each of the sites of a tree can carry together. Only the planner's own crates call it.
+pub fn sums(one: &[usize], two: &[usize], capacity: &[u64]) -> [u64; PLACES]
+    requires { ⌜ TreeWithin largest (suc (length (now one))) (now one) (now two) (now capacity) ⌝ }
+    ensures { λ r. ⌜ Summed (links (now (one .entry)) (now (two .entry))) (look (now (capacity .entry))) r ⌝ }
+{
+    let mut list = [0u64; PLACES];
+    for j in 0..one.len() {
+        let a = one[j];
+        let b = two[j];
+        let size = capacity[j];
+        list[a] += size;
+        list[b] += size;
+    }
+    list
 }
 
 // 1 if v has just one link, 0 if not: its last link is one, and there is none before it.

@@ -1,12 +1,12 @@
--- The bits of a number: how many are set, the lowest that is set, and one set by `|`.
-use mathlib.Core.Path.{_≡_, sym, ap, _∙_}
+-- The bits of a number: how many are set, the lowest that is set, the number without it, and one set by `|`.
+use mathlib.Core.Path.{_≡_, refl, sym, ap, _∙_}
 use mathlib.Core.Logic.{_≢_, ⊎-elim}
 use Prim.Native.Nat.{ℕ, zero, suc, _+_, _-_, _*_, _/_, _%_, _^_, _≤_, _<_, max}
 use native.Mathlib.Nat.{div-eq-of-lt, pow-suc, mul-mod-left, one-mul, zero-div, eq-zero-or-pos, lt-of-lt-of-le, lt-of-le-of-lt}
 use native.Mathlib.Decide.{decLt}
 use native.Mathlib.Numerals.{add-one}
 use native.Mathlib.Omega.{arith}
-use lib.Bits.{bitOr, or-shr, or-step}
+use lib.Bits.{bitAnd, bitOr, and-self, and-step, or-shr, or-step}
 use lib.Count.{ones, ones-le, ones-step, trailingZeros}
 use lib.Pow.{shr-shr, pow-lt, pow-mono, shl-shr, shl-exact, pow-add, shr-lt, shr-le}
 use Rattle.lists.specs.Numbers.{pick, is, sum}
@@ -19,7 +19,7 @@ bit-shr : (x k j : ℕ) → bit x (k + j) ≡ bit (x / 2 ^ k) j
 bit-shr x k j = ap (λ n. n % 2) (sym (shr-shr x k j))
 
 -- a bit that is set stands in the word
-in-word : (x k : ℕ) → x < 2 ^ 64 → bit x k ≡ 1 → k < 64
+pub in-word : (x k : ℕ) → x < 2 ^ 64 → bit x k ≡ 1 → k < 64
 in-word x k h e = cases (decLt k 64)
     (λ l. l)
     (λ l. let le : 64 ≤ k = omega arith in
@@ -41,11 +41,11 @@ ones-sum (suc k) x h = omega (
 
 -- ---- the lowest bit that is set
 
-record Lowest (x t : ℕ) : Type 0 where
-  set : bit x t ≡ 1
-  clear : (j : ℕ) → j < t → bit x j ≡ 0
+pub record Lowest (x t : ℕ) : Type 0 where
+  pub set : bit x t ≡ 1
+  pub clear : (j : ℕ) → j < t → bit x j ≡ 0
 
-lowest : (k x : ℕ) → x ≢ 0 → x < 2 ^ k → Lowest x (trailingZeros k x)
+pub lowest : (k x : ℕ) → x ≢ 0 → x < 2 ^ k → Lowest x (trailingZeros k x)
 unfolding trailingZeros
 lowest zero x n h = absurd (n (omega arith))
 lowest (suc k) x n h = ⊎-elim
@@ -60,6 +60,35 @@ lowest (suc k) x n h = ⊎-elim
     low : {t : ℕ} → x % 2 ≡ 0 → ((j : ℕ) → j < t → bit (x / 2) j ≡ 0) → (j : ℕ) → j < suc t → bit x j ≡ 0
     low e f zero l = bit-low x ∙ e
     low e f (suc j) l = bit-up x j ∙ f j (omega arith)
+
+-- that bit taken out, by `&` with the number before
+pub without-lowest : (t x : ℕ) → Lowest x t → (k : ℕ) → bit (bitAnd x (x - 1)) k ≡ pick k t 0 (bit x k)
+without-lowest zero x h k =
+    let odd : x % 2 ≡ 1 = omega (arith, bit-low x, h .set) in
+    let half : (x - 1) / 2 ≡ x / 2 = omega arith in
+    let double : bitAnd x (x - 1) ≡ x / 2 * 2 = omega (arith, rw (half, and-self) at (and-step x (x - 1))) in
+    rw double (bits k)
+  where
+    bits : (k : ℕ) → bit (x / 2 * 2) k ≡ pick k 0 0 (bit x k)
+    bits zero = bit-low (x / 2 * 2) ∙ omega arith ∙ sym (pick-same refl 0 (bit x 0))
+    bits (suc k) =
+        let half : x / 2 * 2 / 2 ≡ x / 2 = omega arith in
+        bit-up (x / 2 * 2) k ∙ rw half (sym (bit-up x k)) ∙ sym (pick-other {u = suc k} {v = 0} (λ e. omega arith) 0 (bit x (suc k)))
+without-lowest (suc t) x h k =
+    let even : x % 2 ≡ 0 = omega (arith, bit-low x, h .clear 0 (omega arith)) in
+    let more : Lowest (x / 2) t = record { set = sym (bit-up x t) ∙ h .set; clear = λ j l. sym (bit-up x j) ∙ h .clear (suc j) (omega arith) } in
+    let some : x / 2 ≢ 0 = λ z. omega (arith, rw (z, zero-div) at (more .set)) in
+    let half : (x - 1) / 2 ≡ x / 2 - 1 = omega arith in
+    let double : bitAnd x (x - 1) ≡ bitAnd (x / 2) (x / 2 - 1) * 2 = omega (arith, rw half at (and-step x (x - 1))) in
+    rw double (bits (bitAnd (x / 2) (x / 2 - 1)) even (without-lowest t (x / 2) more) k)
+  where
+    bits : (y : ℕ) → x % 2 ≡ 0 → ((k : ℕ) → bit y k ≡ pick k t 0 (bit (x / 2) k)) → (k : ℕ) → bit (y * 2) k ≡ pick k (suc t) 0 (bit x k)
+    bits y even r zero = bit-low (y * 2) ∙ omega (arith, bit-low x) ∙ sym (pick-other {u = 0} {v = suc t} (λ e. omega arith) 0 (bit x 0))
+    bits y even r (suc k) =
+        let half : y * 2 / 2 ≡ y = omega arith in
+        bit-up (y * 2) k ∙ rw half (r k) ∙ same? k t
+        (λ e. pick-same e 0 (bit (x / 2) k) ∙ sym (pick-same (ap suc e) 0 (bit x (suc k))))
+        (λ d. pick-other d 0 (bit (x / 2) k) ∙ sym (bit-up x k) ∙ sym (pick-other {u = suc k} {v = suc t} (λ e. d (omega arith)) 0 (bit x (suc k))))
 
 -- what the trailing zeros of x shifted by k say of the bits of x from k up
 pub record NextBit (x k t : ℕ) : Type 0 where

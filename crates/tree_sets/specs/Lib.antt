@@ -1,2 +1,3 @@
 pub mod Members
 pub mod Laws
+pub mod Walks

@@ -1,9 +1,11 @@
 // A set of numbers below SITES as words of 64 bits: members are counted by ones and walked by trailing zeros.
 ghost use mathlib.Core.Path.{_≡_};
-ghost use Prim.Native.Nat.{ℕ, _-_};
-ghost use Rattle.model.specs.Limits.{SITES};
-ghost use Rattle.lists.specs.Numbers.{sum};
+ghost use mathlib.Core.Logic.{_≢_};
+ghost use Prim.Native.Nat.{ℕ, _+_, _-_, _*_, _≤_, _<_};
+ghost use Rattle.model.specs.Limits.{SITES, WORDS};
+ghost use Rattle.lists.specs.Numbers.{look, sum};
 ghost use Rattle.tree_sets.specs.Members.{member, adding, firstFrom};
+ghost use Rattle.tree_sets.specs.Walks.{within, lowest, Standing, Walked};
 use model::SITES;
 use model::WORDS;
 
@@ -12,10 +14,73 @@ pub struct Set {
     pub words: [u64; WORDS],
 }
 
+// A walk over the members of a set, from the lowest up: the member that it stands at, and those of its word from there up; SITES and none behind the last.
+pub struct Walk {
+    pub place: usize,
+    pub left: u64,
+}
+
 // A member that was looked for.
 pub enum Found {
     At(usize),
     Absent,
+}
+
+// The walk at the lowest member of those that are left of a word.
+fn lowest(word: usize, left: u64) -> Walk
+    requires { ⌜ (word < WORDS) × (left ≢ 0) ⌝ }
+    ensures { λ r. ⌜ r ≡ lowest word left ⌝ }
+{
+    let zeros = u64::trailing_zeros(left);
+    Walk {
+        place: word * 64 + zeros as usize,
+        left,
+    }
+}
+
+// Word q of a set.
+fn word(words: &[u64; WORDS], q: usize) -> u64
+    requires { ⌜ q < WORDS ⌝ }
+    ensures { λ r. ⌜ r ≡ look (now (words .entry)) q ⌝ }
+{
+    words[q]
+}
+
+// The walk at the first member in the words from one up.
+fn later(words: &[u64; WORDS], from: usize) -> Walk
+    requires { ⌜ from ≤ WORDS ⌝ }
+    ensures { λ r. ⌜ Walked (within (now (words .entry))) (from * 64) r ⌝ }
+{
+    for q in from..WORDS {
+        let left = word(words, q);
+        if left != 0 {
+            return lowest(q, left);
+        }
+    }
+    Walk {
+        place: SITES,
+        left: 0,
+    }
+}
+
+// The walk at the first member of the set with these words.
+pub fn start(words: &[u64; WORDS]) -> Walk
+    ensures { λ r. ⌜ Walked (within (now (words .entry))) 0 r ⌝ }
+{
+    later(words, 0)
+}
+
+// The walk at the next member, from one at a member.
+pub fn onward(words: &[u64; WORDS], w: Walk) -> Walk
+    requires { ⌜ Standing (within (now words)) w ⌝ }
+    ensures { λ r. ⌜ Walked (within (now (words .entry))) (w .place + 1) r ⌝ }
+{
+    let word = w.place / 64;
+    let left = w.left & (w.left - 1);
+    if left != 0 {
+        return lowest(word, left);
+    }
+    later(words, word + 1)
 }
 
 impl Set {

@@ -1,36 +1,24 @@
 -- Cutting in a lent list, place by place: what one cut leaves is what the definition says, and cuts follow each other.
 use mathlib.Core.Path.{_≡_, refl, sym, ap, _∙_}
 use mathlib.Core.Logic.{_≢_}
-use mathlib.Core.List.{List, [], _∷_, _++_, reverse, reverse-cons}
-use Prim.Native.Nat.{ℕ, suc, _+_, _-_, _*_, _≤_, _<_, min}
+use mathlib.Core.List.{List, [], _∷_, _++_, map, reverse, reverse-cons}
+use Prim.Native.Nat.{ℕ, zero, suc, _+_, _-_, _*_, _≤_, _<_, min}
 use native.Mathlib.Omega.{arith}
 use native.Mathlib.Decide.{decLt}
-use lib.Seq.{getD-take, getD-append-add, getD-append-seam, take-at, drop-at, length-take-le}
-use lib.ListN.{length, take, drop, take-append-drop, length-append, length-take, length-reverse, List·getD-append}
+use lib.Seq.{getD-set-same, getD-set-other, getD-take, getD-append-add, getD-append-seam, take-at, drop-at, length-take-le}
+use lib.ListN.{length, set, take, drop, take-append-drop, length-append, length-set, length-take, length-reverse, List·getD-append}
 use Rattle.model.specs.Limits.{SITES}
-use Rattle.lists.specs.Numbers.{look}
+use Rattle.lists.specs.Numbers.{look, upfrom}
 use Rattle.model.specs.Flows.{Links, at, sumAt}
 use Rattle.model.specs.Trimming.{cutAt, cutSite, cutSites, balancedAlong}
 use Rattle.lists.specs.Sums.{pick-same, pick-other, cases, same?}
 use Rattle.theory_trees.specs.Sites.{sumAt-same}
-use Rattle.theory_trees.specs.Cutting.{cutAt-le}
-use Rattle.theory_trees.specs.Passes.{length-cutSites, look-cutSite}
+use Rattle.theory_trees.specs.Cutting.{cutAt-stays}
+use Rattle.theory_trees.specs.Passes.{length-cutSites}
 use Rattle.tree.specs.Offer.{links}
 use Rattle.tree.specs.Links.{length-links}
 use Rattle.tree.specs.Places.{filled, filled-same, same-values}
-use Rattle.tree_links.specs.Chains.{Limited}
-use Rattle.trimming_passes.specs.Steps.{InPlaces, bothWays, cutFirst, balancedFirst}
-
--- ---- one link
-
-module _ (ls : Links) (terminal : ℕ → ℕ) (v : ℕ) (c : ℕ → ℕ) (j : ℕ) where
-  pub cut-inner : terminal v ≢ 1 → at ls v j ≡ 1 → {t s : ℕ} → t ≡ c j → s ≡ sumAt ls v c → min t (s - t) ≡ cutAt ls terminal v c j
-  unfolding cutAt
-  cut-inner d a f g = rw (f, g) (sym (pick-other d _ _ ∙ pick-same a _ _))
-
-  pub cut-terminal : terminal v ≡ 1 → cutAt ls terminal v c j ≡ c j
-  unfolding cutAt
-  cut-terminal e = pick-same e _ _
+use Rattle.trimming_passes.specs.Steps.{InPlaces, Middle, bothWays, cutFirst, balancedFirst}
 
 cut-same : (ls : Links) (terminal : ℕ → ℕ) (v : ℕ) (c d : ℕ → ℕ) → ((i : ℕ) → i < length ls → c i ≡ d i)
     → (j : ℕ) → j < length ls → cutAt ls terminal v c j ≡ cutAt ls terminal v d j
@@ -42,11 +30,22 @@ unfolding cutSites
 cut-sites-append ls terminal [] ws c = refl
 cut-sites-append ls terminal (v ∷ vs) ws c = cut-sites-append ls terminal vs ws (cutSite ls terminal v c)
 
-cut-sites-le : (ls : Links) (terminal : ℕ → ℕ) (vs c : List ℕ) (j : ℕ) → j < length ls → look (cutSites ls terminal vs c) j ≤ look c j
-unfolding cutSites
-cut-sites-le ls terminal [] c j h = omega arith
-cut-sites-le ls terminal (v ∷ vs) c j h =
-    omega (arith, cut-sites-le ls terminal vs (cutSite ls terminal v c) j h, look-cutSite ls terminal v c j h, cutAt-le ls terminal v (look c) j)
+-- ---- a list with one place changed
+
+drop-set : (m : ℕ) (l : List ℕ) (j x : ℕ) → j < m → drop m (set l j x) ≡ drop m l
+drop-set zero l j x h = absurd (omega arith)
+drop-set (suc m) [] j x h = refl
+drop-set (suc m) (y ∷ l) zero x h = refl
+drop-set (suc m) (y ∷ l) (suc j) x h = drop-set m l j x (omega arith)
+
+filled-but : (f : ℕ → ℕ) (m : ℕ) (l : List ℕ) (j x : ℕ) → m ≤ length l → j < m → x ≡ f j → ((i : ℕ) → i < m → i ≢ j → f i ≡ look l i)
+    → set l j x ≡ filled f m l
+unfolding filled
+filled-but f m l j x h k e others =
+    sym (filled-same f m (set l j x) (omega (arith, length-set l j x)) (λ i q. same? i j
+    (λ z. rw z (sym (getD-set-same l j x 0 (omega arith) ∙ e)))
+    (λ z. others i q z ∙ sym (getD-set-other l j i x 0 z))))
+    ∙ ap (λ r. map f (upfrom 0 m) ++ r) (drop-set m l j x k)
 
 -- ---- the lent list
 
@@ -60,11 +59,27 @@ module _ (a b : List ℕ) (terminal : ℕ → ℕ) (same : length b ≡ length a
       rw all (ap (λ r. r ++ drop (length a) l) (same-values _ _ (length a)
       (λ j h. cut-same ls terminal v (look l) (look (take (length a) l)) (λ i k. sym (getD-take (length a) l i 0 (omega arith))) j (omega arith))))
 
-  -- at a terminal nothing is cut
-  pub cut-none : (v : ℕ) (l : List ℕ) → length a ≤ length l → terminal v ≡ 1 → l ≡ cutFirst a b terminal (v ∷ []) l
-  cut-none v l h e =
+  -- where no link is heavy nothing is cut
+  pub cut-none : (v : ℕ) (l : List ℕ) → length a ≤ length l
+      → ((j : ℕ) → j < length (links a b) → at (links a b) v j ≡ 1 → terminal v ≢ 1 → look l j + look l j ≤ sumAt (links a b) v (look l))
+      → l ≡ cutFirst a b terminal (v ∷ []) l
+  cut-none v l h light =
       let ls = links a b in
-      sym (filled-same (cutAt ls terminal v (look l)) (length a) l h (λ j k. cut-terminal ls terminal v (look l) j e)) ∙ cut-filled v l
+      let all : length ls ≡ length a = length-links a b (sym same) in
+      sym (filled-same (cutAt ls terminal v (look l)) (length a) l h (λ j k. cutAt-stays ls terminal v (look l) j (omega arith) (light j (omega arith))))
+      ∙ cut-filled v l
+
+  -- where one link alone is heavy it is cut to what the others have
+  pub cut-one : (v : ℕ) (l : List ℕ) (p x : ℕ) → length a ≤ length l → terminal v ≢ 1 → Middle (links a b) v (look l) p → 0 < p
+      → x ≡ min (look l (p - 1)) (sumAt (links a b) v (look l) - look l (p - 1)) → set l (p - 1) x ≡ cutFirst a b terminal (v ∷ []) l
+  unfolding cutAt
+  cut-one v l p x h inner m some e =
+      let ls = links a b in
+      let all : length ls ≡ length a = length-links a b (sym same) in
+      filled-but (cutAt ls terminal v (look l)) (length a) l (p - 1) x h (omega (arith, m .there .0))
+      (e ∙ sym (pick-other inner _ _ ∙ pick-same (m .there .1 some) _ _))
+      (λ j k d. cutAt-stays ls terminal v (look l) j (omega arith) (λ at-v _. m .others j (omega arith) at-v (λ z. d (omega arith))))
+      ∙ cut-filled v l
 
   -- ---- cuts in turn
 
@@ -94,24 +109,6 @@ module _ (a b : List ℕ) (terminal : ℕ → ℕ) (same : length b ≡ length a
   pub both-ways-balance : (order l : List ℕ) → cutFirst a b terminal (bothWays order) l ≡ balancedFirst a b terminal order l
   unfolding cutFirst bothWays balancedFirst balancedAlong
   both-ways-balance order l = rw (← (cut-sites-append (links a b) terminal order (reverse order) (take (length a) l))) refl
-
-  -- the places stay within the limits
-  pub first-limited : (vs l : List ℕ) → Limited a l → Limited a (cutFirst a b terminal vs l)
-  unfolding cutFirst
-  first-limited vs l h =
-      let ls = links a b in
-      let done = cutSites ls terminal vs (take (length a) l) in
-      let long = length-done vs l (h .places) in
-      record {
-        places = omega (arith, length-append done (drop (length a) l));
-        small = λ j k. omega (
-          arith,
-          List·getD-append done (drop (length a) l) 0 j (omega arith),
-          cut-sites-le ls terminal vs (take (length a) l) j (omega (arith, length-links a b (sym same))),
-          getD-take (length a) l j 0 k,
-          h .small j k,
-        );
-      }
 
 -- ---- the order turned round
 

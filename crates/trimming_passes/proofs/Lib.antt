@@ -1,3 +1,3 @@
 pub mod Laws
-pub mod Chaining
 pub mod Copying
+pub mod Summing

@@ -5,25 +5,64 @@ use model::SITES;
 ghost use mathlib.Core.Path.{_≡_};
 ghost use mathlib.Core.List.{[], _∷_, _++_};
 ghost use Prim.Native.Nat.{_-_, _*_, _≤_, _<_, min};
-ghost use lib.ListN.{length, take, drop};
+ghost use lib.ListN.{length, set, take, drop};
 ghost use Rattle.model.specs.Limits.{SITES};
 ghost use Rattle.lists.specs.Numbers.{look};
+ghost use Rattle.model.specs.Flows.{sumAt};
 ghost use Rattle.model.specs.Edition.{largest};
 ghost use Rattle.model.specs.Trimming.{elimination, balanced};
 ghost use Rattle.tree.specs.Accepted.{TreeWithin};
 ghost use Rattle.tree.specs.Offer.{links};
-ghost use Rattle.tree_links.specs.Chains.{Chained, Limited};
-ghost use Rattle.trimming_passes.specs.Steps.{InPlaces, cutFirst, balancedFirst};
+ghost use Rattle.tree_links.specs.Chains.{Chained};
+ghost use Rattle.trimming_passes.specs.Steps.{InPlaces, Middle, SumsKept, cutFirst, balancedFirst};
 
-// What a link of capacity t keeps at a site whose links have the sum: no more than the other links there have together.
-fn keep(t: u64, sum: u64) -> u64
-    requires { ⌜ t ≤ sum ⌝ }
-    ensures { λ r. ⌜ r ≡ min t (sum - t) ⌝ }
+// The one link at site v that can be heavy, counted from 1: the first of the chain by which half of the sum is passed; 0 if none can be.
+fn middle_at(
+    v: usize,
+    sum: u64,
+    last: &[usize; PLACES],
+    before: &[usize; CHAINS],
+    one: &[usize],
+    two: &[usize],
+    capacity: &[u64],
+) -> usize
+    requires { ⌜ (v ≤ SITES) × Chained (now one) (now two) (now last) (now before) × (length (now one) ≤ length (now capacity))
+        × (sum ≡ sumAt (links (now one) (now two)) v (look (now capacity))) ⌝ }
+    ensures { λ r. ⌜ Middle (links (now (one .entry)) (now (two .entry))) v (look (now (capacity .entry))) r ⌝ }
 {
-    if sum - t < t { sum - t } else { t }
+    let mut passed: u64 = 0;
+    let mut p = last[v];
+    while 0 < p {
+        passed += capacity[p - 1];
+        if sum - passed < passed {
+            return p;
+        }
+        p = tree_links::link_before(v, p - 1, one, two, before);
+    }
+    0
 }
 
-// Cuts the capacities at site v, if it is no end: each link keeps no more than the other links there have together.
+// Lowers the capacity of link j by d, and the sums at its two sites.
+fn lower(
+    j: usize,
+    d: u64,
+    one: &[usize],
+    two: &[usize],
+    sums: &mut [u64; PLACES],
+    capacity: &mut [u64],
+)
+    requires { ⌜ (j < length (now one)) × (d ≤ look (now capacity) j) × SumsKept (now one) (now two) (now capacity) (now sums) ⌝ }
+    ensures { λ _. ⌜ (now (capacity .exit) ≡ set (now (capacity .entry)) j (look (now (capacity .entry)) j - d))
+        × SumsKept (now (one .entry)) (now (two .entry)) (now (capacity .exit)) (now (sums .exit)) ⌝ }
+{
+    let a = one[j];
+    let b = two[j];
+    capacity[j] -= d;
+    sums[a] -= d;
+    sums[b] -= d;
+}
+
+// Cuts the capacities at site v, if it is no end: a heavy link keeps no more than the other links there have together.
 fn cut(
     v: usize,
     ends: &[u8; PLACES],
@@ -31,20 +70,26 @@ fn cut(
     before: &[usize; CHAINS],
     one: &[usize],
     two: &[usize],
+    sums: &mut [u64; PLACES],
     capacity: &mut [u64],
 )
-    requires { ⌜ (v ≤ SITES) × Chained (now one) (now two) (now last) (now before) × Limited (now one) (now capacity) ⌝ }
-    ensures { λ _. ⌜ now (capacity .exit) ≡ cutFirst (now (one .entry)) (now (two .entry)) (look (now (ends .entry))) (v ∷ []) (now (capacity .entry)) ⌝ }
+    requires { ⌜ (v ≤ SITES) × Chained (now one) (now two) (now last) (now before) × SumsKept (now one) (now two) (now capacity) (now sums) ⌝ }
+    ensures { λ _. ⌜ (now (capacity .exit) ≡ cutFirst (now (one .entry)) (now (two .entry)) (look (now (ends .entry))) (v ∷ []) (now (capacity .entry)))
+        × SumsKept (now (one .entry)) (now (two .entry)) (now (capacity .exit)) (now (sums .exit)) ⌝ }
 {
     if ends[v] == 1 {
         return;
     }
-    let sum = tree_links::sum_at(v, last, before, one, two, capacity);
-    let mut p = last[v];
-    while 0 < p {
-        capacity[p - 1] = keep(capacity[p - 1], sum);
-        p = tree_links::link_before(v, p - 1, one, two, before);
+    let sum = sums[v];
+    let p = middle_at(v, sum, last, before, one, two, capacity);
+    if p == 0 {
+        return;
     }
+    let t = capacity[p - 1];
+    if t <= sum - t {
+        return;
+    }
+    lower(p - 1, t - (sum - t), one, two, sums, capacity);
 }
 
 // The place that step i of a way along n places and back comes to.
@@ -67,15 +112,18 @@ fn both_ways(
     before: &[usize; CHAINS],
     one: &[usize],
     two: &[usize],
+    sums: &mut [u64; PLACES],
     capacity: &mut [u64],
 )
-    requires { ⌜ (n ≤ SITES) × InPlaces n (take n (now order)) × Chained (now one) (now two) (now last) (now before) × Limited (now one) (now capacity) ⌝ }
-    ensures { λ _. ⌜ now (capacity .exit)
-        ≡ balancedFirst (now (one .entry)) (now (two .entry)) (look (now (ends .entry))) (take n (now (order .entry))) (now (capacity .entry)) ⌝ }
+    requires { ⌜ (n ≤ SITES) × InPlaces n (take n (now order)) × Chained (now one) (now two) (now last) (now before)
+        × SumsKept (now one) (now two) (now capacity) (now sums) ⌝ }
+    ensures { λ _. ⌜ (now (capacity .exit)
+        ≡ balancedFirst (now (one .entry)) (now (two .entry)) (look (now (ends .entry))) (take n (now (order .entry))) (now (capacity .entry)))
+        × SumsKept (now (one .entry)) (now (two .entry)) (now (capacity .exit)) (now (sums .exit)) ⌝ }
 {
     for i in 0..2 * n {
         let v = order[there_and_back(i, n)];
-        cut(v, ends, last, before, one, two, capacity);
+        cut(v, ends, last, before, one, two, sums, capacity);
     }
 }
 
@@ -110,5 +158,6 @@ pub fn balance(
         (now (lent .entry)) ⌝ }
 {
     copy(capacity, lent);
-    both_ways(n, order, ends, last, before, one, two, lent);
+    let mut sums = tree_links::sums(one, two, capacity);
+    both_ways(n, order, ends, last, before, one, two, &mut sums, lent);
 }

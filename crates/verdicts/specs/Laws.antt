@@ -1,21 +1,16 @@
--- What is told of the lines of a plan decides the verdict: a fault, then a load above twice its capacity, then the total against the largest. The largest total
--- is the sum over the ends of a region without a far site.
-use mathlib.Core.Path.{_≡_, sym, ap, _∙_}
+-- What is told of the lines of a plan decides the verdict: a fault, then a load above twice its capacity, then the total against the largest.
+use mathlib.Core.Path.{_≡_, sym, _∙_}
 use mathlib.Core.Logic.{_≢_}
-use mathlib.Core.List.{List, []}
-use Prim.Native.Nat.{ℕ, _+_, _*_}
+use mathlib.Core.List.{List}
+use Prim.Native.Nat.{ℕ}
 use native.Mathlib.Omega.{arith}
 use lib.Dec.{eqb}
 use lib.ListN.{length}
-use Rattle.lists.specs.Numbers.{is, look}
-use Rattle.lists.specs.Parts.{over-upfrom}
-use Rattle.lists.specs.Sums.{pick-same, pick-other, sum-eq, same?}
-use Rattle.model.specs.Flows.{Links, ends, sumAt, atTerminals, total}
-use Rattle.theory_regions.specs.Regions.{own, ownSum}
+use Rattle.lists.specs.Numbers.{look}
+use Rattle.lists.specs.Sums.{pick-same, pick-other, same?}
+use Rattle.model.specs.Flows.{Links, total}
 use Rattle.theory_verdicts.specs.HandPlan.{Account, faulty, entries, overloaded, largestTotal}
 use Rattle.theory_verdicts.specs.Loads.{an-overloaded-link-counts}
-use Rattle.tree.specs.Offer.{links}
-use Rattle.region_sizes.specs.Offered.{regionBy}
 use Rattle.verdicts.specs.Outcome.{verdict}
 use Rattle.verdicts.specs.Progress.{Comes}
 use Rattle.verdicts.specs.Loaded.{Loaded}
@@ -46,15 +41,3 @@ module _ (ls : Links) (n : ℕ) (terminal : ℕ → ℕ) (c : List ℕ) (r : Acc
         (λ z. rw (h .1) (sym (pick-same z _ _)))
         (λ d. let o = an-overloaded-link-counts ls (look c) es .0 d in
         absurd (fits (record { link = o .link; inside = omega (arith, o .inside); over = omega (arith, o .over, h .2 (o .link)) })))
-
--- the sum over the ends of a region without a far site is that over all its ends
-pub without-a-far-site : (n : ℕ) (one two marks sizes : List ℕ)
-    → ownSum (regionBy n one two marks []) 0 sizes ≡ atTerminals (links one two) n (look (ends (links one two) n marks)) (look sizes)
-unfolding ownSum atTerminals own
-without-a-far-site n one two marks sizes =
-    let ls = links one two in
-    let t = look (ends ls n marks) in
-    over-upfrom (λ w. is (own t 0 w) 1 * sumAt ls w (look sizes)) 1 n
-    ∙ sum-eq n (λ i. is (own t 0 (1 + i)) 1 * sumAt ls (1 + i) (look sizes)) (λ i. is (t (1 + i)) 1 * sumAt ls (1 + i) (look sizes))
-    (λ i l. ap (λ x. is x 1 * sumAt ls (1 + i) (look sizes)) (pick-other {u = 1 + i} {v = 0} (λ z. omega arith) 0 (t (1 + i))))
-    ∙ sym (over-upfrom (λ w. is (t w) 1 * sumAt ls w (look sizes)) 1 n)

@@ -129,9 +129,8 @@ fn largest_total(n: usize, one: &[usize], two: &[usize], marks: &[u8], capacity:
         (look (ends (links (now (one .entry)) (now (two .entry))) n (now (marks .entry)))) (now (capacity .entry)) ⌝ }
 {
     let mut trimmed = [0u64; LINKS];
-    region_sizes::trim(n, one, two, marks, capacity, &mut trimmed);
-    let m = capacity.len();
-    region_sizes::own_sum(n, one, two, marks, 0, &trimmed[..m])
+    let chart = region_sizes::chart_of(n, one, two, marks, capacity);
+    region_sizes::trim(n, chart, one, two, capacity, 0, &mut trimmed)
 }
 
 // A plan judged over a tree whose sites have different names: the table of names, the ends and the table of paths are made once.

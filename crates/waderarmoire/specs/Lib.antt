@@ -5,3 +5,4 @@ pub mod PackedSides
 pub mod Sides
 pub mod Exchanged
 pub mod Judged
+pub mod Named

@@ -1,7 +1,8 @@
 -- An outcome as one number, for callers in other languages.
 use mathlib.Core.Bool.{cond}
 use mathlib.Core.List.{List}
-use Prim.Native.Nat.{ℕ, _+_, _*_, _/_, _%_}
+use Prim.Native.Nat.{ℕ, _+_, _-_, _*_, _/_, _%_}
+use lib.Dec.{leb}
 use lib.ListN.{set}
 use Rattle.planner.specs.declared.Outcome.{Outcome}
 use Rattle.planner.specs.declared.Outcome.the-variants.{Report, Refused}
@@ -45,6 +46,10 @@ unfoldable pub packedVerdict : Verdict → ℕ
 packedVerdict (verdict.Judged x largest) = x % 4294967296 * 2 + cond largest 1 0
 packedVerdict (verdict.Refused t k l) = t % 4096 * 4503599627370496 + k % 4096 * 1099511627776 + l % 1048576 * 1048576
 
+-- where a name stands (01: a site's name, looked up by number): the offset of its first byte times 2 ^ 20, and how many bytes it has; 0 of an empty one
+unfoldable pub packedName : ℕ × ℕ → ℕ
+packedName r = cond (leb (r .1) (r .0)) 0 (r .0 % 1048576 * 1048576 + (r .1 - r .0) % 1048576)
+
 -- ---- taken apart, as the C header does (c/waderarmoire.h)
 
 -- the text: value >> 52
@@ -62,6 +67,10 @@ unpackedLine value = value / 1048576 % 1048576
 -- the length: value & 0xfffff
 unfoldable pub unpackedLength : ℕ → ℕ
 unpackedLength value = value % 1048576
+
+-- of a name, its offset: value >> 20
+unfoldable pub unpackedOffset : ℕ → ℕ
+unpackedOffset value = value / 1048576
 
 -- of a verdict, the total: value >> 1; and whether it is yes: value & 1
 unfoldable pub unpackedTotal : ℕ → ℕ

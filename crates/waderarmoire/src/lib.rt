@@ -1,5 +1,6 @@
 // The planner as a library for other languages.
 use planner::Outcome;
+use sheet::Range;
 use sides::First;
 ghost use mathlib.Core.Path.{_≡_};
 ghost use Rattle.model.specs.Edition.{editions};
@@ -10,7 +11,13 @@ ghost use Rattle.exchanges.specs.Outcome.{exchanged};
 ghost use Rattle.sides.specs.Outcome.{firstShown, answered};
 ghost use Rattle.spans.specs.Outcome.{spanned};
 ghost use Rattle.verdicts.specs.Outcome.{judged};
-ghost use Rattle.waderarmoire.specs.Packed.{packed, asOutcome, packedReplay, packedRegions, sumsAfter, packedVerdict};
+ghost use Rattle.sheet.specs.Sheet.{nameRange};
+ghost use Rattle.text_writers.specs.Wrote.{Wrote};
+ghost use Rattle.report_words.specs.Words.{words};
+ghost use Rattle.report_words.specs.TwoTexts.{wordsOf};
+ghost use Rattle.report_words.specs.TwoSheets.{wordsOfSheets};
+ghost use Rattle.plan_words.specs.PlanWords.{wordsJudged};
+ghost use Rattle.waderarmoire.specs.Packed.{packed, asOutcome, packedReplay, packedRegions, sumsAfter, packedVerdict, packedName};
 ghost use Rattle.waderarmoire.specs.PackedSides.{packedFirst, packedSide};
 
 // An outcome as one number: the refusal's number times 2^40, its line times 2^20, and the report's length.
@@ -215,4 +222,69 @@ pub extern "C" fn waderarmoire_judge(sheet: &[u8], plan: &[u8]) -> u64
     ensures { λ r. ⌜ r ≡ packedVerdict (judged editions (now (sheet .entry)) (now (plan .entry))) ⌝ }
 {
     pack_verdict(verdicts::judge(sheet, plan))
+}
+
+// Where a name stands as one number: the offset of its first byte times 2^20, and how many bytes it has; 0 of an empty one.
+fn pack_name(range: Range) -> u64
+    ensures { λ r. ⌜ r ≡ packedName (range .start, range .end) ⌝ }
+{
+    if range.end <= range.start {
+        return 0;
+    }
+    range.start as u64 % 1048576 * 1048576 + (range.end - range.start) as u64 % 1048576
+}
+
+// Tells where the name of a site stands on a sheet, by the site's number, as sheet::name_range does, as one number.
+#[no_mangle]
+pub extern "C" fn waderarmoire_name(sheet: &[u8], site: usize) -> u64
+    ensures { λ r. ⌜ r ≡ packedName (nameRange editions (now (sheet .entry)) site) ⌝ }
+{
+    pack_name(sheet::name_range(sheet, site))
+}
+
+// Writes what the refusal of a sheet means, a line of text, from the start of the caller's buffer as far as it goes, and tells its length.
+#[no_mangle]
+pub extern "C" fn waderarmoire_words(number: u64, line: usize, text: &mut [u8]) -> usize
+    ensures { λ r. ⌜ Wrote (now (text .entry)) 0 (words number line) (now (text .exit)) r ⌝ }
+{
+    report_words::write_words(number, line, text)
+}
+
+// So for a refusal of the sheet, of = 1, or of the log, of = 2, of a replay.
+#[no_mangle]
+pub extern "C" fn waderarmoire_words_of_replay(
+    of: u64,
+    number: u64,
+    line: usize,
+    text: &mut [u8],
+) -> usize
+    ensures { λ r. ⌜ Wrote (now (text .entry)) 0 (wordsOf of number line) (now (text .exit)) r ⌝ }
+{
+    report_words::write_words_of(of, number, line, text)
+}
+
+// So for a refusal of two regions: of the first sheet, of = 1, of the second, of = 2, or of both together, of = 0.
+#[no_mangle]
+pub extern "C" fn waderarmoire_words_of_regions(
+    of: u64,
+    number: u64,
+    line: usize,
+    text: &mut [u8],
+) -> usize
+    ensures { λ r. ⌜ Wrote (now (text .entry)) 0 (wordsOfSheets of number line) (now (text .exit)) r ⌝ }
+{
+    report_words::write_words_of_sheets(of, number, line, text)
+}
+
+// So for a refusal of the sheet, of = 1, or of the plan, of = 2, of a judgement.
+#[no_mangle]
+pub extern "C" fn waderarmoire_words_of_judge(
+    of: u64,
+    number: u64,
+    line: usize,
+    text: &mut [u8],
+) -> usize
+    ensures { λ r. ⌜ Wrote (now (text .entry)) 0 (wordsJudged of number line) (now (text .exit)) r ⌝ }
+{
+    plan_words::write_words(of, number, line, text)
 }

@@ -1,10 +1,9 @@
 //! The time of one plan drawn by hand, by both libraries in turn.
 
-use crate::library::{Times, time_calls};
+use crate::library::{Times, time_calls, write_heading};
 use second::Judged;
 use sheets::plans::{Case, longest_plan};
 use sheets::{Random, SHAPES, SITES, Shape};
-use std::fmt::Write;
 use std::hint::black_box;
 
 /// The plan of most lines over a tree of a shape, if it has so many pairs of ends.
@@ -13,7 +12,7 @@ pub fn largest(shape: Shape) -> Option<Case> {
 }
 
 /// Times both libraries on a plan.
-fn time(case: &Case) -> Times {
+fn time(case: &Case, rounds: usize) -> Times {
     let Case { sheet, plan, .. } = case;
     let judgement = waderarmoire::judge(sheet, plan).expect("the plan fits");
     let due = Judged::Accepted {
@@ -25,23 +24,17 @@ fn time(case: &Case) -> Times {
         || _ = black_box(waderarmoire::judge(black_box(sheet), plan)),
         || _ = black_box(second::judge(black_box(sheet), plan)),
         [plan.len(), judgement.total as usize],
+        rounds,
     )
 }
 
 /// The table.
-pub fn table(text: &mut String) -> std::fmt::Result {
-    writeln!(
-        text,
-        "\n### One plan of 1,024 lines drawn by hand over {SITES} sites, in microseconds\n"
-    )?;
-    writeln!(
-        text,
-        "| shape | plan bytes | total | proved | second | ratio |"
-    )?;
-    writeln!(text, "|---|---:|---:|---:|---:|---:|")?;
+pub fn table(text: &mut String, rounds: usize) -> std::fmt::Result {
+    let title = format!("One plan of 1,024 lines drawn by hand over {SITES} sites");
+    write_heading(text, &title, ["shape", "plan bytes", "total"])?;
     for shape in SHAPES {
         if let Some(case) = largest(shape) {
-            time(&case).write_row(text, shape.name())?;
+            time(&case, rounds).write_row(text, shape.name())?;
         }
     }
     Ok(())

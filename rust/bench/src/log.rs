@@ -1,7 +1,7 @@
 //! The time of one booking log, by both libraries in turn.
 
 use crate::growth;
-use crate::library::{Times, time_calls};
+use crate::library::{Times, time_calls, write_heading};
 use second::{LOG_LINES, Replayed};
 use sheets::logs::{Case, crowded_log, log_of};
 use sheets::{Random, SHAPES, SITES, Shape, Sizes};
@@ -22,7 +22,7 @@ fn log(shape: Shape, sites: usize, count: usize) -> Case {
 }
 
 /// Times both libraries on a log.
-fn time(case: &Case) -> Times {
+fn time(case: &Case, rounds: usize) -> Times {
     let Case { sheet, log, .. } = case;
     let mut proved = vec![0; LOG_LINES];
     let mut second = vec![0; LOG_LINES];
@@ -38,28 +38,23 @@ fn time(case: &Case) -> Times {
         || _ = black_box(waderarmoire::replay(black_box(sheet), log, &mut proved)),
         || _ = black_box(second::replay(black_box(sheet), log, &mut second)),
         [log.len(), done],
+        rounds,
     )
 }
 
 /// The tables.
-pub fn tables(text: &mut String) -> std::fmt::Result {
-    let by_lines = SHAPES.map(|shape| LINES.map(|count| time(&log(shape, SITES, count))));
-    writeln!(
-        text,
-        "\n### One log of {LOG_LINES} lines over {SITES} sites, in microseconds\n"
-    )?;
-    writeln!(
-        text,
-        "| shape | log bytes | lines answered 0 | proved | second | ratio |"
-    )?;
-    writeln!(text, "|---|---:|---:|---:|---:|---:|")?;
+pub fn tables(text: &mut String, rounds: usize) -> std::fmt::Result {
+    let time_log = |shape, sites, count| time(&log(shape, sites, count), rounds);
+    let by_lines = SHAPES.map(|shape| LINES.map(|count| time_log(shape, SITES, count)));
+    let title = format!("One log of {LOG_LINES} lines over {SITES} sites");
+    write_heading(text, &title, ["shape", "log bytes", "lines answered 0"])?;
     for (shape, by_lines) in SHAPES.iter().zip(&by_lines) {
         by_lines[LINES.len() - 1].write_row(text, shape.name())?;
     }
     for shape in [Shape::Star, Shape::Prufer] {
         let case = crowded_log(shape, SITES, LOG_LINES, &mut Random::new(1));
         let title = format!("{}, about 512 pairs open", shape.name());
-        time(&case).write_row(text, &title)?;
+        time(&case, rounds).write_row(text, &title)?;
     }
 
     writeln!(
@@ -72,7 +67,6 @@ pub fn tables(text: &mut String) -> std::fmt::Result {
         text,
         "\n### Growth of a log of {LOG_LINES} lines with the number of sites, in microseconds\n"
     )?;
-    let by_sites =
-        SHAPES.map(|shape| growth::SITES.map(|sites| time(&log(shape, sites, LOG_LINES))));
+    let by_sites = SHAPES.map(|shape| growth::SITES.map(|sites| time_log(shape, sites, LOG_LINES)));
     growth::table(text, growth::SITES, 2, &by_sites)
 }

@@ -1,11 +1,7 @@
 //! Measures the proved planner beside the second one.
 //!
-//! ```text
-//! bench [--program FILE] [--second FILE] [--replay FILE] [--judge FILE] [--into FILE]
-//! ```
-//!
 //! Prints tables in Markdown, or puts them into a file between the lines `<!-- measured -->` and
-//! `<!-- end -->`.
+//! `<!-- end -->`. The option `--help` tells the others.
 
 mod growth;
 mod judge;
@@ -13,29 +9,45 @@ mod library;
 mod log;
 mod machine;
 mod program;
+mod regions;
 
-use library::Libraries;
+use library::{Libraries, time, write_heading};
 use program::Input;
-use sheets::{Layout, Names, Network, Random, SHAPES, SITES, Shape, Sizes};
+use second::REPORT_BYTES;
+use sheets::{Edition, Layout, Names, Network, Random, SHAPES, SITES, Shape, Sizes, surveys};
 use std::fmt::Write;
-use std::path::{Path, PathBuf};
+use std::path::PathBuf;
 use std::process::ExitCode;
 
+/// The page that `--help` prints.
+const HELP: &str = include_str!("../help");
+
 struct Options {
-    program: PathBuf,
-    second: PathBuf,
-    replay: PathBuf,
-    second_replay: PathBuf,
-    judge: PathBuf,
-    second_judge: PathBuf,
+    /// The folder of the proved programs.
+    programs: PathBuf,
+    /// The file that the tables are put into.
     into: Option<PathBuf>,
+    /// How often each library is timed on a sheet.
+    rounds: usize,
+    /// How often each program is run.
+    runs: usize,
 }
 
 fn main() -> ExitCode {
-    let outcome = options().and_then(|options| {
-        let text = tables(&options).map_err(|error| error.to_string())?;
-        publish(&text, &options)
-    });
+    let options = match options() {
+        Ok(Some(options)) => options,
+        Ok(None) => {
+            print!("{HELP}");
+            return ExitCode::SUCCESS;
+        }
+        Err(text) => {
+            eprintln!("bench: {text}; --help says more");
+            return ExitCode::from(2);
+        }
+    };
+    let outcome = tables(&options)
+        .map_err(|error| error.to_string())
+        .and_then(|text| publish(&text, &options));
     if let Err(text) = outcome {
         eprintln!("bench: {text}");
         return ExitCode::FAILURE;
@@ -43,32 +55,34 @@ fn main() -> ExitCode {
     ExitCode::SUCCESS
 }
 
-fn options() -> Result<Options, String> {
-    let this = std::env::current_exe().unwrap_or_default();
+/// The options, or none if the page about them is asked for.
+fn options() -> Result<Option<Options>, String> {
     let mut options = Options {
-        program: PathBuf::from("target/bin/plan"),
-        second: this.with_file_name("second-plan"),
-        replay: PathBuf::from("target/bin/replay"),
-        second_replay: this.with_file_name("second-replay"),
-        judge: PathBuf::from("target/bin/judge"),
-        second_judge: this.with_file_name("second-judge"),
+        programs: PathBuf::from("target/bin"),
         into: None,
+        rounds: 201,
+        runs: 501,
     };
     let mut arguments = std::env::args().skip(1);
     while let Some(option) = arguments.next() {
-        let value = arguments
-            .next()
-            .ok_or_else(|| format!("{option} needs a value"))?;
+        if ["-h", "--help"].contains(&option.as_str()) {
+            return Ok(None);
+        }
+        let value = arguments.next();
+        let file = || value.as_ref().map(PathBuf::from);
+        let file = || file().ok_or_else(|| format!("{option} needs a name"));
+        let count = || value.as_ref().and_then(|value| value.parse().ok());
+        let count = || count().filter(|&count| count > 0);
+        let count = || count().ok_or_else(|| format!("{option} needs a number from 1 on"));
         match option.as_str() {
-            "--program" => options.program = value.into(),
-            "--second" => options.second = value.into(),
-            "--replay" => options.replay = value.into(),
-            "--judge" => options.judge = value.into(),
-            "--into" => options.into = Some(value.into()),
-            _ => return Err(format!("unknown option {option}")),
+            "--programs" => options.programs = file()?,
+            "--into" => options.into = Some(file()?),
+            "--rounds" => options.rounds = count()?,
+            "--runs" => options.runs = count()?,
+            _ => return Err(format!("there is no option {option}")),
         }
     }
-    Ok(options)
+    Ok(Some(options))
 }
 
 /// Prints the tables, or puts them into the file that was named.
@@ -98,36 +112,55 @@ fn largest_sheet(shape: Shape, sites: usize) -> Vec<u8> {
     network.sheet(Layout::Mixed, &mut random)
 }
 
+/// The sheet of the smallest tree.
+const TWO_SITES: &[u8] = b"network\t1\nN\ta\nN\tb\nL\ta\tb\t4\n";
+
 /// All tables.
 fn tables(options: &Options) -> Result<String, Box<dyn std::error::Error>> {
     let mut text = String::new();
+    let rounds = options.rounds;
     for line in machine::description() {
         writeln!(text, "- {line}")?;
     }
-    library_tables(&mut text, "in halves", &library::IN_HALVES)?;
-    library_tables(&mut text, "in whole circuits", &library::IN_CIRCUITS)?;
-    log::tables(&mut text)?;
-    judge::table(&mut text)?;
+    let units = [
+        ("in halves", &library::IN_HALVES),
+        ("in whole circuits", &library::IN_CIRCUITS),
+    ];
+    for (unit, libraries) in units {
+        library_tables(&mut text, unit, libraries, rounds)?;
+    }
+    other_buffers_table(&mut text, units, rounds)?;
+    log::tables(&mut text, rounds)?;
+    regions::table(&mut text, rounds)?;
+    ranges_table(&mut text, rounds)?;
+    judge::table(&mut text, rounds)?;
     program_table(&mut text, options)?;
     Ok(text)
 }
 
-fn library_tables(text: &mut String, unit: &str, libraries: &Libraries) -> std::fmt::Result {
+/// The tables of the largest trees of each edition, and of growth.
+fn library_tables(
+    text: &mut String,
+    unit: &str,
+    libraries: &Libraries,
+    rounds: usize,
+) -> std::fmt::Result {
     let measured = SHAPES.map(|shape| {
-        growth::SITES.map(|sites| library::time(libraries, &largest_sheet(shape, sites)))
+        growth::SITES.map(|sites| {
+            let sheet = largest_sheet(shape, sites);
+            time(libraries, &sheet, REPORT_BYTES, rounds)
+        })
     });
 
-    writeln!(
-        text,
-        "\n### One plan {unit} of {SITES} sites, in microseconds\n"
-    )?;
-    writeln!(
-        text,
-        "| shape | sheet bytes | report bytes | proved | second | ratio |"
-    )?;
-    writeln!(text, "|---|---:|---:|---:|---:|---:|")?;
-    for (shape, by_sites) in SHAPES.iter().zip(&measured) {
-        by_sites[growth::SITES.len() - 1].write_row(text, shape.name())?;
+    for sites in Edition::ALL.map(Edition::sites) {
+        let title = format!("One plan {unit} of {sites} sites");
+        write_heading(text, &title, ["shape", "sheet bytes", "report bytes"])?;
+        for (shape, by_sites) in SHAPES.iter().zip(&measured) {
+            let mut counts = growth::SITES.iter().zip(by_sites);
+            if let Some((_, times)) = counts.find(|&(&count, _)| count == sites) {
+                times.write_row(text, shape.name())?;
+            }
+        }
     }
 
     writeln!(
@@ -137,17 +170,58 @@ fn library_tables(text: &mut String, unit: &str, libraries: &Libraries) -> std::
     growth::table(text, growth::SITES, 2, &measured)
 }
 
+/// The table of the smallest tree, and of buffers that are too short.
+fn other_buffers_table(
+    text: &mut String,
+    units: [(&str, &Libraries); 2],
+    rounds: usize,
+) -> std::fmt::Result {
+    let title = "Two sites, and buffers that are too short";
+    write_heading(
+        text,
+        title,
+        ["sheet", "sheet bytes", "report or buffer bytes"],
+    )?;
+    for (unit, libraries) in units {
+        let two_sites = time(libraries, TWO_SITES, REPORT_BYTES, rounds);
+        two_sites.write_row(text, &format!("two sites, {unit}"))?;
+        for shape in [Shape::Star, Shape::Path, Shape::Prufer] {
+            let sheet = largest_sheet(shape, SITES);
+            let short = library::short_buffer(libraries, &sheet);
+            let title = format!(
+                "{} of {SITES} sites, {unit}, buffer too short",
+                shape.name()
+            );
+            time(libraries, &sheet, short, rounds).write_row(text, &title)?;
+        }
+    }
+    Ok(())
+}
+
+/// The table of range sheets.
+fn ranges_table(text: &mut String, rounds: usize) -> std::fmt::Result {
+    let title = format!("Ranges of {SITES} sites");
+    write_heading(text, &title, ["shape", "sheet bytes", "report bytes"])?;
+    for shape in SHAPES {
+        let sheet = surveys::largest(shape, SITES, &mut Random::new(1));
+        let times = time(&library::OF_RANGES, &sheet, REPORT_BYTES, rounds);
+        times.write_row(text, shape.name())?;
+    }
+    Ok(())
+}
+
 fn program_table(text: &mut String, options: &Options) -> Result<(), Box<dyn std::error::Error>> {
-    let planners = [options.program.as_path(), options.second.as_path()];
-    let desks = [options.replay.as_path(), options.second_replay.as_path()];
-    let judges = [options.judge.as_path(), options.second_judge.as_path()];
-    let mut programs = planners.iter().chain(&desks).chain(&judges);
+    let [planners, desks, judges] = ["plan", "replay", "judge"].map(|name| {
+        let this = std::env::current_exe().unwrap_or_default();
+        let second = this.with_file_name(format!("second-{name}"));
+        [options.programs.join(name), second]
+    });
+    let mut programs = [&planners, &desks, &judges].into_iter().flatten();
     if let Some(missing) = programs.find(|program| !program.is_file()) {
         return Err(format!("{} is missing", missing.display()).into());
     }
-    let two_sites = b"network\t1\nN\ta\nN\tb\nL\ta\tb\t4\n".to_vec();
     let sheets = [
-        ("two sites", two_sites),
+        ("two sites", TWO_SITES.to_vec()),
         ("star of 384 sites", largest_sheet(Shape::Star, SITES)),
         ("path of 384 sites", largest_sheet(Shape::Path, SITES)),
         (
@@ -157,6 +231,9 @@ fn program_table(text: &mut String, options: &Options) -> Result<(), Box<dyn std
     ];
     let file = |kind| std::env::temp_dir().join(format!("bench-{}.{kind}", std::process::id()));
     let [sheet_file, log_file] = ["sheet", "log"].map(file);
+    let row = |text: &mut String, title, programs, input: &Input| {
+        program_row(text, title, programs, input, options.runs)
+    };
 
     writeln!(text, "\n### Programs, from start to end\n")?;
     writeln!(
@@ -167,19 +244,19 @@ fn program_table(text: &mut String, options: &Options) -> Result<(), Box<dyn std
     writeln!(text, "|---|{}", "---:|".repeat(7))?;
     for (title, sheet) in sheets {
         std::fs::write(&sheet_file, sheet)?;
-        program_row(text, title, planners, &Input::Sheet(sheet_file.clone()))?;
+        row(text, title, &planners, &Input::Sheet(sheet_file.clone()))?;
     }
     let case = log::largest(Shape::Prufer);
     std::fs::write(&sheet_file, case.sheet)?;
     std::fs::write(&log_file, case.log)?;
     let files = [sheet_file.clone(), log_file.clone()];
     let title = "the same shape, a log of 4,096 lines";
-    program_row(text, title, desks, &Input::Files(files.clone()))?;
+    row(text, title, &desks, &Input::Files(files.clone()))?;
     let case = judge::largest(Shape::Prufer).expect("it has many ends");
     std::fs::write(&sheet_file, case.sheet)?;
     std::fs::write(&log_file, case.plan)?;
     let title = "the same shape, a plan of 1,024 lines";
-    program_row(text, title, judges, &Input::Files(files))?;
+    row(text, title, &judges, &Input::Files(files))?;
     std::fs::remove_file(&sheet_file)?;
     std::fs::remove_file(&log_file)?;
     Ok(())
@@ -189,10 +266,12 @@ fn program_table(text: &mut String, options: &Options) -> Result<(), Box<dyn std
 fn program_row(
     text: &mut String,
     title: &str,
-    programs: [&Path; 2],
+    programs: &[PathBuf; 2],
     input: &Input,
+    runs: usize,
 ) -> Result<(), Box<dyn std::error::Error>> {
-    let [proved, second] = program::times(programs, input)?;
+    let programs = programs.each_ref().map(PathBuf::as_path);
+    let [proved, second] = program::times(programs, input, runs)?;
     let [proved_memory, second_memory] = programs.map(|program| program::memory(program, input));
     let (proved_memory, second_memory) = (proved_memory?, second_memory?);
     writeln!(

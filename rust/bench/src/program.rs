@@ -8,9 +8,6 @@ use std::process::{Command, Stdio};
 use std::thread::sleep;
 use std::time::{Duration, Instant};
 
-/// How often each program is run.
-const RUNS: usize = 501;
-
 /// What a program reads.
 pub enum Input {
     /// One sheet on standard input.
@@ -30,10 +27,10 @@ impl Input {
     }
 }
 
-/// Microseconds from starting each of two programs to its end, the median of many runs in turn.
-pub fn times(programs: [&Path; 2], input: &Input) -> Result<[f64; 2]> {
-    let mut timings = [Vec::with_capacity(RUNS), Vec::with_capacity(RUNS)];
-    for _ in 0..RUNS {
+/// Microseconds from starting each of two programs to its end, the median of so many runs in turn.
+pub fn times(programs: [&Path; 2], input: &Input, runs: usize) -> Result<[f64; 2]> {
+    let mut timings = [Vec::with_capacity(runs), Vec::with_capacity(runs)];
+    for _ in 0..runs {
         for (program, timings) in programs.iter().zip(&mut timings) {
             let mut command = input.command(program)?;
             let start = Instant::now();

@@ -5,7 +5,8 @@
 //! amounts; it has as much as the disjoint end sets and the odd pieces between them let through,
 //! so no plan with even amounts has more (source document 004, theorem 2).
 
-use crate::printed::{Lines, Network, demand, read};
+use crate::printed::{Network, demand};
+use report::{Lines, read};
 
 /// What a report says.
 #[derive(Clone, Copy, Debug, PartialEq, Eq)]
@@ -26,10 +27,10 @@ pub fn check(sheet: &[u8], report: &[u8]) -> Result<Checked, String> {
 
     let mut loads = Vec::with_capacity(network.links.len());
     for link in &network.links {
-        loads.push(lines.link(&network, link)?);
+        loads.push(network.link_line(&mut lines, link)?);
     }
     let owner = owners(&network, &mut lines)?;
-    let set_sum = lines.set_sizes(&network, &owner)?;
+    let set_sum = network.set_lines(&mut lines, &owner)?;
     let [printed] = lines.next("Q")?;
     let odd_pieces = odd_pieces(&network, &owner);
     demand(
@@ -42,7 +43,7 @@ pub fn check(sheet: &[u8], report: &[u8]) -> Result<Checked, String> {
     )?;
 
     let pair_lines = lines.rest;
-    let pairs = lines.pairs(&network, pair_count)?;
+    let pairs = network.pair_lines(&mut lines, pair_count)?;
     network.check_spelling(report)?;
     let mut amounts = pairs.iter().map(|&(_, amount)| amount);
     demand(

@@ -4,7 +4,8 @@
 //! it has as much as the disjoint end sets let through, so no plan has more. Trimmed sizes and
 //! end sets are worked out once more by the letter of their definitions.
 
-use crate::printed::{Lines, Network, demand, read};
+use crate::printed::{Network, demand};
+use report::{Lines, read};
 
 /// The greatest sizes that leave no joint with a heavy link: heavy links are cut down, in
 /// any order, until there are none.
@@ -62,7 +63,7 @@ pub fn check(sheet: &[u8], report: &[u8]) -> Result<u64, String> {
 
     let trimmed = trimmed(&network);
     for (link, size) in network.links.iter().zip(&trimmed) {
-        let printed = lines.link(&network, link)?;
+        let printed = network.link_line(&mut lines, link)?;
         demand(printed == *size, "a trimmed size is not the greatest")?;
     }
 
@@ -80,13 +81,13 @@ pub fn check(sheet: &[u8], report: &[u8]) -> Result<u64, String> {
         demand(is_owner, "a site has another owner")?;
     }
 
-    let set_sum = lines.set_sizes(&network, &owner)?;
+    let set_sum = network.set_lines(&mut lines, &owner)?;
     demand(
         set_sum == total,
         "the total is not the sum of the set sizes",
     )?;
 
-    let pairs = lines.pairs(&network, pair_count)?;
+    let pairs = network.pair_lines(&mut lines, pair_count)?;
     network.check_spelling(report)?;
     let pair_sum: u64 = pairs.iter().map(|&(_, amount)| amount).sum();
     demand(pair_sum == total, "the total is not the sum of the pairs")?;

@@ -5,7 +5,8 @@
 //! sites inward and then back out ends in the trimmed sizes.
 
 use crate::compare::{Answer, LIST_PLACES, Planners};
-use crate::printed::{Lines, Network, demand};
+use crate::printed::{Network, demand};
+use report::Lines;
 use sheets::Random;
 
 /// Compares the planners on a sheet with a list of so many places, given what is due with a list
@@ -134,7 +135,9 @@ fn printed_sizes(
     let mut lines = Lines { rest: report };
     lines.next::<2>("plan")?;
     let links = network.links.iter();
-    links.map(|link| lines.link(network, link)).collect()
+    links
+        .map(|link| network.link_line(&mut lines, link))
+        .collect()
 }
 
 /// Cuts inward along an order and back out, and compares the sizes with the trimmed ones.

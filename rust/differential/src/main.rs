@@ -1,14 +1,6 @@
 //! Compares the proved planner with the second one.
 //!
-//! ```text
-//! differential [--sheets N] [--seed N] [--only INDEX] [--keep FILE] [--planted N]
-//!              [--runs N] [--program FILE] [--whole FILE] [--order FILE] [--example FILE]...
-//!              [--logs N] [--log INDEX] [--replay FILE]
-//!              [--pairs N] [--pair INDEX] [--regions FILE] [--region FILE]
-//!              [--surveys N] [--survey INDEX] [--ranges FILE]
-//!              [--plans N] [--plan INDEX] [--judge FILE] [--book FILE]
-//!              [--shuffles N] [--shuffle INDEX]
-//! ```
+//! The option `--help` tells the others.
 //!
 //! The sheets of the scope document come first, then small sheets with names in either case, with
 //! reserves, with marks and with bare numbers as names, then sheets at the limits of both editions,
@@ -51,6 +43,7 @@ mod indexed;
 mod inward;
 mod logs;
 mod marks;
+mod options;
 mod plans;
 mod printed;
 mod programs;
@@ -67,35 +60,10 @@ mod tally;
 mod usable;
 
 use indexed::Different;
-use programs::{Programs, beside_this_program};
-use std::path::PathBuf;
+use options::Options;
+use programs::Programs;
 use std::process::ExitCode;
 use std::time::Instant;
-
-struct Options {
-    sheets: u64,
-    seed: u64,
-    only: Option<u64>,
-    keep: PathBuf,
-    runs: usize,
-    programs: Programs,
-    planted: Option<u64>,
-    logs: u64,
-    only_log: Option<u64>,
-    log_programs: logs::Programs,
-    pairs: u64,
-    only_pair: Option<u64>,
-    region_programs: region_programs::Programs,
-    surveys: u64,
-    only_survey: Option<u64>,
-    range_programs: spans::Programs,
-    plans: u64,
-    only_plan: Option<u64>,
-    plan_programs: plans::Programs,
-    book_programs: book::Programs,
-    shuffles: u64,
-    only_shuffle: Option<u64>,
-}
 
 /// A sheet on which something is wrong.
 struct Failure {
@@ -105,126 +73,27 @@ struct Failure {
 }
 
 fn main() -> ExitCode {
-    match options() {
-        Ok(options) => run(&options),
+    match Options::told() {
+        Ok(Some(options)) => run(&options),
+        Ok(None) => {
+            print!("{}", options::HELP);
+            ExitCode::SUCCESS
+        }
         Err(text) => {
-            eprintln!("differential: {text}");
+            eprintln!("differential: {text}; --help says more");
             ExitCode::from(2)
         }
     }
 }
 
-fn options() -> Result<Options, String> {
-    let mut options = Options {
-        sheets: 230_000,
-        seed: 1,
-        only: None,
-        keep: PathBuf::from("differing.sheet"),
-        runs: 300,
-        programs: Programs {
-            proved: ["target/bin/plan", "target/bin/whole", "target/bin/order"].map(PathBuf::from),
-            second: ["second-plan", "second-whole", "second-order"].map(beside_this_program),
-            examples: Vec::new(),
-        },
-        planted: None,
-        logs: 30_000,
-        only_log: None,
-        log_programs: logs::Programs {
-            proved: PathBuf::from("target/bin/replay"),
-            second: beside_this_program("second-replay"),
-        },
-        pairs: 30_000,
-        only_pair: None,
-        region_programs: region_programs::Programs {
-            proved: ["target/bin/regions", "target/bin/region"].map(PathBuf::from),
-            second: ["second-regions", "second-region"].map(beside_this_program),
-        },
-        surveys: 40_000,
-        only_survey: None,
-        range_programs: spans::Programs {
-            proved: PathBuf::from("target/bin/ranges"),
-            second: beside_this_program("second-ranges"),
-        },
-        plans: 30_000,
-        only_plan: None,
-        plan_programs: plans::Programs {
-            proved: PathBuf::from("target/bin/judge"),
-            second: beside_this_program("second-judge"),
-        },
-        book_programs: book::Programs {
-            proved: PathBuf::from("target/bin/book"),
-            second: beside_this_program("second-book"),
-        },
-        shuffles: 25_000,
-        only_shuffle: None,
-    };
-    let mut arguments = std::env::args().skip(1);
-    while let Some(option) = arguments.next() {
-        let value = arguments
-            .next()
-            .ok_or_else(|| format!("{option} needs a value"))?;
-        let number = || {
-            value
-                .parse::<u64>()
-                .map_err(|_| format!("{option} needs a number"))
-        };
-        match option.as_str() {
-            "--sheets" => options.sheets = number()?,
-            "--seed" => options.seed = number()?,
-            "--only" => options.only = Some(number()?),
-            "--keep" => options.keep = value.into(),
-            "--runs" => options.runs = number()? as usize,
-            "--program" => options.programs.proved[0] = value.into(),
-            "--whole" => options.programs.proved[1] = value.into(),
-            "--order" => options.programs.proved[2] = value.into(),
-            "--example" => options.programs.examples.push(value.into()),
-            "--planted" => {
-                plant(number()?)?;
-                options.planted = Some(number()?);
-            }
-            "--logs" => options.logs = number()?,
-            "--log" => options.only_log = Some(number()?),
-            "--replay" => options.log_programs.proved = value.into(),
-            "--pairs" => options.pairs = number()?,
-            "--pair" => options.only_pair = Some(number()?),
-            "--regions" => options.region_programs.proved[0] = value.into(),
-            "--region" => options.region_programs.proved[1] = value.into(),
-            "--surveys" => options.surveys = number()?,
-            "--survey" => options.only_survey = Some(number()?),
-            "--ranges" => options.range_programs.proved = value.into(),
-            "--plans" => options.plans = number()?,
-            "--plan" => options.only_plan = Some(number()?),
-            "--judge" => options.plan_programs.proved = value.into(),
-            "--book" => options.book_programs.proved = value.into(),
-            "--shuffles" => options.shuffles = number()?,
-            "--shuffle" => options.only_shuffle = Some(number()?),
-            _ => return Err(format!("unknown option {option}")),
-        }
-    }
-    Ok(options)
-}
-
-#[cfg(feature = "planted")]
-fn plant(number: u64) -> Result<(), String> {
-    let errors = second::planted::ERRORS;
-    let error = errors
-        .into_iter()
-        .find(|&error| error as u64 == number)
-        .ok_or_else(|| format!("errors are numbered from 1 to {}", errors.len()))?;
-    println!("planted in the second planner: {error:?}");
-    second::planted::plant(error);
-    Ok(())
-}
-
-#[cfg(not(feature = "planted"))]
-fn plant(_: u64) -> Result<(), String> {
-    Err("--planted needs a build with the feature `planted`".to_string())
-}
-
 fn run(options: &Options) -> ExitCode {
     let start = Instant::now();
     let outcome = if let Some(index) = options.only {
-        random::compare_one(options.seed, index, |sheet| keep(sheet, options))
+        random::compare_one(options.seed, index, |sheet| {
+            if options.keep.is_some() {
+                keep(sheet, options);
+            }
+        })
     } else if options.only_log.is_some() || options.planted.is_some_and(is_of_logs) {
         compare_logs(options)
     } else if options.only_pair.is_some() || options.planted.is_some_and(is_of_regions) {
@@ -234,7 +103,7 @@ fn run(options: &Options) -> ExitCode {
     } else if options.only_plan.is_some() || options.planted.is_some_and(is_of_plans) {
         compare_plans(options)
     } else if options.planted.is_some_and(is_of_book) {
-        options.book_programs.compare(true)
+        compare_book(options)
     } else if options.only_shuffle.is_some() || options.planted.is_some_and(is_of_shuffles) {
         compare_shuffles(options)
     } else if options.planted.is_some() {
@@ -249,12 +118,12 @@ fn run(options: &Options) -> ExitCode {
             .and_then(|()| small::small_trees())
             .and_then(|()| small::marked_trees())
             .and_then(|()| random::compare_all(options.seed, options.sheets))
-            .and_then(|()| options.programs.compare(options.seed, options.runs))
+            .and_then(|()| compare_programs(options))
             .and_then(|()| compare_logs(options))
             .and_then(|()| compare_regions(options))
             .and_then(|()| compare_ranges(options))
             .and_then(|()| compare_plans(options))
-            .and_then(|()| options.book_programs.compare(false))
+            .and_then(|()| compare_book(options))
             .and_then(|()| compare_shuffles(options))
     };
     let Err(failure) = outcome else {
@@ -311,6 +180,23 @@ fn is_of_shuffles(number: u64) -> bool {
     (CutToLinksAbove as u64..=TurnedReserveLost as u64).contains(&number)
 }
 
+/// Compares the programs that read one sheet.
+fn compare_programs(options: &Options) -> Result<(), Failure> {
+    let [proved, second] = options.programs(["plan", "whole", "order"]);
+    let programs = Programs {
+        proved,
+        second,
+        examples: options.examples.clone(),
+    };
+    programs.compare(options.seed, options.runs as usize)
+}
+
+/// Compares the exercise books of both planners.
+fn compare_book(options: &Options) -> Result<(), Failure> {
+    let [[proved], [second]] = options.programs(["book"]);
+    book::Programs { proved, second }.compare(options.planted.is_some())
+}
+
 /// Compares the planners on booking logs: on a single one, on random ones, or on all.
 fn compare_logs(options: &Options) -> Result<(), Failure> {
     let seed = options.seed;
@@ -319,15 +205,16 @@ fn compare_logs(options: &Options) -> Result<(), Failure> {
     } else if options.planted.is_some() {
         logs::compare_all(seed, options.logs)
     } else {
-        let runs = options.runs as u64 / 2;
+        let runs = options.runs / 2;
         logs::small()
             .and_then(|()| logs::compare_all(seed, options.logs))
             .and_then(|()| {
-                let programs = &options.log_programs;
-                programs.compare(seed, runs, &options.programs.examples)
+                let [[proved], [second]] = options.programs(["replay"]);
+                let programs = logs::Programs { proved, second };
+                programs.compare(seed, runs, &options.examples)
             })
     };
-    compared.map_err(|different: Different| different.keep(&options.keep))
+    compared.map_err(|different: Different| different.keep(options.kept()))
 }
 
 /// Compares the planners on pairs of regions: on a single one, on random ones, or on all.
@@ -338,15 +225,16 @@ fn compare_regions(options: &Options) -> Result<(), Failure> {
     } else if options.planted.is_some() {
         regions::compare_all(seed, options.pairs)
     } else {
-        let runs = options.runs as u64 / 2;
+        let runs = options.runs / 2;
         regions::small()
             .and_then(|()| regions::compare_all(seed, options.pairs))
             .and_then(|()| {
-                let programs = &options.region_programs;
-                programs.compare(seed, runs, &options.programs.examples)
+                let [proved, second] = options.programs(["regions", "region"]);
+                let programs = region_programs::Programs { proved, second };
+                programs.compare(seed, runs, &options.examples)
             })
     };
-    compared.map_err(|different: Different| different.keep(&options.keep))
+    compared.map_err(|different: Different| different.keep(options.kept()))
 }
 
 /// Compares the planners on range sheets: on a single one, on random ones, or on all.
@@ -358,11 +246,11 @@ fn compare_ranges(options: &Options) -> Result<(), Failure> {
     if options.planted.is_some() {
         return spans::compare_all(seed, options.surveys);
     }
-    let runs = options.runs as u64;
+    let runs = options.runs;
     spans::small()?;
     spans::compare_all(seed, options.surveys)?;
-    let programs = &options.range_programs;
-    programs.compare(seed, runs, &options.programs.examples)
+    let [[proved], [second]] = options.programs(["ranges"]);
+    spans::Programs { proved, second }.compare(seed, runs, &options.examples)
 }
 
 /// Compares the planners on plans drawn by hand: on a single one, on random ones, or on all.
@@ -373,15 +261,16 @@ fn compare_plans(options: &Options) -> Result<(), Failure> {
     } else if options.planted.is_some() {
         plans::compare_all(seed, options.plans)
     } else {
-        let runs = options.runs as u64 / 2;
+        let runs = options.runs / 2;
         plans::small()
             .and_then(|()| plans::compare_all(seed, options.plans))
             .and_then(|()| {
-                let programs = &options.plan_programs;
-                programs.compare(seed, runs, &options.programs.examples)
+                let [[proved], [second]] = options.programs(["judge"]);
+                let programs = plans::Programs { proved, second };
+                programs.compare(seed, runs, &options.examples)
             })
     };
-    compared.map_err(|different| different.keep(&options.keep))
+    compared.map_err(|different| different.keep(options.kept()))
 }
 
 /// Compares the planners on sheets with the same records: on a single pair, on random ones, or on all.
@@ -394,13 +283,14 @@ fn compare_shuffles(options: &Options) -> Result<(), Failure> {
     } else {
         shuffled::small().and_then(|()| shuffled::compare_all(seed, options.shuffles))
     };
-    compared.map_err(|different| different.keep(&options.keep))
+    compared.map_err(|different| different.keep(options.kept()))
 }
 
 /// Keeps a sheet in the file for it.
 fn keep(sheet: &[u8], options: &Options) {
-    match std::fs::write(&options.keep, sheet) {
-        Ok(()) => println!("the sheet is kept in {}", options.keep.display()),
+    let file = options.kept();
+    match std::fs::write(file, sheet) {
+        Ok(()) => println!("the sheet is kept in {}", file.display()),
         Err(error) => println!("the sheet cannot be kept: {error}"),
     }
 }

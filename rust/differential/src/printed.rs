@@ -3,6 +3,7 @@
 //! Names are looked up in either case. In a report each must be spelt as on its site's own line. The
 //! usable size of a link is worked out here from its own line; everything goes by it.
 
+use report::{Lines, number, read};
 use std::collections::HashMap;
 
 /// A network read back from a sheet that was accepted.
@@ -171,15 +172,6 @@ fn capitals(name: &[u8]) -> Option<[u8; NAME_BYTES]> {
     Some(capitals)
 }
 
-/// Reads a number written without a leading zero.
-fn number(text: &[u8]) -> Option<u64> {
-    let is_canonical = text == b"0" || text.first().is_some_and(|&digit| digit != b'0');
-    if !is_canonical || !text.iter().all(u8::is_ascii_digit) {
-        return None;
-    }
-    std::str::from_utf8(text).ok()?.parse().ok()
-}
-
 /// The usable size, given the fields of a link line behind its names: the size, and the reserve if
 /// there is one.
 pub fn usable_size(fields: &[&[u8]]) -> Option<u64> {
@@ -190,39 +182,13 @@ pub fn usable_size(fields: &[&[u8]]) -> Option<u64> {
     }
 }
 
-/// The lines of a report, taken one by one.
-pub struct Lines<'report> {
-    pub rest: &'report [u8],
-}
-
-impl<'report> Lines<'report> {
-    /// The fields of the next line after its first, which must be `letter`.
-    pub fn next<const COUNT: usize>(
-        &mut self,
-        letter: &str,
-    ) -> Result<[&'report [u8]; COUNT], String> {
-        let wrong = || format!("a line {letter} of {COUNT} fields is missing");
-        let length = self
-            .rest
-            .iter()
-            .position(|&byte| byte == b'\n')
-            .ok_or_else(wrong)?;
-        let (line, rest) = self.rest.split_at(length);
-        let mut fields = line.split(|&byte| byte == b'\t');
-        if fields.next() != Some(letter.as_bytes()) {
-            return Err(wrong());
-        }
-        let fields: Vec<&[u8]> = fields.collect();
-        self.rest = &rest[1..];
-        fields.try_into().map_err(|_| wrong())
-    }
-
+impl Network<'_> {
     /// The number behind the names and the usable size of a link on its line.
-    pub fn link(&mut self, network: &Network, link: &Link) -> Result<u64, String> {
-        let [first, second, usable, printed] = self.next("L")?;
+    pub fn link_line(&self, lines: &mut Lines, link: &Link) -> Result<u64, String> {
+        let [first, second, usable, printed] = lines.next("L")?;
         let [one, other] = link.sites;
         demand(
-            network.is_name(first, one) && network.is_name(second, other),
+            self.is_name(first, one) && self.is_name(second, other),
             "a link has other names",
         )?;
         demand(
@@ -234,21 +200,21 @@ impl<'report> Lines<'report> {
 
     /// The sum of the sizes of all end sets on their lines, when `owner` tells the owner of each
     /// site: an end, or none.
-    pub fn set_sizes(&mut self, network: &Network, owner: &[Option<usize>]) -> Result<u64, String> {
+    pub fn set_lines(&self, lines: &mut Lines, owner: &[Option<usize>]) -> Result<u64, String> {
         let mut sizes = vec![0; owner.len()];
         let mut counts = vec![0; owner.len()];
         for (site, own) in owner.iter().enumerate() {
             let Some(end) = *own else { continue };
             counts[end] += 1;
-            for &(link, other) in &network.around[site] {
+            for &(link, other) in &self.around[site] {
                 if owner[other] != *own {
-                    sizes[end] += network.links[link].usable;
+                    sizes[end] += self.links[link].usable;
                 }
             }
         }
-        for end in network.ends() {
-            let [name, size, count] = self.next("X")?;
-            demand(network.is_name(name, end), "an end set has another name")?;
+        for end in self.ends() {
+            let [name, size, count] = lines.next("X")?;
+            demand(self.is_name(name, end), "an end set has another name")?;
             demand(read(size)? == sizes[end], "an end set has another size")?;
             demand(read(count)? == counts[end], "an end set has another count")?;
         }
@@ -257,15 +223,15 @@ impl<'report> Lines<'report> {
 
     /// The pairs that end the report: two ends each with no other end between them, the lower number first,
     /// ascending, at most as many as links, with amounts above 0.
-    pub fn pairs(&mut self, network: &Network, count: u64) -> Result<Vec<Pair>, String> {
+    pub fn pair_lines(&self, lines: &mut Lines, count: u64) -> Result<Vec<Pair>, String> {
         demand(
-            count <= network.links.len() as u64,
+            count <= self.links.len() as u64,
             "there are more pairs than links",
         )?;
         let mut pairs: Vec<Pair> = Vec::new();
         for _ in 0..count {
-            let [first, second, amount] = self.next("P")?;
-            let [Some(first), Some(second)] = [first, second].map(|name| network.site(name)) else {
+            let [first, second, amount] = lines.next("P")?;
+            let [Some(first), Some(second)] = [first, second].map(|name| self.site(name)) else {
                 return Err("a pair has an unknown name".to_string());
             };
             let sites = [first, second];
@@ -275,24 +241,16 @@ impl<'report> Lines<'report> {
                 "pairs are out of order",
             )?;
             demand(
-                network.is_end(first) && network.is_end(second),
+                self.is_end(first) && self.is_end(second),
                 "a pair names a joint",
             )?;
             pairs.push((sites, read(amount)?));
             demand(read(amount)? > 0, "a pair has nothing")?;
         }
-        demand(self.rest.is_empty(), "the report goes on after its pairs")?;
-        demand(
-            network.are_free(&pairs),
-            "a pair has another end on its path",
-        )?;
+        demand(lines.rest.is_empty(), "the report goes on after its pairs")?;
+        demand(self.are_free(&pairs), "a pair has another end on its path")?;
         Ok(pairs)
     }
-}
-
-/// Reads a printed number.
-pub fn read(text: &[u8]) -> Result<u64, String> {
-    number(text).ok_or("a number is written wrongly".to_string())
 }
 
 /// Says what is wrong unless a demand is fulfilled.

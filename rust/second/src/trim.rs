@@ -47,6 +47,9 @@ pub fn balance(tree: &RootedTree) -> Balanced {
     if planted(Error::CutToLinksAbove) {
         return in_two_passes(&tree.cut_to_links_above());
     }
+    if planted(Error::CutToLargest) {
+        return cut_to_largest(tree);
+    }
     in_two_passes(tree)
 }
 
@@ -68,7 +71,8 @@ fn in_two_passes(tree: &RootedTree) -> Balanced {
         let parent = tree.parent(site);
         let trimmed = &mut capacity[usize::from(site)];
         let at_parent = &mut sum[usize::from(parent)];
-        if is_heavy(*trimmed, *at_parent) && is_cut_at(tree, parent) {
+        let is_cut = is_heavy(*trimmed, *at_parent) && is_cut_at(tree, parent);
+        if is_cut && !planted(Error::CutInwardAlone) {
             let others = *at_parent - *trimmed;
             *trimmed = others;
             *at_parent = 2 * others;
@@ -76,6 +80,30 @@ fn in_two_passes(tree: &RootedTree) -> Balanced {
         sum[usize::from(site)] += *trimmed;
     }
     Balanced { capacity, sum }
+}
+
+/// The same where a link is held against the largest other link of its joint, for an error that can be planted.
+#[cold]
+fn cut_to_largest(tree: &RootedTree) -> Balanced {
+    let mut capacity = [0; PLACES];
+    for &site in tree.leaves_first() {
+        capacity[usize::from(site)] = tree.capacity(site);
+    }
+    let largest_but = |capacity: &[u32; PLACES], joint: Site, link: Site| {
+        let links = tree.children(joint).chain([joint]);
+        let others = links.filter(|&other| other != link);
+        others.map(|other| capacity[usize::from(other)]).max()
+    };
+    let inward = tree.leaves_first().iter().map(|&site| [site, site]);
+    let outward = tree.leaves_first().iter().rev();
+    for [joint, link] in inward.chain(outward.map(|&site| [tree.parent(site), site])) {
+        let largest = largest_but(&capacity, joint, link);
+        if let Some(largest) = largest.filter(|_| is_cut_at(tree, joint)) {
+            let cut = &mut capacity[usize::from(link)];
+            *cut = largest.min(*cut);
+        }
+    }
+    Balanced::new(tree, &capacity)
 }
 
 /// Whether heavy links are cut at a site: it is a joint.

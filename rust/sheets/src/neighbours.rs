@@ -4,7 +4,8 @@
 use crate::cases::in_either_case;
 use crate::joined::{Due, due, far_sites, link_between, site};
 use crate::tried::Refused;
-use crate::{Edition, Layout, Network, Random, SITES, SIZE, Spelling, prufer_links, some_reserve};
+use crate::{Edition, Layout, Names, Network, Random, SITES, SIZE, Shape, Sizes, Spelling};
+use crate::{prufer_links, some_reserve};
 
 /// The sheets of two regions, and what is due of them.
 #[derive(Clone, Debug)]
@@ -410,4 +411,33 @@ fn small_region(names: &[&str], links: &[[usize; 2]], sizes: usize, marks: usize
         reserves: vec![None; links.len()],
         spelling: Spelling::AsGiven,
     }
+}
+
+/// The sheets of two regions that share one link, each a tree of a shape with so many sites, one of its ends being the
+/// far site: long names, and large sizes.
+#[must_use]
+pub fn largest(shape: Shape, sites: usize, random: &mut Random) -> [Vec<u8>; 2] {
+    let mut names = Names::Long.list(2 * sites, random);
+    let [mut one, mut other] = [sites, 0].map(|first| {
+        let mut region = Network::random(shape, sites, Sizes::Large, Names::Long, random);
+        region.names = names.split_off(first);
+        region
+    });
+    let [
+        (shared, [far, near]),
+        (other_shared, [other_far, other_near]),
+    ] = [&one, &other].map(end_link);
+    one.names[far].clone_from(&other.names[other_near]);
+    other.names[other_far].clone_from(&one.names[near]);
+    other.sizes[other_shared] = one.sizes[shared];
+    [one, other].map(|region| region.sheet(Layout::Mixed, random))
+}
+
+/// A link of an end, with the end and its other site.
+fn end_link(network: &Network) -> (usize, [usize; 2]) {
+    let links = network.links.iter().enumerate();
+    let mut turned =
+        links.flat_map(|(link, &[one, other])| [(link, [one, other]), (link, [other, one])]);
+    let found = turned.find(|&(_, [end, _])| network.is_end(end));
+    found.expect("a tree has ends")
 }

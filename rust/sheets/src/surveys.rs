@@ -43,7 +43,13 @@ fn lines(network: &Network, random: &mut Random) -> Vec<Vec<u8>> {
             Some(low + if random.once_in(times) { width } else { 0 })
         })
         .collect();
-    let mut lines = network.lines(Layout::any(random), random);
+    let layout = Layout::any(random);
+    headed(&network, layout, random)
+}
+
+/// The lines of a network under the heading of range sheets, its sizes being the low ones and its reserves the high ones.
+fn headed(network: &Network, layout: Layout, random: &mut Random) -> Vec<Vec<u8>> {
+    let mut lines = network.lines(layout, random);
     lines[0] = HEADING.to_vec();
     lines
 }
@@ -261,10 +267,18 @@ pub fn longest() -> Vec<Vec<u8>> {
         network.sizes.fill(SIZE);
         network.marks.fill(is_marked);
         network.reserves = network.sizes.iter().map(|&low| Some(low)).collect();
-        let mut lines = network.lines(Layout::SitesFirst, random);
-        lines[0] = HEADING.to_vec();
-        join_lines(&lines)
+        join_lines(&headed(&network, Layout::SitesFirst, random))
     };
     let shapes = SHAPES.map(|shape| [(shape, false), (shape, true)]).concat();
     shapes.into_iter().map(of).collect()
+}
+
+/// The range sheet of a tree of a shape with so many sites: long names, and large sizes of many widths.
+#[must_use]
+pub fn largest(shape: Shape, sites: usize, random: &mut Random) -> Vec<u8> {
+    let mut network = Network::random(shape, sites, Sizes::Large, Names::Long, random);
+    let lows = network.sizes.iter();
+    let high = |&low: &u32| random.between(low as usize, SIZE as usize) as u32;
+    network.reserves = lows.map(high).map(Some).collect();
+    join_lines(&headed(&network, Layout::Mixed, random))
 }

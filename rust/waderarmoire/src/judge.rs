@@ -1,6 +1,6 @@
 //! Plans drawn by hand.
 
-use crate::Refusal;
+use crate::words::{self, Of};
 use std::error::Error;
 use std::fmt;
 
@@ -33,7 +33,7 @@ pub struct Judgement {
 pub struct JudgeRefusal {
     /// The text that is refused: 1 is the sheet, 2 the plan.
     pub text: u8,
-    /// The number of the cause: of the sheet as in [`Refusal`], of the plan
+    /// The number of the cause: of the sheet as in [`Refusal`](crate::Refusal), of the plan
     ///
     /// - 1: more than 65,536 bytes, or than 1,024 lines
     /// - 2: a letter other than `P`, or a missing line ending
@@ -53,32 +53,11 @@ pub struct JudgeRefusal {
     pub line: u32,
 }
 
-impl JudgeRefusal {
-    /// The cause in words, those of the program.
-    #[must_use]
-    pub fn cause(&self) -> &'static str {
-        match (self.text, self.number) {
-            (2, 1) => "more than 65,536 bytes, or than 1,024 lines",
-            (2, 2) => "wrong letter or line ending",
-            (2, 3) => "amount not from 1 to 2,000,000",
-            (2, 6) => "not two ends free to be joined",
-            (2, 20) => "pair given on an earlier line",
-            (2, 21) => "a load above twice the usable size of its link",
-            (_, number) => Refusal { number, line: 0 }.cause(),
-        }
-    }
-}
-
 /// The line that the program writes to standard error, without its line feed: which text, which line if there is one,
 /// and the cause in words.
 impl fmt::Display for JudgeRefusal {
     fn fmt(&self, out: &mut fmt::Formatter<'_>) -> fmt::Result {
-        let text = if self.text == 1 { "sheet" } else { "plan" };
-        if self.line == 0 {
-            write!(out, "the {text}: {}", self.cause())
-        } else {
-            write!(out, "the {text}, line {}: {}", self.line, self.cause())
-        }
+        words::write(out, Of::Judge(self.text), self.number, self.line)
     }
 }
 

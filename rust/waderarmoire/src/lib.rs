@@ -136,6 +136,14 @@
 //! assert_eq!(refusal.to_string(), "line 3: link to a name not given on a line above");
 //! ```
 //!
+//! [`order`] tells sites by their numbers; [`name`] looks up the name of each:
+//!
+//! ```
+//! let sheet = b"network\t1\nN\tHill\nN\tmill\nL\tHILL\tMill\t4\n";
+//! assert_eq!(waderarmoire::name(sheet, 1), b"Hill");
+//! assert_eq!(waderarmoire::name(sheet, 3), b"");
+//! ```
+//!
 //! # What a call does
 //!
 //! All functions are safe for every text and every buffer or list, and every call ends. They allocate
@@ -144,8 +152,8 @@
 //! library below asks, pointers that are not null and areas that do not overlap, slices have.
 //!
 //! A plan or an order needs at most 176 KiB of stack, whatever the shape of the tree, two regions, a step of
-//! one or a judgement at most 160 KiB, a replay or a report on ranges at most 128 KiB: nothing recurses (measured on the
-//! largest trees, with what a new thread itself needs). A thread of [`STACK_BYTES`] has enough for every
+//! one or a judgement at most 160 KiB, a replay or a report on ranges at most 128 KiB: nothing recurses but the digits of a number
+//! of nine or more, twenty deep at most (measured on the largest trees, with what a new thread itself needs). A thread of [`STACK_BYTES`] has enough for every
 //! sheet and log.
 //!
 //! # Building
@@ -156,14 +164,18 @@
 //! `rt staticlib waderarmoire` puts it.
 
 mod judge;
+mod names;
 mod regions;
 mod replay;
+mod words;
 
 pub use judge::{JudgeRefusal, Judgement, PLAN_BYTES, PLAN_LINES, judge};
+pub use names::name;
 pub use regions::{LINKS, Region, RegionsRefusal, region_answer, region_first, regions};
 pub use replay::{LOG_BYTES, LOG_LINES, ReplayRefusal, replay};
 use std::error::Error;
 use std::fmt;
+use words::Of;
 
 /// The largest sheet that is read, in bytes: one of edition 2. Of edition 1 it has 16,384.
 pub const SHEET_BYTES: usize = 24_576;
@@ -224,8 +236,8 @@ pub struct Refusal {
     /// - 6: link to a name not given on a line above
     /// - 7: link whose sites are already joined by links above, or are one site
     /// - 8: fewer than two sites, or not all sites are joined
-    /// - 9: report longer than the buffer; of [`order`], more sites than places in the list; of
-    ///   [`region_answer`], more links than places
+    /// - 9: answer longer than the buffer or list for it: the report, of [`order`] the sites, of
+    ///   [`region_answer`] the links
     /// - 10: wrong number of fields
     /// - 11: a name is not 1 to 12 letters or digits
     /// - 12: a number is not written in decimal without a leading zero
@@ -243,40 +255,10 @@ pub struct Refusal {
     pub line: u32,
 }
 
-impl Refusal {
-    /// The cause in words, those of the program.
-    #[must_use]
-    pub fn cause(&self) -> &'static str {
-        match self.number {
-            1 => "no bytes, or more than 16,384 (edition 2: 24,576)",
-            2 => "wrong heading, letter or line ending",
-            3 => "size or reserve above 1,000,000",
-            4 => "more sites than 256 (edition 2: 384)",
-            5 => "name already given to a site",
-            6 => "link to a name not given on a line above",
-            7 => "link whose sites are already joined by links above, or are one site",
-            8 => "fewer than two sites, or not all sites are joined",
-            9 => "report longer than the buffer",
-            10 => "wrong number of fields",
-            11 => "a name is not 1 to 12 letters or digits",
-            12 => "a number is not written in decimal without a leading zero",
-            13 => "reserve above the size",
-            17 => "name of digits only",
-            18 => "the two sheets do not share one link",
-            19 => "low size above the high size",
-            _ => "a cause without words",
-        }
-    }
-}
-
 /// The line that the program writes to standard error, without its line feed.
 impl fmt::Display for Refusal {
     fn fmt(&self, out: &mut fmt::Formatter<'_>) -> fmt::Result {
-        if self.line == 0 {
-            write!(out, "the sheet: {}", self.cause())
-        } else {
-            write!(out, "line {}: {}", self.line, self.cause())
-        }
+        words::write(out, Of::Sheet, self.number, self.line)
     }
 }
 

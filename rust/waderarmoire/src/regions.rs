@@ -1,6 +1,7 @@
 //! Two regions that share one link.
 
 use crate::Refusal;
+use crate::words::{self, Of};
 use std::error::Error;
 use std::fmt;
 
@@ -66,26 +67,11 @@ pub struct RegionsRefusal {
     pub line: u32,
 }
 
-impl RegionsRefusal {
-    /// The cause in words.
-    #[must_use]
-    pub fn cause(&self) -> &'static str {
-        match self.number {
-            9 => "more links than places for sizes",
-            number => Refusal { number, line: 0 }.cause(),
-        }
-    }
-}
-
 /// The line that the program writes to standard error, without its line feed: which sheet, if it is one, which line
 /// if there is one, and the cause in words.
 impl fmt::Display for RegionsRefusal {
     fn fmt(&self, out: &mut fmt::Formatter<'_>) -> fmt::Result {
-        match (self.sheet, self.line) {
-            (0, _) => write!(out, "{}", self.cause()),
-            (sheet, 0) => write!(out, "sheet {sheet}: {}", self.cause()),
-            (sheet, line) => write!(out, "sheet {sheet}, line {line}: {}", self.cause()),
-        }
+        words::write(out, Of::Regions(self.sheet), self.number, self.line)
     }
 }
 

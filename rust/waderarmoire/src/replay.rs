@@ -1,6 +1,6 @@
 //! Booking logs.
 
-use crate::Refusal;
+use crate::words::{self, Of};
 use std::error::Error;
 use std::fmt;
 
@@ -26,7 +26,7 @@ unsafe extern "C" {
 pub struct ReplayRefusal {
     /// The text that is refused: 1 is the sheet, 2 the log.
     pub text: u8,
-    /// The number of the cause: of the sheet as in [`Refusal`], of the log
+    /// The number of the cause: of the sheet as in [`Refusal`](crate::Refusal), of the log
     ///
     /// - 1: more than 65,536 bytes, or than 4,096 lines
     /// - 9: more lines than places in the list of answers
@@ -37,27 +37,10 @@ pub struct ReplayRefusal {
     pub line: u32,
 }
 
-impl ReplayRefusal {
-    /// The cause in words.
-    #[must_use]
-    pub fn cause(&self) -> &'static str {
-        match (self.text, self.number) {
-            (2, 1) => "more than 65,536 bytes, or than 4,096 lines",
-            (2, 9) => "more lines than places for answers",
-            (_, number) => Refusal { number, line: 0 }.cause(),
-        }
-    }
-}
-
 /// Which text, which line if there is one, and the cause in words.
 impl fmt::Display for ReplayRefusal {
     fn fmt(&self, out: &mut fmt::Formatter<'_>) -> fmt::Result {
-        let text = if self.text == 1 { "sheet" } else { "log" };
-        if self.line == 0 {
-            write!(out, "the {text}: {}", self.cause())
-        } else {
-            write!(out, "the {text}, line {}: {}", self.line, self.cause())
-        }
+        words::write(out, Of::Replay(self.text), self.number, self.line)
     }
 }
 

@@ -159,21 +159,3 @@ fn little_stack() {
         assert!(matches!(answered, Due::Answered([one, _]) if Ok(one.sum) == sum));
     }
 }
-
-#[test]
-fn words() {
-    let words = |sheet, number, line| {
-        RegionsRefusal {
-            sheet,
-            number,
-            line,
-        }
-        .to_string()
-    };
-    assert_eq!(
-        words(2, 5, 3),
-        "sheet 2, line 3: name already given to a site"
-    );
-    assert_eq!(words(1, 9, 0), "sheet 1: more links than places for sizes");
-    assert_eq!(words(0, 18, 0), "the two sheets do not share one link");
-}

@@ -1,57 +1,74 @@
-//! The words of the refusals are those of the proved program: its table of causes is read from
-//! the definitions of the crate `report_words`. The limits in it stand there by name; they are those of the
-//! editions.
+//! The words of the refusals come from the library, which is proved to write those of its one table; here that each
+//! kind of refusal asks for its own.
 
-use sheets::{Edition, SIZE};
-use waderarmoire::Refusal;
-
-const TABLE: &str = include_str!("../../../crates/report_words/specs/Words.antt");
-
-/// A number with a comma before each three digits.
-fn grouped(number: usize) -> String {
-    match number {
-        0..1000 => number.to_string(),
-        _ => format!("{},{:03}", grouped(number / 1000), number % 1000),
-    }
-}
-
-/// A limit of edition 1, and that of edition 2.
-fn of_both(limit: fn(Edition) -> usize) -> String {
-    let [first, second] = Edition::ALL.map(|edition| grouped(limit(edition)));
-    format!("{first} (edition 2: {second})")
-}
-
-/// What the table has for a number: a text, and limits behind some.
-fn told(number: u8) -> String {
-    let start = format!("pick n {number} (bytes \"");
-    let (_, rest) = TABLE
-        .split_once(&start)
-        .expect("the number is in the table");
-    let (line, _) = rest.split_once('\n').expect("the table has lines");
-    let (text, behind) = line.split_once('"').expect("the text ends");
-    let limits = match number {
-        _ if !behind.starts_with(" ++ ") => String::new(),
-        1 => of_both(Edition::bytes),
-        4 => of_both(Edition::sites),
-        _ => grouped(SIZE as usize),
-    };
-    text.to_string() + &limits
-}
+use waderarmoire::{JudgeRefusal, Refusal, RegionsRefusal, ReplayRefusal};
 
 #[test]
-fn causes() {
-    for number in (1..=13).chain(17..=19) {
-        let refusal = Refusal { number, line: 0 };
-        assert_eq!(refusal.cause(), told(number));
-    }
-}
-
-#[test]
-fn lines() {
+fn of_a_sheet() {
     let words = |number, line| Refusal { number, line }.to_string();
     assert_eq!(
         words(8, 0),
         "the sheet: fewer than two sites, or not all sites are joined"
     );
     assert_eq!(words(5, 3), "line 3: name already given to a site");
+    assert_eq!(
+        words(9, 0),
+        "the sheet: answer longer than the buffer or list for it"
+    );
+    assert_eq!(words(20, 1), "line 1: a cause without words");
+}
+
+#[test]
+fn of_a_replay() {
+    let words = |text, number, line| ReplayRefusal { text, number, line }.to_string();
+    assert_eq!(
+        words(1, 5, 3),
+        "the sheet, line 3: name already given to a site"
+    );
+    assert_eq!(
+        words(2, 1, 0),
+        "the log: more than 65,536 bytes, or than 4,096 lines"
+    );
+    assert_eq!(
+        words(2, 9, 0),
+        "the log: more lines than places for answers"
+    );
+}
+
+#[test]
+fn of_two_regions() {
+    let words = |sheet, number, line| {
+        RegionsRefusal {
+            sheet,
+            number,
+            line,
+        }
+        .to_string()
+    };
+    assert_eq!(words(0, 18, 0), "the two sheets do not share one link");
+    assert_eq!(
+        words(2, 5, 3),
+        "sheet 2, line 3: name already given to a site"
+    );
+    assert_eq!(
+        words(1, 9, 0),
+        "sheet 1: answer longer than the buffer or list for it"
+    );
+}
+
+#[test]
+fn of_a_judgement() {
+    let words = |text, number, line| JudgeRefusal { text, number, line }.to_string();
+    assert_eq!(
+        words(1, 8, 0),
+        "the sheet: fewer than two sites, or not all sites are joined"
+    );
+    assert_eq!(
+        words(2, 20, 2),
+        "the plan, line 2: pair given on an earlier line"
+    );
+    assert_eq!(
+        words(2, 21, 0),
+        "the plan: a load above twice the usable size of its link"
+    );
 }

@@ -1,27 +1,40 @@
--- `join_kept` meets its contract: after the links from j on the labels are those by the kept ones among them.
+-- `join_kept` meets its contract: after the links from j on the parents hold the labels by the kept ones among them.
 use mathlib.Core.Path.{_≡_, ap, _∙_}
 use Prim.Native.Nat.{_+_, _-_, _≤_}
 use native.Mathlib.Omega.{arith}
 use lib.ListN.{length}
 use Rattle.model.specs.Limits.{PLACES}
-use Rattle.lists.specs.Numbers.{look}
 use Rattle.lists.specs.Places.{length-upfrom}
-use Rattle.tree_labels.specs.LabelPlaces.{linked-sites}
-use Rattle.cuts_groups.proofs.Kept.{groupsFrom, length-groups, groups-none, groups-in, groups-out, groups-all}
+use Rattle.tree_labels.specs.Labels.{Lower, Tells}
+use Rattle.tree_labels.specs.Roots.{own-lower}
+use Rattle.cuts_groups.proofs.Kept.{groupFrom, groups-none, groups-in, groups-out, groups-all}
 use Rattle.cuts_groups.proofs.join_kept.Statement.{statement}
 use Rattle.cuts_groups.proofs.join_kept.Tie as tie
 
 abbrev Inv-loop : tie.InvT-loop
-Inv-loop one two capacity balanced labels₀ j₀ labels j = (j ≤ length one) × (labels ≡ groupsFrom one two capacity balanced j)
+Inv-loop one two capacity balanced parents₀ j₀ parents j =
+    (j ≤ length one) × (length parents ≡ PLACES) × Lower parents × Tells parents (groupFrom one two capacity balanced j)
 
 abbrev μ-loop : tie.MeasureT-loop
-μ-loop one two capacity balanced labels₀ j₀ labels j = j
+μ-loop one two capacity balanced parents₀ j₀ parents j = j
 
 loop-holds : tie.Need-loop-holds Inv-loop μ-loop
 loop-holds c =
     let s = c .before .before .before .before .before in
     let a = s .args in
-    (omega arith, s .pre .0 ∙ groups-none (a .one .now) (a .two .now) (a .capacity .now) (a .balanced .now) (s .pre .1 .seconds))
+    rw (s .pre .0) (
+      omega arith,
+      length-upfrom 0 PLACES,
+      own-lower PLACES,
+      groups-none (a .one .now) (a .two .now) (a .capacity .now) (a .balanced .now) (s .pre .1 .seconds),
+    )
+
+join-requires : tie.Need-join-requires Inv-loop μ-loop
+join-requires c κs =
+    let top = c .before .before .before .before .before .before .before in
+    let s = top .before .before .before .before .before .before in
+    let e = s .pre .1 .sites (top .loop .j - 1) (omega arith) in
+    (top .loop .inv .2, omega (arith, e, top .loop .inv .1), omega (arith, e, top .loop .inv .1))
 
 loop-again : tie.Need-loop-again Inv-loop μ-loop
 loop-again c =
@@ -31,14 +44,12 @@ loop-again c =
     let a = s .args in
     let j = top .loop .j - 1 in
     let next : top .loop .j ≡ j + 1 = omega arith in
-    let now = top .loop .labels in
-    let e = s .pre .1 .sites j (omega arith) in
-    let long = ap length (top .loop .inv .1) ∙ length-groups (a .one .now) (a .two .now) (a .capacity .now) (a .balanced .now) (top .loop .j) in (
+    let joins = c .before .before .join .ensures in (
       omega arith,
-      c .before .before .join .ensures
-          ∙ linked-sites now (look (a .one .now) j) (look (a .two .now) j) (omega (arith, long, e)) (omega (arith, long, e))
-          ∙ groups-in (a .one .now) (a .two .now) (a .capacity .now) (a .balanced .now) (s .pre .1 .seconds) j (omega arith) (rw next at (top .loop .inv .1))
-          (omega (arith, e)) (omega (arith, e)) (then .if1 .taken),
+      joins .long ∙ top .loop .inv .1,
+      joins .lower,
+      groups-in (a .one .now) (a .two .now) (a .capacity .now) (a .balanced .now) (s .pre .1 .seconds) j (omega arith) (then .if1 .taken)
+          (joins .tells _ (rw next at (top .loop .inv .3))),
     )
 
 loop-again-2 : tie.Need-loop-again-2 Inv-loop μ-loop
@@ -49,28 +60,26 @@ loop-again-2 c =
     let j = top .loop .j - 1 in
     let next : top .loop .j ≡ j + 1 = omega arith in (
       omega arith,
+      top .loop .inv .1,
+      top .loop .inv .2,
       groups-out (a .one .now) (a .two .now) (a .capacity .now) (a .balanced .now) (s .pre .1 .seconds) j (omega arith)
-          (rw next at (top .loop .inv .1)) (c .if1 .left),
+          (c .if1 .left) (rw next at (top .loop .inv .3)),
     )
 
 same-length : tie.Need-same-length Inv-loop μ-loop
 same-length c =
     let s = c .before .before .before .before .before .before .before in
-    let a = s .args in
-    omega (
-      arith,
-      ap length (s .pre .0),
-      length-upfrom 0 PLACES,
-      ap length (c .before .loop .inv .1),
-      length-groups (a .one .now) (a .two .now) (a .capacity .now) (a .balanced .now) (c .before .loop .j),
-    )
+    omega (arith, ap length (s .pre .0), length-upfrom 0 PLACES, c .before .loop .inv .1)
 
 returns : tie.Need-returns Inv-loop μ-loop
 returns c =
     let s = c .before .before .before .before .before .before .before in
     let a = s .args in
-    let none : c .before .loop .j ≡ 0 = omega arith in
-    rw none at (c .before .loop .inv .1) ∙ groups-all (a .one .now) (a .two .now) (a .capacity .now) (a .balanced .now) (s .pre .1 .seconds)
+    let none : c .before .loop .j ≡ 0 = omega arith in (
+      c .before .loop .inv .1,
+      c .before .loop .inv .2,
+      groups-all (a .one .now) (a .two .now) (a .capacity .now) (a .balanced .now) (s .pre .1 .seconds) (rw none at (c .before .loop .inv .3)),
+    )
 
 pub join-kept-spec : {M : Type 1} → statement M
 join-kept-spec =
@@ -88,7 +97,7 @@ join-kept-spec =
     (λ c. omega arith)
     (λ c. omega arith)
     (λ c. omega arith)
-    (λ c κs. tt)
+    join-requires
     (λ c. omega arith)
     loop-again
     (λ c. omega arith)

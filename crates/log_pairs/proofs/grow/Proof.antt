@@ -10,8 +10,8 @@ returns c = held-grown (c .before .before .pre) (c .before .if1 .taken)
 
 returns-2 : tie.Need-returns-2
 returns-2 c =
-    let s = c .before in
-    held-new (s .pre) (omega (arith, s .pre .place .within))
+    let s = c .before .before in
+    rw (c .packed .ensures) (held-new (s .pre) (omega (arith, s .pre .place .within)))
 
 pub grow-spec : {M : Type 1} → statement M
 grow-spec =
@@ -22,8 +22,7 @@ grow-spec =
     (λ c. search needs)
     (λ c. search needs)
     returns
-    (λ c. search needs)
-    (λ c. search needs)
+    (λ c κs. search needs)
     (λ c. search needs)
     (λ c. search needs)
     (λ c. search needs)

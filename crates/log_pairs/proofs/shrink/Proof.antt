@@ -12,8 +12,8 @@ returns c =
 
 returns-2 : tie.Need-returns-2
 returns-2 c =
-    let s = c .before .before .before .before .before in
-    held-gone (s .pre) (omega (arith, s .pre .enough, c .before .before .before .if1 .left))
+    let s = c .before .before .before .before in
+    held-gone (s .pre) (omega (arith, s .pre .enough, c .before .before .if1 .left))
 
 pub shrink-spec : {M : Type 1} → statement M
 shrink-spec =
@@ -26,12 +26,6 @@ shrink-spec =
     (λ c. search needs)
     (λ c. search needs)
     returns
-    (λ c. search needs)
-    (λ c. search needs)
-    (λ c. search needs)
-    (λ c. search needs)
-    (λ c. search needs)
-    (λ c. search needs)
     (λ c. search needs)
     (λ c. search needs)
     (λ c. search needs)

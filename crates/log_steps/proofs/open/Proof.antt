@@ -15,49 +15,50 @@ overfills-requires c κs =
 
 find-requires : tie.Need-find-requires
 find-requires c κs =
-    let s = c .before .before .before .before .before .before .before .before in
-    s .pre .2 .holds .pairs .few
+    let s = c .before .before .before .before .before .before .before .pre in
+    let low = sites-low (s .0) (s .2) (s .1) in
+    (low .0, low .1, s .2 .holds .pairs .few)
 
 returns : tie.Need-returns
 returns c =
-    let s = c .before .before .before .before .before .before .before .before .before .before .pre in
-    let path = c .before .before .before .before .before .before .between in
-    let over = rw (c .if1 .taken) at (c .before .before .before .before .overfills .ensures) in
+    let s = c .before .before .before .before .before .before .before .before .before .pre in
+    let path = c .before .before .before .before .before .between in
+    let over = rw (c .if1 .taken) at (c .before .before .before .overfills .ensures) in
     answered-15 (s .0) (s .2) (s .1) (path .result) (path .ensures) over
 
 -- no link would be overfilled
 fits : (c : tie.Else1) →
-    let a = c .before .before .before .before .before .before .before .before .before .before .args in
-    let path = c .before .before .before .before .before .before .between .result in
+    let a = c .before .before .before .before .before .before .before .before .before .args in
+    let path = c .before .before .before .before .before .between .result in
     Passing path (a .p .amount) (a .capacity .now) (a .load .now) → ⊥
-fits c = rw (c .if1 .left) at (c .before .before .before .before .overfills .ensures)
+fits c = rw (c .if1 .left) at (c .before .before .before .overfills .ensures)
 
 returns-2 : tie.Need-returns-2
 returns-2 c =
-    let s = c .before .before .before .before .before .before .before .before .before .before .before .pre in
-    let path = c .before .before .before .before .before .before .before .between in
+    let s = c .before .before .before .before .before .before .before .before .before .before .pre in
+    let path = c .before .before .before .before .before .before .between in
     answered-16 (s .0) (s .2) (s .1) (path .result) (path .ensures) (fits (c .before)) (c .before .before .find .ensures) (c .if2 .taken)
 
 raise-requires : tie.Need-raise-requires
 raise-requires c κs =
-    let s = c .before .before .before .before .before .before .before .before .before .before .before .before .pre in
-    let path = c .before .before .before .before .before .before .before .before .between in
+    let s = c .before .before .before .before .before .before .before .before .before .before .before .pre in
+    let path = c .before .before .before .before .before .before .before .between in
     raising (s .0) (s .2) (s .1) (path .result) (path .ensures)
 
 grow-requires : tie.Need-grow-requires
 grow-requires c κs =
-    let s = c .before .before .before .before .before .before .before .before .before .before .before .before .before .before .before .before .pre in
-    let path = c .before .before .before .before .before .before .before .before .before .before .before .before .between in
-    let room = c .before .before .before .before .before in
+    let s = c .before .before .before .before .before .before .before .before .before .before .before .before .before .before .pre in
+    let path = c .before .before .before .before .before .before .before .before .before .before .between in
+    let room = c .before .before .before .before in
     growing (s .0) (s .2) (s .1) (path .result) (path .ensures) (fits (room .before)) (room .before .before .find .ensures) (room .if2 .left)
 
 returns-3 : tie.Need-returns-3
 returns-3 c =
-    let s = c .before .before .before .before .before .before .before .before .before .before .before .before .before .before .before .before .before .pre in
-    let path = c .before .before .before .before .before .before .before .before .before .before .before .before .before .between in
-    let room = c .before .before .before .before .before .before in
+    let s = c .before .before .before .before .before .before .before .before .before .before .before .before .before .before .before .pre in
+    let path = c .before .before .before .before .before .before .before .before .before .before .before .between in
+    let room = c .before .before .before .before .before in
     opened (s .0) (s .2) (s .1) (path .result) (path .ensures) (fits (room .before)) (room .before .before .find .ensures) (room .if2 .left)
-    (c .before .before .before .before .raise .ensures) (c .grow .ensures)
+    (c .before .before .before .raise .ensures) (c .grow .ensures)
 
 pub open-spec : {M : Type 1} → statement M
 open-spec =

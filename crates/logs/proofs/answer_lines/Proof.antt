@@ -22,13 +22,13 @@ use Rattle.logs.proofs.answer_lines.Statement.{statement}
 use Rattle.logs.proofs.answer_lines.Tie as tie
 
 abbrev Inv-loop : tie.InvT-loop
-Inv-loop sheet starts stops n table ends outer one two capacity rows log list₀ first₀ second₀ amount₀ load₀ count₀ at₀ i₀
-    list first second amount load count at i =
-    along.Progress sheet (ranges starts stops 0 n) (links one two) (look ends) (look capacity) log list₀ first second amount load count at i list
+Inv-loop sheet starts stops n table ends outer one two capacity rows log list₀ pairs₀ amount₀ load₀ count₀ at₀ i₀
+    list pairs amount load count at i =
+    along.Progress sheet (ranges starts stops 0 n) (links one two) (look ends) (look capacity) log list₀ pairs amount load count at i list
 
 abbrev μ-loop : tie.MeasureT-loop
-μ-loop sheet starts stops n table ends outer one two capacity rows log list₀ first₀ second₀ amount₀ load₀ count₀ at₀ i₀
-    list first second amount load count at i =
+μ-loop sheet starts stops n table ends outer one two capacity rows log list₀ pairs₀ amount₀ load₀ count₀ at₀ i₀
+    list pairs amount load count at i =
     length log - at
 
 abbrev begin : tie.At-loop Inv-loop μ-loop → tie.Start Inv-loop μ-loop
@@ -81,7 +81,7 @@ asked-is c = c .request-at .ensures
 
 step-requires : tie.Need-step-requires Inv-loop μ-loop
 step-requires c κs =
-    let request = c .before .before .before .before in
+    let request = c .before .before .before in
     let top = request .before .before .before .before in
     let s = begin top in
     let asked = a-request-can-be-asked false (s .args .sheet .now) (names s) (links (s .args .one .now) (s .args .two .now)) (look (s .args .ends .now))
@@ -89,10 +89,10 @@ step-requires c κs =
     (s .pre .0, subst (Asked (s .args .n)) (sym (asked-is request)) (rw (number s) at asked), rw (number s) at (along.standing _ _ _ _ _ _ _ (top .loop .inv)))
 
 mul-list : tie.Need-mul-list Inv-loop μ-loop
-mul-list c = let then = c .before .before .before .before .before .before .before in omega (arith, room then, list-fits (begin (then .before .before)))
+mul-list c = let then = c .before .before .before .before .before .before in omega (arith, room then, list-fits (begin (then .before .before)))
 
 slice-write-list : tie.Need-slice-write-list Inv-loop μ-loop
-slice-write-list c = let then = c .before .before .before .before .before .before .before in omega (arith, room then, same-places (then .before .before))
+slice-write-list c = let then = c .before .before .before .before .before .before in omega (arith, room then, same-places (then .before .before))
 
 -- where the line ends
 ends-at : (c : tie.After-line Inv-loop μ-loop) → let top = c .before .before .before in
@@ -103,31 +103,31 @@ ends-at c =
 
 add-rest : tie.Need-add-rest Inv-loop μ-loop
 add-rest c =
-    let line = c .before .before .before .before .before .before in
+    let line = c .before .before .before .before .before in
     omega (arith, ends-at line, log-fits (begin (line .before .before .before)))
 
 -- the offset of the next line
-rest-is : (c : tie.After-rest Inv-loop μ-loop) → let top = c .before .before .before .before .before .before .before .before .before .before in
+rest-is : (c : tie.After-rest Inv-loop μ-loop) → let top = c .before .before .before .before .before .before .before .before .before in
     c .rest .result ≡ afterLine (begin top .args .log .now) (top .loop .at)
 rest-is c =
-    let line = c .before .before .before .before .before .before .before in
+    let line = c .before .before .before .before .before .before in
     let top = line .before .before .before in
     rw (line .line .ensures .bytes) at (c .rest .ensures) ∙ after-the-end-of-a-line (begin top .args .log .now) (top .loop .at) (top .loop .inv .on-log)
 
 add-i : tie.Need-add-i Inv-loop μ-loop
 add-i c =
-    let then = c .before .before .before .before .before .before .before .before in
+    let then = c .before .before .before .before .before .before .before in
     omega (arith, room then, list-fits (begin (then .before .before)))
 
 loop-less : tie.Need-loop-less Inv-loop μ-loop
 loop-less c =
-    let then = c .before .before .before .before .before .before .before .before in
+    let then = c .before .before .before .before .before .before .before in
     let top = then .before .before in
     omega (arith, rest-is c, here then, after-line-is-later (begin top .args .log .now) (top .loop .at) (there then))
 
 loop-again : tie.Need-loop-again Inv-loop μ-loop
 loop-again c =
-    let request = c .before .before .before .before .before .before in
+    let request = c .before .before .before .before .before in
     let then = request .before .before in
     let top = then .before .before in
     let s = begin top in

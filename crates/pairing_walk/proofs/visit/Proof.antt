@@ -1,60 +1,82 @@
 -- `pairing_walk::visit` meets its contract: each turn adds a terminal, enters a site, or settles one; a root that is settled makes way for the next.
 use mathlib.Core.Path.{_≡_, refl, sym, ap, _∙_}
 use mathlib.Core.Logic.{_≢_}
-use Prim.Native.Nat.{ℕ, suc, _-_, _<_}
+use Prim.Native.Nat.{ℕ, suc, _-_, _*_, _≤_, _<_}
 use native.Mathlib.Omega.{arith}
 use native.Mathlib.Numerals.{add-one}
 use lib.ListN.{length, set, length-set, length-replicate}
-use Rattle.model.specs.Limits.{PLACES}
+use Rattle.model.specs.Limits.{PLACES, SITES}
 use Rattle.lists.specs.Numbers.{look}
 use Rattle.lists.specs.Sums.{pick-other}
+use Rattle.model.specs.Flows.{sumAt}
 use Rattle.model.specs.Pairing.{lowestInner}
 use Rattle.tree.specs.Offer.{links}
-use Rattle.pairing_walk.specs.Frames.{bottom, sent, Passed}
+use Rattle.tree.specs.Links.{length-links}
+use Rattle.tree_links.specs.Chains.{offer-placed}
+use Rattle.pairing_halves.specs.declared.Tops.{Tops}
+use Rattle.pairing_walk.specs.declared.Frame.{Frame}
+use Rattle.pairing_walk.specs.Frames.{bottom, over, sent, Entering, Entered, Passed}
 use Rattle.pairing_walk.specs.Visits.{covered, untouched}
 use Rattle.pairing_walk.proofs.Visiting.{alone-room, down-within}
 use Rattle.pairing_walk.proofs.Framing.{joined, visits, child, walking-settles, Framed, Between, Long, owed, few, between-starts, between-all}
-use Rattle.pairing_walk.proofs.Framing.{root-enters, framed-roots, roots-owed, framed-adds, adds-owed, framed-enters, enters-owed, framed-ends}
+use Rattle.pairing_walk.proofs.Framing.{root-site, framed-roots, roots-owed, framed-adds, adds-owed, framed-enters, enters-owed, framed-ends}
 use Rattle.pairing_walk.proofs.Framing.{framed-returns, returns-owed}
 use Rattle.pairing_walk.proofs.visit.Statement.{statement}
 use Rattle.pairing_walk.proofs.visit.Tie as tie
 
 abbrev Inv-loop : tie.InvT-loop
-Inv-loop _ ends last before one two capacity _ ups₀ downs₀ pairs₀ _ _ _ _ _ _ done ups downs pairs level root top frame frames =
-    Framed ends last before one two capacity ups₀ downs₀ pairs₀ ups downs pairs done level root top frame frames
+Inv-loop _ ends _ _ _ one two capacity _ ups₀ downs₀ pairs₀ _ _ _ _ _ _ done ups downs pairs level root top frame frames =
+    Framed ends one two capacity ups₀ downs₀ pairs₀ ups downs pairs done level root top frame frames
 
 abbrev μ-loop : tie.MeasureT-loop
-μ-loop _ ends last before one two capacity _ _ _ _ _ _ _ _ _ _ _ _ _ _ level root _ frame frames =
-    owed ends last before one two capacity root level frame frames
+μ-loop _ ends _ _ _ one two capacity _ _ _ _ _ _ _ _ _ _ _ _ _ _ level root _ frame frames =
+    owed ends one two capacity root level frame frames
 
 add-sites : tie.Need-add-sites Inv-loop μ-loop
 add-sites c = omega arith
 
 -- no walk has begun
 abbrev begun : (c : tie.Start Inv-loop μ-loop) → let a = c .args in
-    Between (a .ends .now) (a .last .now) (a .before .now) (a .one .now) (a .two .now) (a .capacity .now) (a .ups .now) (a .downs .now) (a .pairs .now)
+    Between (a .ends .now) (a .one .now) (a .two .now) (a .capacity .now) (a .ups .now) (a .downs .now) (a .pairs .now)
     (a .ups .now) (a .downs .now) (a .pairs .now) untouched 0 bottom
 begun c = let a = c .args in
-    between-starts (a .ends .now) (a .last .now) (a .before .now) (a .one .now) (a .two .now) (a .capacity .now) (a .ups .now) (a .downs .now) (a .pairs .now)
+    between-starts (a .ends .now) (a .one .now) (a .two .now) (a .capacity .now) (a .ups .now) (a .downs .now) (a .pairs .now)
 
 -- the first root is the lowest inner site
 first-low : (c : tie.Start Inv-loop μ-loop)
-    → c .args .first ≡ lowestInner (covered (look (c .args .ends .now)) untouched) (suc 0) (suc (length (c .args .one .now)) - 0)
+    → c .args .lowest ≡ lowestInner (covered (look (c .args .ends .now)) untouched) (suc 0) (suc (length (c .args .one .now)) - 0)
 first-low c =
     let all : suc (length (c .args .one .now)) - 0 ≡ suc (length (c .args .one .now)) = omega arith in
-    rw all (c .pre .1 .lowest)
+    rw all (c .pre .2 .lowest)
+
+-- a site is entered with what its links carry together, and with its list of neighbours
+enters : (s : tie.Start Inv-loop μ-loop) → let a = s .args in (v down : ℕ) → v ≤ SITES
+    → down ≤ sumAt (links (a .one .now) (a .two .now)) v (look (a .capacity .now))
+    → Entering v down (a .sums .now) (a .first .now) (a .after .now) (a .one .now) (a .two .now)
+enters s v down site within = record {
+  tree = s .pre .0 .tree .tree;
+  placed = offer-placed (s .pre .0 .tree);
+  lists = s .pre .1 .lists;
+  site = site;
+  within = rw (s .pre .1 .summed v site) within;
+}
+
+entered : {j down : ℕ} {base : Tops} {f : Frame} (s : tie.Start Inv-loop μ-loop) → let a = s .args in let ls = links (a .one .now) (a .two .now) in
+    (v : ℕ) → v ≤ SITES → Entered ls (look (a .sums .now) v) v j down base f
+    → Entered ls (sumAt ls v (look (a .capacity .now))) v j down base f
+entered s v site e = rw (s .pre .1 .summed v site) at e
 
 enter-root-requires : tie.Need-enter-root-requires Inv-loop μ-loop
 enter-root-requires c κs =
     let s = c .before .before .before .before .before .before .before in
-    root-enters (s .pre .0) (begun s) (first-low s) (s .pre .1 .some)
+    enters s (s .args .lowest) 0 (root-site (s .pre .0) (begun s) (first-low s) (s .pre .2 .some)) (omega arith)
 
 loop-holds : tie.Need-loop-holds Inv-loop μ-loop
 loop-holds c =
     let s = c .before .before .before .before .before .before .before .before in
-    let b = s .pre .1 in
-    rw (b .marked) (framed-roots (s .pre .0) (begun s) (first-low s) (b .some) (b .ups-room) (b .downs-room) (b .pairs-room) (c .enter-root .ensures)
-    _ (add-one (length (s .args .one .now))) _ refl)
+    let b = s .pre .2 in
+    rw (b .marked) (framed-roots (s .pre .0) (begun s) (first-low s) (b .some) (b .ups-room) (b .downs-room) (b .pairs-room)
+    (entered s _ (root-site (s .pre .0) (begun s) (first-low s) (b .some)) (c .enter-root .ensures)) _ (add-one (length (s .args .one .now))) _ refl)
 
 -- the function's start, from the loop
 abbrev start : tie.At-loop Inv-loop μ-loop → tie.Start Inv-loop μ-loop
@@ -62,24 +84,38 @@ start c = c .before .before .before .before .before .before .before .before .bef
 
 child-of-requires : tie.Need-child-of-requires Inv-loop μ-loop
 child-of-requires c κs =
-    let F = c .before .loop .inv in
-    let W = F .walking .opened .visit in
-    record {
-      tree = W .tree;
-      chained = W .chained;
-      site = omega (arith, c .if1 .taken);
-      joined = joined (F .walking) (c .if1 .taken) .0;
-    }
+    let w = c .before .loop .inv .walking in
+    let a = start (c .before) .args in
+    let t = start (c .before) .pre .0 .tree in
+    let inside : over (c .before .loop .frame) < length (a .capacity .now) = omega (
+      arith,
+      joined w (c .if1 .taken) .0,
+      length-links (a .one .now) (a .two .now) (omega (arith, t .firsts, t .seconds)),
+      t .firsts,
+      t .capacities,
+    ) in
+    (omega (arith, w .opened .coming .hit (c .if1 .taken) .2), inside, t .limited _ inside)
 
 pass-requires : tie.Need-pass-requires Inv-loop μ-loop
-pass-requires c κs = rw (c .child-of .ensures) (omega arith, omega (arith, c .before .if1 .taken))
+pass-requires c κs =
+    let o = c .before .before .loop .inv .walking .opened in
+    let s = start (c .before .before) in
+    record {
+      tree = s .pre .0 .tree .tree;
+      placed = offer-placed (s .pre .0 .tree);
+      afters = s .pre .1 .lists .afters;
+      past = o .past;
+      coming = o .coming;
+      some = c .before .if1 .taken;
+      enough = rw (c .child-of .ensures) (omega arith);
+    }
 
 element-copy-out-if2 : tie.Need-element-copy-out-if2 Inv-loop μ-loop
 element-copy-out-if2 c = c .before .before .if1 .taken
 
 -- the frame that is past the child
 passed : (c : tie.After-pass Inv-loop μ-loop) → let a = start (c .before .before .before) .args in let f = c .before .before .before .loop .frame in
-    Passed f (sent (links (a .one .now) (a .two .now)) (look (a .capacity .now)) f) (c .pass .result)
+    Passed (links (a .one .now) (a .two .now)) f (sent (look (a .capacity .now)) f) (c .pass .result)
 passed c = rw (c .before .child-of .ensures) at (c .pass .ensures)
 
 alone-requires : tie.Need-alone-requires Inv-loop μ-loop
@@ -111,28 +147,36 @@ array-set-from-frames c = omega (arith, few (c .before .before .before .before .
 sub-level : tie.Need-sub-level Inv-loop μ-loop
 sub-level c = omega (arith, few (c .before .before .before .before .before .loop .inv))
 
+-- the child to come is a site
+child-site : (t : tie.Then1 Inv-loop μ-loop) → t .before .loop .frame .next ≤ SITES
+child-site t = omega (arith, t .if1 .taken)
+
 enter-requires : tie.Need-enter-requires Inv-loop μ-loop
 enter-requires c κs =
     let t = c .before .before in
-    let W = visits (t .before .before .before .loop .inv .walking) (t .before .before .if1 .taken) in
-    record {
-      tree = W .tree;
-      chained = W .chained;
-      site = omega (arith, t .before .before .if1 .taken);
-      within = rw (t .before .child-of .ensures) (down-within W (c .if2 .left));
-    }
+    let i = t .before .before in
+    let W = visits (i .before .loop .inv .walking) (i .if1 .taken) in
+    enters (start (i .before)) _ _ (child-site i) (rw (t .before .child-of .ensures) (down-within W (c .if2 .left)))
+
+-- the frame of the child
+inner : (c : tie.After-enter Inv-loop μ-loop) → let t = c .before .before .before in let i = t .before .before in let f = i .before .loop .frame in
+    let a = start (i .before) .args in let ls = links (a .one .now) (a .two .now) in
+    Entered ls (sumAt ls (f .next) (look (a .capacity .now))) (f .next) (over f) (2 * look (a .capacity .now) (over f) - sent (look (a .capacity .now)) f)
+    (i .before .loop .top) (c .enter .result)
+inner c =
+    let t = c .before .before .before in
+    let i = t .before .before in
+    entered (start (i .before)) _ (child-site i) (rw (t .before .child-of .ensures) at (c .enter .ensures))
 
 loop-less-2 : tie.Need-loop-less-2 Inv-loop μ-loop
 loop-less-2 c =
     let t = c .before .before .before in
-    enters-owed (t .before .before .before .loop .inv) (t .before .before .if1 .taken) (passed t) (c .before .if2 .left)
-    (rw (t .before .child-of .ensures) at (c .enter .ensures))
+    enters-owed (t .before .before .before .loop .inv) (t .before .before .if1 .taken) (passed t) (c .before .if2 .left) (inner c)
 
 loop-again-2 : tie.Need-loop-again-2 Inv-loop μ-loop
 loop-again-2 c =
     let t = c .before .before .before in
-    framed-enters (t .before .before .before .loop .inv) (t .before .before .if1 .taken) (passed t) (c .before .if2 .left)
-    (rw (t .before .child-of .ensures) at (c .enter .ensures))
+    framed-enters (t .before .before .before .loop .inv) (t .before .before .if1 .taken) (passed t) (c .before .if2 .left) (inner c)
 
 settle-requires : tie.Need-settle-requires Inv-loop μ-loop
 settle-requires c κs = let e = c .before .before .before .before in
@@ -183,7 +227,7 @@ abbrev args : (c : tie.Else3 Inv-loop μ-loop) → tie.Start Inv-loop μ-loop
 args c = start (past (whole c) .before)
 
 between : (c : tie.Else3 Inv-loop μ-loop) → let s = whole c in let l = past s .before .loop in let a = args c .args in
-    Between (a .ends .now) (a .last .now) (a .before .now) (a .one .now) (a .two .now) (a .capacity .now) (a .ups .now) (a .downs .now) (a .pairs .now)
+    Between (a .ends .now) (a .one .now) (a .two .now) (a .capacity .now) (a .ups .now) (a .downs .now) (a .pairs .now)
     (s .settle .last .1 .0) (s .settle .last .1 .1 .0) (s .settle .last .1 .1 .1 .0) (l .done) (l .root) (s .settle .result)
 between c =
     let s = whole c in
@@ -213,11 +257,11 @@ same-length c =
     let l = past (whole (r .before .before)) .before in
     let a = start l in
     r .next-root .kept .1 .1 .1 .0 ∙ l .loop .inv .marked .places
-    ∙ sym (ap length (a .pre .1 .marked) ∙ length-set untouched (a .args .first) 1 ∙ length-replicate {A = ℕ} PLACES 0)
+    ∙ sym (ap length (a .pre .2 .marked) ∙ length-set untouched (a .args .lowest) 1 ∙ length-replicate {A = ℕ} PLACES 0)
 
 -- the three arrays are as long as they were
 abbrev long : (c : tie.Else3 Inv-loop μ-loop) → let s = whole c in let a = args c .args in
-    Long (a .ends .now) (a .last .now) (a .before .now) (a .one .now) (a .two .now) (a .capacity .now) (a .ups .now) (a .downs .now) (a .pairs .now)
+    Long (a .ends .now) (a .one .now) (a .two .now) (a .capacity .now) (a .ups .now) (a .downs .now) (a .pairs .now)
     (s .settle .last .1 .0) (s .settle .last .1 .1 .0) (s .settle .last .1 .1 .1 .0)
 long c = between c .long
 
@@ -231,7 +275,7 @@ enter-root-requires-2 : tie.Need-enter-root-requires-2 Inv-loop μ-loop
 enter-root-requires-2 c κs =
     let r = c .before .before .before in
     let e = r .before .before in
-    root-enters (args e .pre .0) (between e) (low r) (c .if4 .left)
+    enters (args e) _ 0 (root-site (args e .pre .0) (between e) (low r) (c .if4 .left)) (omega arith)
 
 last-level : (c : tie.Else3 Inv-loop μ-loop) → past (whole c) .before .loop .level ≡ suc (length (args c .args .one .now))
 last-level c = omega (arith, few (past (whole c) .before .loop .inv), c .if3 .left)
@@ -241,18 +285,18 @@ loop-less-4 c =
     let i = c .before in
     let r = i .before .before .before in
     let e = r .before .before in
-    let b = args e .pre .1 in
-    roots-owed (args e .pre .0) (between e) (low r) (i .if4 .left) (b .ups-room) (b .downs-room) (b .pairs-room) (c .enter-root2 .ensures)
-    _ (last-level e) (past (whole e) .before .loop .frames) _ _
+    let b = args e .pre .2 in
+    roots-owed (args e .pre .0) (between e) (low r) (i .if4 .left) (b .ups-room) (b .downs-room) (b .pairs-room)
+    (entered (args e) _ (root-site (args e .pre .0) (between e) (low r) (i .if4 .left)) (c .enter-root2 .ensures)) _ (last-level e) (past (whole e) .before .loop .frames) _ _
 
 loop-again-4 : tie.Need-loop-again-4 Inv-loop μ-loop
 loop-again-4 c =
     let i = c .before in
     let r = i .before .before .before in
     let e = r .before .before in
-    let b = args e .pre .1 in
+    let b = args e .pre .2 in
     rw (marks r (i .if4 .left)) (framed-roots (args e .pre .0) (between e) (low r) (i .if4 .left) (b .ups-room) (b .downs-room) (b .pairs-room)
-    (c .enter-root2 .ensures) _ (last-level e) _ (past (whole e) .before .loop .inv .places))
+    (entered (args e) _ (root-site (args e .pre .0) (between e) (low r) (i .if4 .left)) (c .enter-root2 .ensures)) _ (last-level e) _ (past (whole e) .before .loop .inv .places))
 
 pub visit-spec : {M : Type 1} → statement M
 visit-spec =

@@ -1,76 +1,14 @@
--- `name` meets its contract: a number is outside the limits, or its place in the lists has the range of the name.
-use mathlib.Core.Path.{_≡_, refl, sym, ap, subst, _∙_}
-use Prim.Native.Nat.{ℕ, suc, _+_, _-_, _≤_}
-use Rattle.lists.specs.Numbers.{look}
-use Rattle.model.specs.Limits.{SITES}
-use Rattle.model.specs.Edition.{editions}
-use Rattle.model.specs.declared.Edition.{Edition}
-use Rattle.sheet_names.specs.Names.{partStart, IsPart}
-use Rattle.sheet.specs.Sheet.{readAs, readSheet, nameRange}
-use Rattle.sheet.specs.Reading.{reading}
-use Rattle.sheet.specs.Editions.{of-the-edition}
-use Rattle.sheet.specs.declared.Reading.{Reading}
-use Rattle.sheet.specs.NameLaws.{no-site-zero, no-site-above, range-by-lists}
-use native.Mathlib.Omega.{arith}
+-- `name` meets its contract: it is the part of that range.
+use mathlib.Core.Path.{subst}
+use Rattle.sheet_names.specs.Names.{IsPart}
 use borrow.Author.Needs.{needs}
 use Rattle.sheet.proofs.name.Statement.{statement}
 use Rattle.sheet.proofs.name.Tie as tie
 
--- the limit of the edition
-limit : (c : tie.After-edition-of) → c .edition-of .result .sites ≤ SITES
-limit c = rw (c .edition-of .ensures) (of-the-edition (λ ed. ed .sites ≤ SITES) _ (omega arith) (omega arith))
-
-within : (c : tie.Else2) → c .before .before .before .before .before .args .site ≤ SITES
-within c = omega (arith, c .if2 .left, limit (c .before .before .before))
-
 returns : tie.Need-returns
 returns c =
-    let a = c .before .before .before .before .args in
-    let none : a .site ≡ 0 = omega (arith, c .before .if1 .taken) in
-    let range : nameRange editions (a .sheet .now) (a .site) ≡ (0, 0) = ap (nameRange editions (a .sheet .now)) none ∙ no-site-zero editions (a .sheet .now) in
-    let same : 0 + a .sheet .ptr .1 ≡ a .sheet .ptr .1 + partStart (a .sheet .now) (0, 0) = omega arith in
-    rw range (record { bytes = refl; place = ap (λ (o : ℕ). (a .sheet .ptr .0, o)) same })
-
-returns-2 : tie.Need-returns-2
-returns-2 c =
-    let a = c .before .before .before .before .before .before .args in
-    let most = ap (λ (e : Edition). e .sites) (c .before .before .before .before .edition-of .ensures) in
-    let range : nameRange editions (a .sheet .now) (a .site) ≡ (0, 0)
-    = no-site-above editions (a .sheet .now) (a .site) (omega (arith, c .before .if2 .taken, most)) in
-    let same : 0 + a .sheet .ptr .1 ≡ a .sheet .ptr .1 + partStart (a .sheet .now) (0, 0) = omega arith in
-    rw range (record { bytes = refl; place = ap (λ (o : ℕ). (a .sheet .ptr .0, o)) same })
-
-returns-3 : tie.Need-returns-3
-unfolding nameRange
-returns-3 c =
-    let read = c .before .before .before .before in
-    let edition = read .before .before .before .before in
-    let a = edition .before .before .args in
-    let s = a .sheet .now in
-    let number : a .site ≡ suc (a .site - 1) = omega (arith, read .before .before .before .if1 .left) in
-    let known : read .read-as .result ≡ reading (readSheet editions s) = read .read-as .ensures
-    ∙ ap (λ e. reading (readAs e s)) (edition .edition-of .ensures) in
-    let range = ap (λ (r : Reading). (look (r .network .start) (a .site - 1), look (r .network .end) (a .site - 1))) known
-    ∙ range-by-lists (readSheet editions s) (a .site - 1) ∙ ap (nameRange editions s) (sym number) in
-    subst (λ r. IsPart (a .sheet) r (c .part .result)) range (c .part .ensures)
+    let named = c .before in
+    subst (λ r. IsPart (named .before .before .args .sheet) r (c .part .result)) (named .name-range .ensures) (c .part .ensures)
 
 pub name-spec : {M : Type 1} → statement M
-name-spec =
-    tie.close
-    (tie.spec
-    (λ c κs. search needs)
-    (λ c. search needs)
-    (λ c. search needs)
-    (λ c. search needs)
-    returns
-    (λ c. search needs)
-    (λ c. search needs)
-    (λ c. search needs)
-    returns-2
-    (λ c κs. limit (c .before .before .before))
-    (λ c. omega (arith, within (c .before .before)))
-    (λ c. omega (arith, within (c .before .before), c .before .before .before .before .if1 .left))
-    (λ c. omega (arith, within (c .before .before .before)))
-    (λ c. omega (arith, within (c .before .before .before), c .before .before .before .before .before .if1 .left))
-    (λ c κs. search needs)
-    returns-3)
+name-spec = tie.close (tie.spec (λ c κs. search needs) (λ c κs. search needs) returns)

@@ -1,12 +1,12 @@
 -- `read_lines` meets its contract: every turn takes one line from those left to those read (`Progress`).
 use mathlib.Core.Path.{_≡_, sym, ap, _∙_}
-use Prim.Native.Nat.{_≤_, _<_, _+_, _-_}
+use Prim.Native.Nat.{_≤_, _<_, _-_}
 use lib.ListN.{length}
-use lib.Seq.{length-take-le}
 use borrow.Author.Tests.{not-true, not-false}
 use Rattle.model.specs.Limits.{PLACES, SITES}
 use Rattle.text_lines.specs.Lines.{afterLine}
-use Rattle.text_lines.specs.LineLaws.{line-stays-on-sheet, a-line-is-on-the-sheet, no-line-is-on-the-sheet, after-line-is-later, after-the-end-of-a-line}
+use Rattle.text_lines.specs.LineLaws.{a-line-is-on-the-sheet, no-line-is-on-the-sheet, after-line-is-later}
+use Rattle.sheet_scan.specs.Scan.{scanned}
 use Rattle.sheet.specs.Sheet.{stepOf}
 use Rattle.sheet.specs.Reading.{reading}
 use Rattle.sheet.proofs.Progress.{Progress, start, lengths, table-is, held, by-heading, site-fits, by-site, link-fits, by-link, by-refusal, by-parts}
@@ -17,10 +17,10 @@ use Rattle.sheet.proofs.read_lines.Statement.{statement}
 use Rattle.sheet.proofs.read_lines.Tie as tie
 
 abbrev Inv-loop : tie.InvT-loop
-Inv-loop sheet edition net₀ table₀ labels₀ at₀ number₀ net table labels at number = Progress edition sheet net table labels at number
+Inv-loop sheet edition net₀ table₀ parents₀ at₀ number₀ net table parents at number = Progress edition sheet net table parents at number
 
 abbrev μ-loop : tie.MeasureT-loop
-μ-loop sheet edition net₀ table₀ labels₀ at₀ number₀ net table labels at number = length sheet - at
+μ-loop sheet edition net₀ table₀ parents₀ at₀ number₀ net table parents at number = length sheet - at
 
 -- there is a line here
 here : (c : tie.Then1 Inv-loop μ-loop) → let top = c .before .before in
@@ -28,82 +28,74 @@ here : (c : tie.Then1 Inv-loop μ-loop) → let top = c .before .before in
 here c = let top = c .before .before in
     a-line-is-on-the-sheet (top .before .before .before .before .args .sheet .now) (top .loop .at) (sym (c .before .has-line .ensures) ∙ c .if1 .taken)
 
--- the line of a turn, and its place in the loop, by its step and by what follows
-abbrev line-of : tie.After-step-at Inv-loop μ-loop → tie.After-line Inv-loop μ-loop
+-- the line of a turn, and its place in the loop, by its step
+abbrev line-of : tie.After-step-at Inv-loop μ-loop → tie.After-scan Inv-loop μ-loop
 line-of c = c .before .before .before .before .before .before
 
 abbrev round : tie.After-step-at Inv-loop μ-loop → tie.At-loop Inv-loop μ-loop
 round c = line-of c .before .before .before
 
--- the line stays on the sheet
-on-sheet : (c : tie.After-step-at Inv-loop μ-loop) → let top = round c in
-    top .loop .at + length (line-of c .line .result .now) ≤ length (top .before .before .before .before .args .sheet .now)
-on-sheet c = let top = round c in
-    let stays = line-stays-on-sheet (top .before .before .before .before .args .sheet .now) (top .loop .at) (top .loop .inv .on-sheet) in
-    omega (arith, ap length (line-of c .line .ensures .bytes), stays)
+-- the next line is the one after this, which is later
+next-is : (c : tie.After-step-at Inv-loop μ-loop) → let top = round c in
+    line-of c .scan .result .next ≡ afterLine (top .before .before .before .before .args .sheet .now) (top .loop .at)
+unfolding scanned
+next-is c = ap (λ found. found .next) (line-of c .scan .ensures)
 
--- the rest is the line after this one, which is later
-rest-is : (c : tie.After-rest Inv-loop μ-loop) → let top = round (c .before) in
-    c .rest .result ≡ afterLine (top .before .before .before .before .args .sheet .now) (top .loop .at)
-rest-is c = let top = round (c .before) in
-    rw (line-of (c .before) .line .ensures .bytes) at (c .rest .ensures)
-    ∙ after-the-end-of-a-line (top .before .before .before .before .args .sheet .now) (top .loop .at) (top .loop .inv .on-sheet)
-
-less : (c : tie.After-rest Inv-loop μ-loop) → let top = round (c .before) in let s = top .before .before .before .before .args .sheet .now in
-    length s - c .rest .result < length s - top .loop .at
+less : (c : tie.After-step-at Inv-loop μ-loop) → let top = round c in let s = top .before .before .before .before .args .sheet .now in
+    length s - line-of c .scan .result .next < length s - top .loop .at
 less c =
-    let line = line-of (c .before) in
-    let top = round (c .before) in
+    let line = line-of c in
+    let top = round c in
     let s = top .before .before .before .before .args .sheet .now in
     let later = after-line-is-later s (top .loop .at) (sym (line .before .before .has-line .ensures) ∙ line .before .if1 .taken) in
-    omega (arith, here (line .before), rest-is c, later)
+    omega (arith, here (line .before), next-is c, later)
 
 -- the step is that of the line, after the network read so far
 step-is : (c : tie.After-step-at Inv-loop μ-loop) → let top = round c in let a = top .before .before .before .before .args in
     c .step-at .result ≡ stepOf (a .edition) (a .sheet .now) (top .loop .inv .read) (top .loop .number) (top .loop .at)
 step-is c = let P = round c .loop .inv in c .step-at .ensures (P .read) (held P)
 
--- there is room for a site, and for a link and its labels
-site-room : (c : tie.After-known-told2 Inv-loop μ-loop) → round (c .before .before .before .before) .loop .net .sites < SITES
-site-room c = let step = c .before .before .before .before in
+-- there is room for a site, and for a link and its sites
+site-room : (c : tie.After-known-told2 Inv-loop μ-loop) → round (c .before .before .before) .loop .net .sites < SITES
+site-room c = let step = c .before .before .before in
     site-fits (round step .loop .inv) (step .step-at .result) (here (line-of step .before)) (step-is step) _ _ _ (c .before .step2 .given .1)
 
 link-room : (c : tie.After-known-told3 Inv-loop μ-loop) → let given = c .before .step3 .given in
-    (round (c .before .before .before .before) .loop .net .links < SITES) × (given .0 .0 < PLACES) × (given .0 .1 .0 < PLACES)
-link-room c = let step = c .before .before .before .before in
+    (round (c .before .before .before) .loop .net .links < SITES) × (given .0 .0 < PLACES) × (given .0 .1 .0 < PLACES)
+link-room c = let step = c .before .before .before in
     link-fits (round step .loop .inv) (step .step-at .result) (here (line-of step .before)) (step-is step) _ _ _ (c .before .step3 .given .1)
 
 loop-holds : tie.Need-loop-holds Inv-loop μ-loop
 loop-holds c =
-    rw (c .before .nothing .ensures, c .own-labels .ensures)
+    rw (c .before .nothing .ensures, c .own-parents .ensures)
     (start (c .before .before .before .args .edition) (c .before .before .before .pre) (c .before .before .before .args .sheet .now))
 
 step-at-requires : tie.Need-step-at-requires Inv-loop μ-loop
 step-at-requires c κs = let line = c .before .before .before .before .before in let P = line .before .before .before .loop .inv in
-    (lengths P .1, table-is P, P .on-sheet, line .line .ensures .bytes)
+    (lengths P .1, table-is P, P .on-sheet, line .scan .ensures)
 
 returns : tie.Need-returns Inv-loop μ-loop
-returns c = let step = c .before .before .before .before .before in
+returns c = let step = c .before .before .before .before in
     let cause =
     by-refusal (round step .loop .inv) (step .step-at .result) (here (line-of step .before)) (step-is step) _ _ (c .before .before .step .given .1) in
     c .refusal .ensures ∙ ap reading (sym cause)
 
 loop-again : tie.Need-loop-again Inv-loop μ-loop
-loop-again c = let step = c .before .before .before in
-    rw (rest-is (c .before .before))
+loop-again c = let step = c .before .before in
+    rw (next-is step)
     (by-heading (round step .loop .inv) (step .step-at .result) (here (line-of step .before)) (step-is step) (c .enum-told .given .1))
 
 loop-again-2 : tie.Need-loop-again-2 Inv-loop μ-loop
-loop-again-2 c = let next = c .before .before .before .before .before in let step = next .before in
-    rw (rest-is next)
+loop-again-2 c = let step = c .before .before .before .before .before in
+    rw (next-is step)
     (by-site (round step .loop .inv) (step .step-at .result) (here (line-of step .before)) (step-is step) _ _ _ (c .before .before .before .step2 .given .1) _
     (c .enter .ensures))
 
 loop-again-3 : tie.Need-loop-again-3 Inv-loop μ-loop
-loop-again-3 c = let next = c .before .before .before .before .before .before in let step = next .before in
-    rw (rest-is next)
+loop-again-3 c = let step = c .before .before .before .before .before .before in
+    rw (next-is step)
     (by-link (round step .loop .inv) (step .step-at .result) (here (line-of step .before)) (step-is step) _ _ _
-    (c .before .before .before .before .step3 .given .1) _ (c .before .join .ensures))
+    (c .before .before .before .before .step3 .given .1) (c .before .join .ensures))
 
 -- after the last line
 ended : (c : tie.Else1 Inv-loop μ-loop) → let top = c .before .before in
@@ -111,15 +103,21 @@ ended : (c : tie.Else1 Inv-loop μ-loop) → let top = c .before .before in
 ended c = let top = c .before .before in
     no-line-is-on-the-sheet (top .before .before .before .before .args .sheet .now) (top .loop .at) (sym (c .before .has-line .ensures) ∙ c .if1 .left)
 
+join-requires : tie.Need-join-requires Inv-loop μ-loop
+join-requires c κs =
+    let labels = round (c .before .before .before .before) .loop .inv .labels-are in
+    (labels .lower, omega (arith, labels .long, link-room (c .before)), omega (arith, labels .long, link-room (c .before)))
+
 returns-2 : tie.Need-returns-2 Inv-loop μ-loop
-returns-2 c = let over = c .before .before .before .before in
+returns-2 c = let settle = c .before .before .before .before .before in let over = settle .before .before in
     c .refusal2 .ensures
-    ∙ ap reading
-    (sym (by-parts (over .before .before .loop .inv) (ended over) (sym (c .before .before .is-whole .ensures) ∙ not-true _ (c .before .if2 .taken))))
+    ∙ ap reading (sym (by-parts (over .before .before .loop .inv) (ended over) (settle .settle .ensures)
+    (sym (c .before .before .is-whole .ensures) ∙ not-true _ (c .before .if2 .taken))))
 
 returns-3 : tie.Need-returns-3 Inv-loop μ-loop
-returns-3 c = let over = c .before .before .before in
-    sym (by-acceptance (over .before .before .loop .inv) (ended over) (sym (c .before .is-whole .ensures) ∙ not-false _ (c .if2 .left)))
+returns-3 c = let settle = c .before .before .before .before in let over = settle .before .before in
+    sym (by-acceptance (over .before .before .loop .inv) (ended over) (settle .settle .ensures)
+    (sym (c .before .is-whole .ensures) ∙ not-false _ (c .if2 .left)))
 
 pub read-lines-spec : {M : Type 1} → statement M
 read-lines-spec =
@@ -131,11 +129,9 @@ read-lines-spec =
     (λ c κs. search needs)
     loop-holds
     (λ c κs. search needs)
-    (λ c κs. search needs)
+    (λ c κs. c .before .before .loop .inv .on-sheet)
     step-at-requires
-    (λ c. omega (arith, on-sheet c))
-    (λ c κs. search needs)
-    (λ c. let l = round (c .before) .loop in omega (arith, l .inv .numbered, l .inv .on-sheet))
+    (λ c. let l = round c .loop in omega (arith, l .inv .numbered, l .inv .on-sheet))
     (λ c. search needs)
     (λ c κs. search needs)
     returns
@@ -161,14 +157,13 @@ read-lines-spec =
     (λ c. omega (arith, link-room c))
     (λ c. link-room c .0)
     (λ c. omega (arith, link-room c))
-    (λ c. omega (arith, lengths (round (c .before .before .before .before) .loop .inv)))
-    (λ c. omega (arith, lengths (round (c .before .before .before .before) .loop .inv)))
-    (λ c. let l = round (c .before .before .before .before .before) .loop in
-    sym (length-take-le (l .net .sites + 1) (l .labels) (omega (arith, lengths (l .inv)))))
-    (λ c κs. search needs)
+    (λ c. sym (lengths (round (c .before .before .before .before) .loop .inv) .0))
+    join-requires
     (λ c. less (c .before .before .before .before .before .before))
     loop-again-3
-    (λ c. omega (arith, lengths (c .before .before .before .loop .inv)))
+    (λ c. sym (lengths (c .before .before .before .loop .inv) .0))
+    (λ c κs. c .before .before .before .loop .inv .labels-are .lower)
+    (λ c. omega (arith, c .before .before .settle .ensures .long, lengths (c .before .before .before .before .before .before .loop .inv)))
     (λ c κs. search needs)
     (λ c κs. search needs)
     returns-2
