@@ -116,7 +116,8 @@ impl Options {
 fn plant(number: u64) -> Result<(), String> {
     let errors = second::planted::ERRORS;
     let error = errors
-        .into_iter()
+        .iter()
+        .copied()
         .find(|&error| error as u64 == number)
         .ok_or_else(|| format!("errors are numbered from 1 to {}", errors.len()))?;
     println!("planted in the second planner: {error:?}");
