@@ -13,8 +13,8 @@ use Rattle.lists.specs.Numbers.{pick, is, less, look, upfrom}
 use Rattle.model.specs.Flows.{Links, label}
 use Rattle.model.specs.Cuts.{kept, group, inCut}
 use Rattle.lists.specs.Sums.{pick-same, pick-other, cases, less-one, less-none}
-use Rattle.tree_labels.specs.Labels.{Tells, linked, Settled}
-use Rattle.tree_labels.specs.Roots.{own-tells, labels-same, labels-low}
+use Rattle.tree_parents.specs.Parents.{Tells, linked, Settled}
+use Rattle.tree_parents.specs.Roots.{own-tells, labels-same, labels-low}
 use Rattle.tree.specs.Offer.{links}
 use Rattle.tree.specs.Links.{length-links, links-one, links-two}
 

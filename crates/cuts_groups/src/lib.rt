@@ -15,7 +15,7 @@ ghost use Rattle.lists.specs.Numbers.{upfrom, look};
 ghost use Rattle.model.specs.Cuts.{group};
 ghost use Rattle.model.specs.Whole.{EndSets};
 ghost use Rattle.tree.specs.Offer.{links};
-ghost use Rattle.tree_labels.specs.Labels.{Lower, Tells};
+ghost use Rattle.tree_parents.specs.Parents.{Lower, Tells};
 ghost use Rattle.tree_links.specs.Chains.{Placed, Limited};
 ghost use Rattle.tree_sets.specs.Members.{member};
 ghost use Rattle.cuts_groups.specs.Groups.{Addable, Tallied, leaves, leaving, labelled, inWords};
@@ -50,7 +50,7 @@ fn join_kept(one: &[usize], two: &[usize], capacity: &[u64], balanced: &[u64], p
     while 0 < j {
         j -= 1;
         if balanced[j] < capacity[j] {
-            tree_labels::join(parents, one[j], two[j]);
+            tree_parents::join(parents, one[j], two[j]);
         }
     }
 }
@@ -92,9 +92,9 @@ fn of_links(one: &[usize], two: &[usize], capacity: &[u64], balanced: &[u64]) ->
     ensures { λ r. ⌜ Tallied (links (now (one .entry)) (now (two .entry))) (look (now (capacity .entry))) (look (now (balanced .entry))) (r .labels)
         (r .leaving) ⌝ }
 {
-    let mut labels = tree_labels::own_parents();
+    let mut labels = tree_labels::own_labels();
     join_kept(one, two, capacity, balanced, &mut labels);
-    tree_labels::settle(&mut labels);
+    tree_parents::settle(&mut labels);
     let leaving = sums_leaving(one, two, capacity, &labels);
     Tally { labels, leaving }
 }

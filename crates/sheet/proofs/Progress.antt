@@ -12,8 +12,9 @@ use Rattle.model.specs.Limits.{PLACES, SITES}
 use Rattle.lists.specs.Numbers.{upfrom}
 use Rattle.model.specs.Flows.{Site}
 use Rattle.model.specs.declared.Edition.{Edition}
-use Rattle.tree_labels.specs.Labels.{Joins, Settled, whole}
+use Rattle.tree_labels.specs.Labels.{whole}
 use Rattle.tree_labels.specs.LabelPlaces.{whole-sites}
+use Rattle.tree_parents.specs.Parents.{Joins, Settled}
 use Rattle.text_lines.specs.Lines.{afterLine}
 use Rattle.sheet_names.specs.Names.{TABLE, part, ranges, hash, entered, Indexes}
 use Rattle.sheet_names.specs.TableLaws.{no-sites, site-entered}

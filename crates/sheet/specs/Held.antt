@@ -5,7 +5,7 @@ use Prim.Native.Nat.{ℕ}
 use lib.ListN.{length}
 use Rattle.model.specs.Limits.{PLACES}
 use Rattle.model.specs.Flows.{Links, label}
-use Rattle.tree_labels.specs.Labels.{Lower, Tells}
+use Rattle.tree_parents.specs.Parents.{Lower, Tells}
 use Rattle.sheet_names.specs.Names.{ranges}
 use Rattle.sheet.specs.Sheet.{Network}
 

@@ -13,8 +13,9 @@ use Rattle.lists.specs.Sums.{is-one, is-same, is-iff}
 use Rattle.model.specs.Limits.{PLACES}
 use Rattle.model.specs.Flows.{Links, label, joined}
 use Rattle.theory_trees.specs.Fresh.{joined-reversed}
-use Rattle.tree_labels.specs.Labels.{Root, linked, Joins, Settled, alike}
-use Rattle.tree_labels.specs.Roots.{own-lower, own-tells, labels-same}
+use Rattle.tree_labels.specs.Labels.{alike}
+use Rattle.tree_parents.specs.Parents.{Root, linked, Joins, Settled}
+use Rattle.tree_parents.specs.Roots.{own-lower, own-tells, labels-same}
 use Rattle.sheet.specs.Sheet.{allJoined}
 use Rattle.sheet.specs.Held.{LabelsOf}
 

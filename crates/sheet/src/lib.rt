@@ -79,7 +79,7 @@ fn read_lines(sheet: &[u8], edition: Edition) -> Reading
 {
     let mut net = nothing();
     let mut table = [0u16; TABLE];
-    let mut parents = tree_labels::own_parents();
+    let mut parents = tree_labels::own_labels();
     let mut at = 0;
     let mut number = 1;
     while text_lines::has_line(sheet, at) {
@@ -117,11 +117,11 @@ fn read_lines(sheet: &[u8], edition: Edition) -> Reading
                 net.two[i] = two;
                 net.capacity[i] = size;
                 net.links = i + 1;
-                tree_labels::join(&mut parents, one, two);
+                tree_parents::join(&mut parents, one, two);
             }
         }
     }
-    tree_labels::settle(&mut parents);
+    tree_parents::settle(&mut parents);
     if !tree_labels::is_whole(&parents, net.sites) {
         return refusal(8, 0);
     }

@@ -71,7 +71,7 @@ fn link_step(here: usize, parents: &[u16; PLACES], first: Found, second: Found, 
             line: here,
         };
     };
-    if tree_labels::root(parents, one) == tree_labels::root(parents, two) {
+    if tree_parents::root(parents, one) == tree_parents::root(parents, two) {
         return Step::Refused {
             number: 7,
             line: here,

@@ -1,71 +1,43 @@
-// Inner: the labels of sites; sites that links join have the same label. While links come in, the labels are held by parents: each site has a parent, itself or a
-// lower site, and the root that the parents lead to tells the label. Place x is that of site x, and place 0 is unused. Only the planner's own crates call it.
+// The labels of sites: sites that links join have the same label. Place x has the label of site x, and place 0 is unused.
 ghost use mathlib.Core.Path.{_≡_};
-ghost use Prim.Native.Nat.{_<_};
-ghost use lib.ListN.{length};
 ghost use Rattle.model.specs.Limits.{PLACES};
 ghost use Rattle.lists.specs.Numbers.{upfrom};
-ghost use Rattle.tree_labels.specs.Labels.{Lower, Root, Shorter, Joins, Settled, whole};
+ghost use Rattle.model.specs.Flows.{relabel};
+ghost use Rattle.tree_labels.specs.Labels.{linked, whole};
 use model::PLACES;
 
-// The parents before the first link: every site is its own.
-pub fn own_parents() -> [u16; PLACES]
+// The labels before the first link: every site has its own number.
+pub fn own_labels() -> [u16; PLACES]
     ensures { λ r. ⌜ r ≡ upfrom 0 PLACES ⌝ }
 {
-    let mut parents = [0u16; PLACES];
+    let mut labels = [0u16; PLACES];
     for x in 0..PLACES {
-        parents[x] = x as u16;
+        labels[x] = x as u16;
     }
-    parents
+    labels
 }
 
-// The root of a site, where no parent is above its site.
-pub fn root(parents: &[u16], site: usize) -> usize
-    requires { ⌜ site < length (now parents) ⌝ }
-    ensures { λ r. ⌜ (Lower (now (parents .entry)) → Root (now (parents .entry)) site r) ⌝ }
+// p in the place of q.
+fn relabel(p: u16, q: u16, label: u16) -> u16
+    ensures { λ r. ⌜ r ≡ relabel p q label ⌝ }
 {
-    let mut x = site;
-    while (parents[x] as usize) < x {
-        x = parents[x] as usize;
-    }
-    x
+    if label == q { p } else { label }
 }
 
-// The root of a site, where each site on the way gets the parent of its parent.
-fn root_by_halves(parents: &mut [u16], site: usize) -> usize
-    requires { ⌜ Lower (now parents) × (site < length (now parents)) ⌝ }
-    ensures { λ r. ⌜ Root (now (parents .entry)) site r × Shorter (now (parents .entry)) (now (parents .exit)) ⌝ }
+// The labels with one link more: those of its second site become that of its first. A number that has no place is no site, and joins nothing.
+pub fn join(labels: &mut [u16], one: usize, two: usize)
+    ensures { λ _. ⌜ now (labels .exit) ≡ linked (now (labels .entry)) one two ⌝ }
 {
-    let mut x = site;
-    while (parents[x] as usize) < x {
-        let up = parents[parents[x] as usize];
-        parents[x] = up;
-        x = up as usize;
+    if one >= labels.len() {
+        return;
     }
-    x
-}
-
-// The parents with one link more: the higher one of the roots of its two sites gets the lower one for its parent.
-pub fn join(parents: &mut [u16], one: usize, two: usize)
-    requires { ⌜ Lower (now parents) × (one < length (now parents)) × (two < length (now parents)) ⌝ }
-    ensures { λ _. ⌜ Joins (now (parents .entry)) (now (parents .exit)) one two ⌝ }
-{
-    let a = root_by_halves(parents, one);
-    let b = root_by_halves(parents, two);
-    if a < b {
-        parents[b] = parents[a];
-    } else {
-        parents[a] = parents[b];
+    if two >= labels.len() {
+        return;
     }
-}
-
-// The labels that the parents hold: each site gets its root.
-pub fn settle(parents: &mut [u16])
-    requires { ⌜ Lower (now parents) ⌝ }
-    ensures { λ _. ⌜ Settled (now (parents .entry)) (now (parents .exit)) ⌝ }
-{
-    for x in 0..parents.len() {
-        parents[x] = parents[parents[x] as usize];
+    let p = labels[one];
+    let q = labels[two];
+    for x in 0..labels.len() {
+        labels[x] = relabel(p, q, labels[x]);
     }
 }
 

@@ -5,8 +5,8 @@ use native.Mathlib.Omega.{arith}
 use lib.ListN.{length}
 use Rattle.model.specs.Limits.{PLACES}
 use Rattle.lists.specs.Places.{length-upfrom}
-use Rattle.tree_labels.specs.Labels.{Lower, Tells}
-use Rattle.tree_labels.specs.Roots.{own-lower}
+use Rattle.tree_parents.specs.Parents.{Lower, Tells}
+use Rattle.tree_parents.specs.Roots.{own-lower}
 use Rattle.cuts_groups.proofs.Kept.{groupFrom, groups-none, groups-in, groups-out, groups-all}
 use Rattle.cuts_groups.proofs.join_kept.Statement.{statement}
 use Rattle.cuts_groups.proofs.join_kept.Tie as tie

@@ -11,7 +11,7 @@ use Rattle.cuts_groups.proofs.of_links.Statement.{statement}
 use Rattle.cuts_groups.proofs.of_links.Tie as tie
 
 join-kept-requires : tie.Need-join-kept-requires
-join-kept-requires c κs = let p = c .before .before .before .before .before .before .pre in (c .before .own-parents .ensures, p .0, p .1, p .2)
+join-kept-requires c κs = let p = c .before .before .before .before .before .before .pre in (c .before .own-labels .ensures, p .0, p .1, p .2)
 
 -- the labels have places
 small : (c : tie.After-settle) → (x : ℕ) → look (c .settle .last .0) x ≤ SITES

@@ -67,7 +67,7 @@ link-room c = let step = c .before .before .before in
 
 loop-holds : tie.Need-loop-holds Inv-loop μ-loop
 loop-holds c =
-    rw (c .before .nothing .ensures, c .own-parents .ensures)
+    rw (c .before .nothing .ensures, c .own-labels .ensures)
     (start (c .before .before .before .args .edition) (c .before .before .before .pre) (c .before .before .before .args .sheet .now))
 
 step-at-requires : tie.Need-step-at-requires Inv-loop μ-loop

@@ -1,63 +1,75 @@
--- `join` meets its contract: the roots of the two sites stay roots, and the lower one becomes the parent of the higher one.
-use mathlib.Core.Path.{_≡_}
-use Prim.Native.Nat.{_<_}
+-- `join` meets its contract. The invariant: the places passed are relabelled, and the others are as they were.
+use mathlib.Core.List.{List}
+use mathlib.Core.Path.{_≡_, refl, sym, ap, _∙_}
+use Prim.Native.Nat.{ℕ, _≤_, _-_}
+use lib.ListN.{length}
+use borrow.Author.Tests.{le-ltb, lt-ltb}
+use Rattle.lists.specs.Numbers.{look}
+use Rattle.model.specs.Flows.{relabel}
+use Rattle.tree_labels.specs.Labels.{linked}
+use Rattle.tree_labels.specs.LabelPlaces.{linked-sites, partly, partly-at, partly-step, partly-all, length-partly}
 use native.Mathlib.Omega.{arith}
 use borrow.Author.Needs.{needs}
-use lib.ListN.{length, length-set}
-use Rattle.tree_labels.specs.Roots.{roots-placed, joined-first, joined-second}
 use Rattle.tree_labels.proofs.join.Statement.{statement}
 use Rattle.tree_labels.proofs.join.Tie as tie
 
--- both roots have places
-placed : (c : tie.After-root-by-halves2) → let first = c .before .before .before .before in let now = c .root-by-halves2 .last .0 in
-    (first .root-by-halves .result < length now) × (c .root-by-halves2 .result < length now)
-    × (length now ≡ length (first .before .before .before .args .parents .now))
-placed c =
-    let first = c .before .before .before .before in
-    let f = first .root-by-halves .ensures in
-    let g = c .root-by-halves2 .ensures in
-    let pre = first .before .before .before .pre in
-    roots-placed (f .0) (f .1) (g .0) (g .1) (pre .1) (pre .2)
+abbrev Inv-loop : tie.InvT-loop
+Inv-loop labels₀ one two p q x₀ x-end labels x = (x ≤ x-end) × (x-end ≡ length labels₀) × (labels ≡ partly (relabel p q) labels₀ x)
 
-root-by-halves-requires-2 : tie.Need-root-by-halves-requires-2
-root-by-halves-requires-2 c κs =
-    let first = c .before .before .before in
-    let s = first .root-by-halves .ensures .1 in
-    (s .lower, omega (arith, s .long, first .before .before .before .pre .2))
+abbrev μ-loop : tie.MeasureT-loop
+μ-loop labels₀ one two p q x₀ x-end labels x = x-end - x
 
-returns : tie.Need-returns
-returns c =
-    let second = c .before .before .before .before in
-    let first = second .before .before .before .before in
-    let f = first .root-by-halves .ensures in
-    let g = second .root-by-halves2 .ensures in
-    let pre = first .before .before .before .pre in
-    joined-first (f .0) (f .1) (g .0) (g .1) (pre .1) (pre .2) (omega arith)
+-- the list keeps its length
+kept : (c : tie.At-loop Inv-loop μ-loop) → length (c .loop .labels) ≡ length (c .before .before .before .before .before .before .args .labels .now)
+kept c = ap length (c .loop .inv .2) ∙ length-partly _ (c .before .before .before .before .before .before .args .labels .now) (c .loop .x)
 
-returns-2 : tie.Need-returns-2
-returns-2 c =
-    let second = c .before .before .before .before in
-    let first = second .before .before .before .before in
-    let f = first .root-by-halves .ensures in
-    let g = second .root-by-halves2 .ensures in
-    let pre = first .before .before .before .pre in
-    joined-second (f .0) (f .1) (g .0) (g .1) (pre .1) (pre .2) (omega arith)
+returns : tie.Need-returns Inv-loop μ-loop
+unfolding linked
+returns c = rw (le-ltb _ _ (c .if1 .taken))
+
+returns-2 : tie.Need-returns-2 Inv-loop μ-loop
+unfolding linked
+returns-2 c = rw (lt-ltb _ _ (c .before .if1 .left), le-ltb _ _ (c .if2 .taken))
+
+loop-holds : tie.Need-loop-holds Inv-loop μ-loop
+loop-holds c = (omega arith, refl, refl)
+
+loop-again : tie.Need-loop-again Inv-loop μ-loop
+loop-again c =
+    let a = c .before .before .before .before .before .before .before .before .before .args in
+    let f = relabel (look (a .labels .now) (a .one)) (look (a .labels .now) (a .two)) in
+    let l = c .before .before .before .loop in
+    let here : c .relabel .result ≡ f (look (a .labels .now) (l .x))
+    = c .relabel .ensures ∙ ap f (ap (λ (m : List ℕ). look m (l .x)) (l .inv .2) ∙ partly-at f (a .labels .now) (l .x) (omega arith)) in
+    (omega arith, refl, rw (l .inv .2, here) (partly-step f (a .labels .now) (l .x) (omega arith)))
+
+returns-3 : tie.Need-returns-3 Inv-loop μ-loop
+returns-3 c =
+    let a = c .before .before .before .before .before .before .before .args in
+    c .before .loop .inv .2
+    ∙ partly-all _ (a .labels .now) (c .before .loop .x) (omega arith)
+    ∙ sym (linked-sites (a .labels .now) (a .one) (a .two) (omega arith) (omega arith))
 
 pub join-spec : {M : Type 1} → statement M
 join-spec =
     tie.close
     (tie.spec
-    (λ c κs. search needs)
-    root-by-halves-requires-2
-    (λ c. search needs)
-    (λ c. placed (c .before .before .before .before) .0)
-    (λ c. search needs)
-    (λ c. placed (c .before .before .before .before) .1)
-    (λ c. search needs)
-    (λ c. placed (c .before .before .before .before) .1)
-    (λ c. search needs)
-    (λ c. placed (c .before .before .before .before) .0)
-    (λ c. simp length-set (placed (c .before .before .before .before) .2))
+    Inv-loop
+    μ-loop
     returns
-    (λ c. simp length-set (placed (c .before .before .before .before) .2))
-    returns-2)
+    returns-2
+    (λ c. omega arith)
+    (λ c. omega arith)
+    (λ c. omega arith)
+    (λ c. omega arith)
+    loop-holds
+    (λ c. omega arith)
+    (λ c. omega (arith, kept (c .before .before)))
+    (λ c κs. search needs)
+    (λ c. omega arith)
+    (λ c. omega (arith, kept (c .before .before .before)))
+    (λ c. omega arith)
+    (λ c. omega arith)
+    loop-again
+    (λ c. kept (c .before))
+    returns-3)

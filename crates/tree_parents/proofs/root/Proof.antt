@@ -2,9 +2,9 @@
 use mathlib.Core.Path.{_≡_, refl, _∙_}
 use Prim.Native.Nat.{ℕ, _≤_}
 use native.Mathlib.Omega.{arith}
-use Rattle.tree_labels.specs.Labels.{Tells}
-use Rattle.tree_labels.proofs.root.Statement.{statement}
-use Rattle.tree_labels.proofs.root.Tie as tie
+use Rattle.tree_parents.specs.Parents.{Tells}
+use Rattle.tree_parents.proofs.root.Statement.{statement}
+use Rattle.tree_parents.proofs.root.Tie as tie
 
 abbrev Inv-loop : tie.InvT-loop
 Inv-loop parents site x₀ x = (x ≤ site) × ((label : ℕ → ℕ) → Tells parents label → label x ≡ label site)

@@ -4,10 +4,10 @@ use Prim.Native.Nat.{ℕ, _≤_}
 use native.Mathlib.Omega.{arith}
 use lib.ListN.{length}
 use Rattle.lists.specs.Numbers.{look}
-use Rattle.tree_labels.specs.Labels.{Tells, Shorter}
-use Rattle.tree_labels.specs.Roots.{shorter-none, shorter-more, shorter-step}
-use Rattle.tree_labels.proofs.root_by_halves.Statement.{statement}
-use Rattle.tree_labels.proofs.root_by_halves.Tie as tie
+use Rattle.tree_parents.specs.Parents.{Tells, Shorter}
+use Rattle.tree_parents.specs.Roots.{shorter-none, shorter-more, shorter-step}
+use Rattle.tree_parents.proofs.root_by_halves.Statement.{statement}
+use Rattle.tree_parents.proofs.root_by_halves.Tie as tie
 
 abbrev Inv-loop : tie.InvT-loop
 Inv-loop parents₀ site x₀ parents x = (x ≤ site) × Shorter parents₀ parents × ((label : ℕ → ℕ) → Tells parents₀ label → label x ≡ label site)

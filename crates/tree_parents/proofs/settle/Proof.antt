@@ -4,9 +4,9 @@ use Prim.Native.Nat.{_-_, _≤_}
 use native.Mathlib.Omega.{arith}
 use lib.ListN.{length}
 use Rattle.lists.specs.Numbers.{look}
-use Rattle.tree_labels.specs.Roots.{Settling, settling-start, settling-low, settling-step, settling-end}
-use Rattle.tree_labels.proofs.settle.Statement.{statement}
-use Rattle.tree_labels.proofs.settle.Tie as tie
+use Rattle.tree_parents.specs.Roots.{Settling, settling-start, settling-low, settling-step, settling-end}
+use Rattle.tree_parents.proofs.settle.Statement.{statement}
+use Rattle.tree_parents.proofs.settle.Tie as tie
 
 abbrev Inv-loop : tie.InvT-loop
 Inv-loop parents₀ x₀ x-end parents x = (x ≤ x-end) × (x-end ≡ length parents₀) × Settling parents₀ x parents

@@ -11,7 +11,7 @@ use Rattle.lists.specs.Numbers.{look, upfrom, is}
 use Rattle.lists.specs.Sums.{pick-same, pick-other, pick-const, cases, same?, is-iff}
 use Rattle.lists.specs.Places.{length-upfrom, look-upfrom}
 use Rattle.model.specs.Flows.{relabel}
-use Rattle.tree_labels.specs.Labels.{Lower, Tells, Root, Shorter, linked, Joins, Settled}
+use Rattle.tree_parents.specs.Parents.{Lower, Tells, Root, Shorter, linked, Joins, Settled}
 
 -- ---- before the first link every site is its own parent
 
