@@ -8,7 +8,6 @@ ghost use Rattle.report.specs.Report.{reportOf};
 ghost use Rattle.report.specs.Shown.{shownBy, CanWrite};
 ghost use Rattle.planner.specs.Outcome.{deliver, reporter, plannedBy, planned, plannedWhole, answeredBy, answered};
 ghost use Rattle.planner.specs.Ready.{TakenApart, Ordered, Charted};
-ghost use Rattle.planner.specs.Taken.{Listed};
 ghost use Rattle.planner.specs.Fits.{fits};
 use model::CHAINS;
 use model::PLACES;
@@ -16,7 +15,6 @@ use model::Pairs;
 use model::REPORT;
 use model::SITES;
 use sheet::Answer;
-use sheet::Lists;
 
 // What planning comes to: a report of so many bytes, or a refusal with its number and line.
 pub enum Outcome {
@@ -370,29 +368,6 @@ fn plan_parts<'a>(
     )
 }
 
-// The network of an accepted sheet, taken apart and planned in whole circuits or in halves.
-fn plan_network(whole: bool, sheet: &[u8], network: Lists, report: &mut [u8]) -> Outcome
-    requires { ⌜ Listed (now sheet) network ⌝ }
-    ensures told { λ r. ⌜ r ≡ plannedBy (reporter whole) editions (now (sheet .entry)) (now (report .entry)) .outcome ⌝ }
-    ensures left { λ r. ⌜ now (report .exit) ≡ plannedBy (reporter whole) editions (now (sheet .entry)) (now (report .entry)) .buffer ⌝ }
-{
-    let n = network.sites;
-    let m = network.links;
-    plan_parts(
-        whole,
-        sheet,
-        &network.start,
-        &network.end,
-        n,
-        m,
-        &network.one,
-        &network.two,
-        &network.mark,
-        &network.capacity,
-        report,
-    )
-}
-
 // Plans a sheet in whole circuits or in halves: writes that report into the buffer and tells its length, or refuses the sheet and leaves the buffer as it was.
 pub fn report_on(whole: bool, sheet: &[u8], report: &mut [u8]) -> Outcome
     ensures told { λ r. ⌜ r ≡ plannedBy (reporter whole) editions (now (sheet .entry)) (now (report .entry)) .outcome ⌝ }
@@ -400,10 +375,22 @@ pub fn report_on(whole: bool, sheet: &[u8], report: &mut [u8]) -> Outcome
 {
     let reading = sheet::read(sheet);
     let answer = reading.answer;
-    match answer {
-        Answer::Refused { number, line } => Outcome::Refused { number, line },
-        Answer::Accepted => plan_network(whole, sheet, reading.network, report),
+    if let Answer::Refused { number, line } = answer {
+        return Outcome::Refused { number, line };
     }
+    plan_parts(
+        whole,
+        sheet,
+        &reading.network.start,
+        &reading.network.end,
+        reading.network.sites,
+        reading.network.links,
+        &reading.network.one,
+        &reading.network.two,
+        &reading.network.mark,
+        &reading.network.capacity,
+        report,
+    )
 }
 
 // Plans a sheet in halves, with the report headed `plan`.
