@@ -1,7 +1,4 @@
 // The planner as a library for other languages.
-use planner::Outcome;
-use sheet::Range;
-use sides::First;
 ghost use mathlib.Core.Path.{_≡_};
 ghost use Rattle.model.specs.Edition.{editions};
 ghost use Rattle.planner.specs.Outcome.{planned, plannedWhole};
@@ -17,19 +14,8 @@ ghost use Rattle.report_words.specs.Words.{words};
 ghost use Rattle.report_words.specs.TwoTexts.{wordsOf};
 ghost use Rattle.report_words.specs.TwoSheets.{wordsOfSheets};
 ghost use Rattle.plan_words.specs.PlanWords.{wordsJudged};
-ghost use Rattle.waderarmoire.specs.Packed.{packed, asOutcome, packedReplay, packedRegions, sumsAfter, packedVerdict, packedName};
-ghost use Rattle.waderarmoire.specs.PackedSides.{packedFirst, packedSide};
-
-// An outcome as one number: the refusal's number times 2^40, its line times 2^20, and the report's length.
-fn pack(outcome: Outcome) -> u64
-    ensures { λ r. ⌜ r ≡ packed outcome ⌝ }
-{
-    match outcome {
-        Outcome::Report { length } => length as u64 % 1048576,
-        Outcome::Refused { number, line } => number % 4096 * 1099511627776
-            + line as u64 % 1048576 * 1048576,
-    }
-}
+ghost use Rattle.packing.specs.Packed.{packed, asOutcome, packedReplay, packedRegions, sumsAfter, packedVerdict, packedName};
+ghost use Rattle.packing.specs.PackedSides.{packedFirst, packedSide};
 
 // Plans a sheet into the caller's buffer, as planner::plan does, and tells the outcome as one number.
 #[no_mangle]
@@ -37,7 +23,7 @@ pub extern "C" fn waderarmoire_plan(sheet: &[u8], report: &mut [u8]) -> u64
     ensures told { λ r. ⌜ r ≡ packed (planned editions (now (sheet .entry)) (now (report .entry)) .outcome) ⌝ }
     ensures left { λ r. ⌜ now (report .exit) ≡ planned editions (now (sheet .entry)) (now (report .entry)) .buffer ⌝ }
 {
-    pack(planner::plan(sheet, report))
+    packing::pack(planner::plan(sheet, report))
 }
 
 // Plans a sheet in whole circuits into the caller's buffer, as planner::whole does, and tells the outcome as one number.
@@ -46,17 +32,7 @@ pub extern "C" fn waderarmoire_whole(sheet: &[u8], report: &mut [u8]) -> u64
     ensures told { λ r. ⌜ r ≡ packed (plannedWhole editions (now (sheet .entry)) (now (report .entry)) .outcome) ⌝ }
     ensures left { λ r. ⌜ now (report .exit) ≡ plannedWhole editions (now (sheet .entry)) (now (report .entry)) .buffer ⌝ }
 {
-    pack(planner::whole(sheet, report))
-}
-
-// What the order of work comes to, told as an outcome of planning is: the count of the sites in the place of the length.
-fn as_outcome(order: orders::Outcome) -> Outcome
-    ensures { λ r. ⌜ r ≡ asOutcome order ⌝ }
-{
-    match order {
-        orders::Outcome::Taken { count } => Outcome::Report { length: count },
-        orders::Outcome::Refused { number, line } => Outcome::Refused { number, line },
-    }
+    packing::pack(planner::whole(sheet, report))
 }
 
 // Writes the order of work over a sheet into the caller's list, as orders::order does, and tells the outcome as one number.
@@ -65,19 +41,7 @@ pub extern "C" fn waderarmoire_order(sheet: &[u8], list: &mut [usize]) -> u64
     ensures told { λ r. ⌜ r ≡ packed (asOutcome (orderOf editions (now (sheet .entry)) (now (list .entry)) .outcome)) ⌝ }
     ensures left { λ r. ⌜ now (list .exit) ≡ orderOf editions (now (sheet .entry)) (now (list .entry)) .list ⌝ }
 {
-    pack(as_outcome(orders::order(sheet, list)))
-}
-
-// What a replay comes to as one number: the text times 2^52, the refusal's number times 2^40, its line times 2^20, and the count of lines answered.
-fn pack_replay(outcome: logs::Outcome) -> u64
-    ensures { λ r. ⌜ r ≡ packedReplay outcome ⌝ }
-{
-    match outcome {
-        logs::Outcome::Answered { count } => count as u64 % 1048576,
-        logs::Outcome::Refused { text, number, line } => text % 4096 * 4503599627370496
-            + number % 4096 * 1099511627776
-            + line as u64 % 1048576 * 1048576,
-    }
+    packing::pack(packing::as_outcome(orders::order(sheet, list)))
 }
 
 // Replays a booking log over a sheet into the caller's list of answers, as logs::replay does, and tells the outcome as one number.
@@ -86,18 +50,7 @@ pub extern "C" fn waderarmoire_replay(sheet: &[u8], log: &[u8], answers: &mut [u
     ensures told { λ r. ⌜ r ≡ packedReplay (replayed editions (now (sheet .entry)) (now (log .entry)) (now (answers .entry)) .outcome) ⌝ }
     ensures left { λ r. ⌜ now (answers .exit) ≡ replayed editions (now (sheet .entry)) (now (log .entry)) (now (answers .entry)) .list ⌝ }
 {
-    pack_replay(logs::replay(sheet, log, answers))
-}
-
-// What the first step of a region comes to as one number: the refusal's number times 2^40, its line times 2^20, and the size that is shown.
-fn pack_first(first: First) -> u64
-    ensures { λ r. ⌜ r ≡ packedFirst first ⌝ }
-{
-    match first {
-        First::Shown { size } => size % 1048576,
-        First::Refused { number, line } => number % 4096 * 1099511627776
-            + line as u64 % 1048576 * 1048576,
-    }
+    packing::pack_replay(logs::replay(sheet, log, answers))
 }
 
 // Tells a region's first trimmed size of the link that two names mean, as sides::first_size does, as one number.
@@ -105,20 +58,7 @@ fn pack_first(first: First) -> u64
 pub extern "C" fn waderarmoire_region_first(sheet: &[u8], name: &[u8], name2: &[u8]) -> u64
     ensures { λ r. ⌜ r ≡ packedFirst (firstShown editions (now (sheet .entry)) (now (name .entry)) (now (name2 .entry))) ⌝ }
 {
-    pack_first(sides::first_size(sheet, name, name2))
-}
-
-// What the second step of a region comes to as one number: the refusal's number times 2^40 and its line times 2^20; or the number of trimmed sizes times
-// 2^30, and their sum.
-fn pack_side(outcome: sides::Outcome) -> u64
-    ensures { λ r. ⌜ r ≡ packedSide outcome ⌝ }
-{
-    match outcome {
-        sides::Outcome::Answered { count, sum } => count as u64 % 1024 * 1073741824
-            + sum % 1073741824,
-        sides::Outcome::Refused { number, line } => number % 4096 * 1099511627776
-            + line as u64 % 1048576 * 1048576,
-    }
+    packing::pack_first(sides::first_size(sheet, name, name2))
 }
 
 // Writes the trimmed sizes that a region is given for its neighbour's number into the caller's list, as sides::answer does, and tells the outcome as one
@@ -136,35 +76,7 @@ pub extern "C" fn waderarmoire_region_answer(
     ensures left { λ r. ⌜ now (sizes .exit)
         ≡ answered editions (now (sheet .entry)) (now (name .entry)) (now (name2 .entry)) number (now (sizes .entry)) .list ⌝ }
 {
-    pack_side(sides::answer(sheet, name, name2, number, sizes))
-}
-
-// What an exchange comes to as one number: the counts of both regions, the first times 2^20; or the sheet times 2^52, the refusal's number times 2^40 and its
-// line times 2^20.
-fn pack_regions(outcome: exchanges::Outcome) -> u64
-    ensures { λ r. ⌜ r ≡ packedRegions outcome ⌝ }
-{
-    match outcome {
-        exchanges::Outcome::Answered { first, second } => first.count as u64 % 1048576 * 1048576
-            + second.count as u64 % 1048576,
-        exchanges::Outcome::Refused {
-            sheet,
-            number,
-            line,
-        } => sheet % 4096 * 4503599627370496
-            + number % 4096 * 1099511627776
-            + line as u64 % 1048576 * 1048576,
-    }
-}
-
-// The sums of both regions into the caller's two places, which keep their values on a refusal.
-fn store_sums(outcome: exchanges::Outcome, sums: &mut [u64; 2])
-    ensures { λ _. ⌜ now (sums .exit) ≡ sumsAfter outcome (now (sums .entry)) ⌝ }
-{
-    if let exchanges::Outcome::Answered { first, second } = outcome {
-        sums[0] = first.sum;
-        sums[1] = second.sum;
-    }
+    packing::pack_side(sides::answer(sheet, name, name2, number, sizes))
 }
 
 // Exchanges between two regions into the caller's lists, as exchanges::exchange does, writes their sums and tells the outcome as one number.
@@ -186,8 +98,8 @@ pub extern "C" fn waderarmoire_regions(
         ≡ sumsAfter (exchanged editions (now (first .entry)) (now (second .entry)) (now (sizes .entry)) (now (sizes2 .entry)) .outcome) (now (sums .entry)) ⌝ }
 {
     let outcome = exchanges::exchange(first, second, sizes, sizes2);
-    store_sums(outcome, sums);
-    pack_regions(outcome)
+    packing::store_sums(outcome, sums);
+    packing::pack_regions(outcome)
 }
 
 // Writes the span of a range sheet into the caller's buffer, as spans::span does, and tells the outcome as one number.
@@ -196,24 +108,7 @@ pub extern "C" fn waderarmoire_ranges(sheet: &[u8], report: &mut [u8]) -> u64
     ensures told { λ r. ⌜ r ≡ packed (spanned (now (sheet .entry)) (now (report .entry)) .outcome) ⌝ }
     ensures left { λ r. ⌜ now (report .exit) ≡ spanned (now (sheet .entry)) (now (report .entry)) .buffer ⌝ }
 {
-    pack(spans::span(sheet, report))
-}
-
-// What judging comes to as one number: the text times 2^52, the refusal's number times 2^40 and its line times 2^20; or twice the total, and 1 more for yes.
-fn pack_verdict(outcome: verdicts::Outcome) -> u64
-    ensures { λ r. ⌜ r ≡ packedVerdict outcome ⌝ }
-{
-    match outcome {
-        verdicts::Outcome::Judged { total, largest } => {
-            if largest {
-                return total % 4294967296 * 2 + 1;
-            }
-            total % 4294967296 * 2
-        }
-        verdicts::Outcome::Refused { text, number, line } => text % 4096 * 4503599627370496
-            + number % 4096 * 1099511627776
-            + line as u64 % 1048576 * 1048576,
-    }
+    packing::pack(spans::span(sheet, report))
 }
 
 // Judges a plan drawn by hand over a sheet, as verdicts::judge does, and tells the outcome as one number.
@@ -221,17 +116,7 @@ fn pack_verdict(outcome: verdicts::Outcome) -> u64
 pub extern "C" fn waderarmoire_judge(sheet: &[u8], plan: &[u8]) -> u64
     ensures { λ r. ⌜ r ≡ packedVerdict (judged editions (now (sheet .entry)) (now (plan .entry))) ⌝ }
 {
-    pack_verdict(verdicts::judge(sheet, plan))
-}
-
-// Where a name stands as one number: the offset of its first byte times 2^20, and how many bytes it has; 0 of an empty one.
-fn pack_name(range: Range) -> u64
-    ensures { λ r. ⌜ r ≡ packedName (range .start, range .end) ⌝ }
-{
-    if range.end <= range.start {
-        return 0;
-    }
-    range.start as u64 % 1048576 * 1048576 + (range.end - range.start) as u64 % 1048576
+    packing::pack_verdict(verdicts::judge(sheet, plan))
 }
 
 // Tells where the name of a site stands on a sheet, by the site's number, as sheet::name_range does, as one number.
@@ -239,7 +124,7 @@ fn pack_name(range: Range) -> u64
 pub extern "C" fn waderarmoire_name(sheet: &[u8], site: usize) -> u64
     ensures { λ r. ⌜ r ≡ packedName (nameRange editions (now (sheet .entry)) site) ⌝ }
 {
-    pack_name(sheet::name_range(sheet, site))
+    packing::pack_name(sheet::name_range(sheet, site))
 }
 
 // Writes what the refusal of a sheet means, a line of text, from the start of the caller's buffer as far as it goes, and tells its length.

@@ -1,6 +1,6 @@
 -- `waderarmoire_judge` meets its contract: the verdict, packed.
 use mathlib.Core.Path.{ap, _∙_}
-use Rattle.waderarmoire.specs.Packed.{packedVerdict}
+use Rattle.packing.specs.Packed.{packedVerdict}
 use borrow.Author.Needs.{needs}
 use Rattle.waderarmoire.proofs.waderarmoire_judge.Statement.{statement}
 use Rattle.waderarmoire.proofs.waderarmoire_judge.Tie as tie

@@ -1,6 +1,6 @@
 -- `waderarmoire_name` meets its contract: the range of the name, packed.
 use mathlib.Core.Path.{ap, _∙_}
-use Rattle.waderarmoire.specs.Packed.{packedName}
+use Rattle.packing.specs.Packed.{packedName}
 use borrow.Author.Needs.{needs}
 use Rattle.waderarmoire.proofs.waderarmoire_name.Statement.{statement}
 use Rattle.waderarmoire.proofs.waderarmoire_name.Tie as tie

@@ -1,6 +1,6 @@
 -- `waderarmoire_order` meets its contract: the order of work, and its outcome packed.
 use mathlib.Core.Path.{ap, _∙_}
-use Rattle.waderarmoire.specs.Packed.{packed, asOutcome}
+use Rattle.packing.specs.Packed.{packed, asOutcome}
 use borrow.Author.Needs.{needs}
 use Rattle.waderarmoire.proofs.waderarmoire_order.Statement.{statement}
 use Rattle.waderarmoire.proofs.waderarmoire_order.Tie as tie

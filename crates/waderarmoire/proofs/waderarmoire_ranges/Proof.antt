@@ -1,6 +1,6 @@
 -- `waderarmoire_ranges` meets its contract: planning, and its outcome packed.
 use mathlib.Core.Path.{ap, _∙_}
-use Rattle.waderarmoire.specs.Packed.{packed}
+use Rattle.packing.specs.Packed.{packed}
 use borrow.Author.Needs.{needs}
 use Rattle.waderarmoire.proofs.waderarmoire_ranges.Statement.{statement}
 use Rattle.waderarmoire.proofs.waderarmoire_ranges.Tie as tie

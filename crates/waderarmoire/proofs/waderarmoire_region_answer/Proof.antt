@@ -1,7 +1,7 @@
 -- `waderarmoire_region_answer` meets its contract: the second step, and its outcome packed.
 use mathlib.Core.Path.{ap, _∙_}
 use borrow.Author.Needs.{needs}
-use Rattle.waderarmoire.specs.PackedSides.{packedSide}
+use Rattle.packing.specs.PackedSides.{packedSide}
 use Rattle.waderarmoire.proofs.waderarmoire_region_answer.Statement.{statement}
 use Rattle.waderarmoire.proofs.waderarmoire_region_answer.Tie as tie
 

@@ -1,7 +1,7 @@
 -- `waderarmoire_region_first` meets its contract: the first step, and its outcome packed.
 use mathlib.Core.Path.{ap, _∙_}
 use borrow.Author.Needs.{needs}
-use Rattle.waderarmoire.specs.PackedSides.{packedFirst}
+use Rattle.packing.specs.PackedSides.{packedFirst}
 use Rattle.waderarmoire.proofs.waderarmoire_region_first.Statement.{statement}
 use Rattle.waderarmoire.proofs.waderarmoire_region_first.Tie as tie
 

@@ -1,7 +1,7 @@
 -- `waderarmoire_regions` meets its contract: the exchange, its sums, and its outcome packed.
 use mathlib.Core.Path.{ap, _∙_}
 use borrow.Author.Needs.{needs}
-use Rattle.waderarmoire.specs.Packed.{packedRegions, sumsAfter}
+use Rattle.packing.specs.Packed.{packedRegions, sumsAfter}
 use Rattle.waderarmoire.proofs.waderarmoire_regions.Statement.{statement}
 use Rattle.waderarmoire.proofs.waderarmoire_regions.Tie as tie
 

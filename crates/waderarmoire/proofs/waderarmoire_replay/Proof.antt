@@ -1,6 +1,6 @@
 -- `waderarmoire_replay` meets its contract: the replay, and its outcome packed.
 use mathlib.Core.Path.{ap, _∙_}
-use Rattle.waderarmoire.specs.Packed.{packedReplay}
+use Rattle.packing.specs.Packed.{packedReplay}
 use borrow.Author.Needs.{needs}
 use Rattle.waderarmoire.proofs.waderarmoire_replay.Statement.{statement}
 use Rattle.waderarmoire.proofs.waderarmoire_replay.Tie as tie

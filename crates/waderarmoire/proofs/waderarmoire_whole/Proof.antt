@@ -1,6 +1,6 @@
 -- `waderarmoire_whole` meets its contract: planning in whole circuits, and its outcome packed.
 use mathlib.Core.Path.{ap, _∙_}
-use Rattle.waderarmoire.specs.Packed.{packed}
+use Rattle.packing.specs.Packed.{packed}
 use borrow.Author.Needs.{needs}
 use Rattle.waderarmoire.proofs.waderarmoire_whole.Statement.{statement}
 use Rattle.waderarmoire.proofs.waderarmoire_whole.Tie as tie

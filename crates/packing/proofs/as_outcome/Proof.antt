@@ -1,9 +1,9 @@
 -- `as_outcome` meets its contract, case by case.
 use mathlib.Core.Path.{sym, ap}
-use Rattle.waderarmoire.specs.Packed.{asOutcome}
+use Rattle.packing.specs.Packed.{asOutcome}
 use borrow.Author.Needs.{needs}
-use Rattle.waderarmoire.proofs.as_outcome.Statement.{statement}
-use Rattle.waderarmoire.proofs.as_outcome.Tie as tie
+use Rattle.packing.proofs.as_outcome.Statement.{statement}
+use Rattle.packing.proofs.as_outcome.Tie as tie
 
 returns : tie.Need-returns
 unfolding asOutcome

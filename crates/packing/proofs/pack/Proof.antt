@@ -1,9 +1,9 @@
 -- `pack` meets its contract, case by case.
 use mathlib.Core.Path.{sym, ap}
-use Rattle.waderarmoire.specs.Packed.{packed}
+use Rattle.packing.specs.Packed.{packed}
 use borrow.Author.Needs.{needs}
-use Rattle.waderarmoire.proofs.pack.Statement.{statement}
-use Rattle.waderarmoire.proofs.pack.Tie as tie
+use Rattle.packing.proofs.pack.Statement.{statement}
+use Rattle.packing.proofs.pack.Tie as tie
 
 enum-known-outcome : tie.Need-enum-known-outcome
 enum-known-outcome c = search needs

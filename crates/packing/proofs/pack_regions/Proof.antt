@@ -1,9 +1,9 @@
 -- `pack_regions` meets its contract, case by case.
 use mathlib.Core.Path.{sym, ap}
 use borrow.Author.Needs.{needs}
-use Rattle.waderarmoire.specs.Packed.{packedRegions}
-use Rattle.waderarmoire.proofs.pack_regions.Statement.{statement}
-use Rattle.waderarmoire.proofs.pack_regions.Tie as tie
+use Rattle.packing.specs.Packed.{packedRegions}
+use Rattle.packing.proofs.pack_regions.Statement.{statement}
+use Rattle.packing.proofs.pack_regions.Tie as tie
 
 returns : tie.Need-returns
 unfolding packedRegions

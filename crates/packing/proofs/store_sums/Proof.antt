@@ -1,9 +1,9 @@
 -- `store_sums` meets its contract: two sums, or nothing.
 use mathlib.Core.Path.{sym, ap}
 use borrow.Author.Needs.{needs}
-use Rattle.waderarmoire.specs.Packed.{sumsAfter}
-use Rattle.waderarmoire.proofs.store_sums.Statement.{statement}
-use Rattle.waderarmoire.proofs.store_sums.Tie as tie
+use Rattle.packing.specs.Packed.{sumsAfter}
+use Rattle.packing.proofs.store_sums.Statement.{statement}
+use Rattle.packing.proofs.store_sums.Tie as tie
 
 returns : tie.Need-returns
 unfolding sumsAfter

@@ -1,9 +1,9 @@
 -- `pack_name` meets its contract: the offset and the length, each within its places.
 use borrow.Author.Needs.{needs}
 use borrow.Author.Tests.{le-leb, lt-leb}
-use Rattle.waderarmoire.specs.Packed.{packedName}
-use Rattle.waderarmoire.proofs.pack_name.Statement.{statement}
-use Rattle.waderarmoire.proofs.pack_name.Tie as tie
+use Rattle.packing.specs.Packed.{packedName}
+use Rattle.packing.proofs.pack_name.Statement.{statement}
+use Rattle.packing.proofs.pack_name.Tie as tie
 
 returns : tie.Need-returns
 unfolding packedName

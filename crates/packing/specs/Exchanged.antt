@@ -1,4 +1,4 @@
--- The number that `waderarmoire_regions` returns, taken apart, tells the outcome's sheet, number, line and counts, for every two sheets and lists.
+-- The number that tells an exchange, taken apart, gives the outcome's sheet, number, line and counts, for every two sheets and lists.
 -- Nothing is lost: a sheet is 0, 1 or 2, numbers are at most 19, a line at fault is one of its sheet, and a region has at most LINKS links.
 use mathlib.Core.Path.{_≡_, ap}
 use mathlib.Core.List.{List}
@@ -17,7 +17,7 @@ use Rattle.exchanges.specs.Told.{ExchangeTold, for-its-cause, both-answered, th
 use Rattle.exchanges.specs.declared.Answer.{Answer}
 use Rattle.exchanges.specs.declared.Outcome.{Outcome}
 use Rattle.exchanges.specs.declared.Outcome.the-variants.{Answered, Refused}
-use Rattle.waderarmoire.specs.Packed.{packedRegions, unpackedText, unpackedNumber, unpackedLine, unpackedLength}
+use Rattle.packing.specs.Packed.{packedRegions, unpackedText, unpackedNumber, unpackedLine, unpackedLength}
 
 -- how large the numbers of an outcome are
 record Bounded (o : Outcome) : Type 0 where

@@ -1,9 +1,9 @@
 -- `pack_side` meets its contract, case by case.
 use mathlib.Core.Path.{sym, ap}
 use borrow.Author.Needs.{needs}
-use Rattle.waderarmoire.specs.PackedSides.{packedSide}
-use Rattle.waderarmoire.proofs.pack_side.Statement.{statement}
-use Rattle.waderarmoire.proofs.pack_side.Tie as tie
+use Rattle.packing.specs.PackedSides.{packedSide}
+use Rattle.packing.proofs.pack_side.Statement.{statement}
+use Rattle.packing.proofs.pack_side.Tie as tie
 
 returns : tie.Need-returns
 unfolding packedSide

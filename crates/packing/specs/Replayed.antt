@@ -1,4 +1,4 @@
--- The number that `waderarmoire_replay` returns, taken apart, tells the outcome's text, number, line and count, for every sheet, log and list.
+-- The number that tells a replay, taken apart, gives the outcome's text, number, line and count, for every sheet, log and list.
 -- Nothing is lost: a text is 1 or 2, numbers are at most 17, a line at fault is one of the sheet, and a log has at most LOGLINES lines.
 use mathlib.Core.Path.{_≡_}
 use mathlib.Core.List.{List}
@@ -11,7 +11,7 @@ use Rattle.logs.specs.Outcome.{textOf, number, lineOf, countOf, replayed}
 use Rattle.logs.specs.Told.{ReplayTold, faulty-sheet, long-log, few-places, all-answered, the-replay-is-told-or-its-cause}
 use Rattle.logs.specs.declared.Outcome.{Outcome}
 use Rattle.logs.specs.declared.Outcome.the-variants.{Answered, Refused}
-use Rattle.waderarmoire.specs.Packed.{packedReplay, unpackedText, unpackedNumber, unpackedLine, unpackedLength}
+use Rattle.packing.specs.Packed.{packedReplay, unpackedText, unpackedNumber, unpackedLine, unpackedLength}
 
 -- how large the numbers of an outcome are
 record Bounded (o : Outcome) : Type 0 where

@@ -1,4 +1,4 @@
--- The number that `waderarmoire_judge` returns, taken apart, tells the outcome, for every sheet and plan: the text, which is 0 of a verdict and of nothing else;
+-- The number that tells a judgement, taken apart, gives its outcome, for every sheet and plan: the text, which is 0 of a verdict and of nothing else;
 -- of a refusal the number and the line; of a verdict the total and yes or no. Nothing is lost: numbers are at most 21, a line at fault is one of the sheet or of
 -- the plan, and a total is at most PLANLINES times AMOUNT.
 use mathlib.Core.Bool.{true, false, cond}
@@ -15,7 +15,7 @@ use Rattle.verdicts.specs.Causes.{a-cause-is-small}
 use Rattle.verdicts.specs.Told.{JudgeTold, faulty-sheet, long-plan, faulty-line, heavy-plan, accepted-plan, the-verdict-is-told-or-its-cause}
 use Rattle.verdicts.specs.declared.Outcome.{Outcome}
 use Rattle.verdicts.specs.declared.Outcome.the-variants.{Judged, Refused}
-use Rattle.waderarmoire.specs.Packed.{packedVerdict, unpackedText, unpackedNumber, unpackedLine, unpackedTotal, unpackedYes}
+use Rattle.packing.specs.Packed.{packedVerdict, unpackedText, unpackedNumber, unpackedLine, unpackedTotal, unpackedYes}
 
 -- how large the numbers of an outcome are
 abbrev Bounded : Outcome → Type 0

@@ -1,4 +1,4 @@
--- The number that `waderarmoire_name` returns, taken apart, tells the name of a site: so many bytes of the sheet from that offset on, for every sheet and every
+-- The number that tells where a name stands, taken apart, gives the name of a site: so many bytes of the sheet from that offset on, for every sheet and every
 -- number. Nothing is lost: a name lies on the sheet, which has at most BYTES bytes.
 use mathlib.Core.Bool.{Bool, true, false, cond, _&&_}
 use mathlib.Core.List.{List}
@@ -17,7 +17,7 @@ use Rattle.sheet.specs.Sheet.{Network, empty, Read, refused, accepted, andThen,
 use Rattle.sheet.specs.Editions.{of-the-edition}
 use Rattle.sheet.specs.Sound.{Accepts}
 use Rattle.sheet.specs.SheetTheorem.{an-accepted-sheet-is-a-tree}
-use Rattle.waderarmoire.specs.Packed.{packedName, unpackedOffset, unpackedLength}
+use Rattle.packing.specs.Packed.{packedName, unpackedOffset, unpackedLength}
 
 -- the part of a sheet that a value tells
 abbrev pub toldPart : List ℕ → ℕ → List ℕ

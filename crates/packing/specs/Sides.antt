@@ -1,4 +1,4 @@
--- The numbers that `waderarmoire_region_first` and `waderarmoire_region_answer` return, taken apart, tell what the steps come to, for all sheets, names,
+-- The numbers that tell the two steps of one region by itself, taken apart, give what the steps come to, for all sheets, names,
 -- numbers and lists. Nothing is lost: numbers are at most 19, a line at fault is one of the sheet, and sizes, counts and sums are within the limits.
 use mathlib.Core.List.{List}
 use mathlib.Core.Path.{_≡_}
@@ -12,8 +12,8 @@ use Rattle.sides.specs.declared.First.{First}
 use Rattle.sides.specs.declared.First.the-variants as first
 use Rattle.sides.specs.declared.Outcome.{Outcome}
 use Rattle.sides.specs.declared.Outcome.the-variants.{Answered, Refused}
-use Rattle.waderarmoire.specs.Packed.{unpackedNumber, unpackedLine, unpackedLength}
-use Rattle.waderarmoire.specs.PackedSides.{packedFirst, packedSide, unpackedCount, unpackedSum}
+use Rattle.packing.specs.Packed.{unpackedNumber, unpackedLine, unpackedLength}
+use Rattle.packing.specs.PackedSides.{packedFirst, packedSide, unpackedCount, unpackedSum}
 
 -- a value tells what a first step comes to
 pub record TellsFirst (value : ℕ) (o : First) : Type 0 where

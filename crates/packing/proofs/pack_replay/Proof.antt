@@ -1,9 +1,9 @@
 -- `pack_replay` meets its contract, case by case.
 use mathlib.Core.Path.{sym, ap}
 use borrow.Author.Needs.{needs}
-use Rattle.waderarmoire.specs.Packed.{packedReplay}
-use Rattle.waderarmoire.proofs.pack_replay.Statement.{statement}
-use Rattle.waderarmoire.proofs.pack_replay.Tie as tie
+use Rattle.packing.specs.Packed.{packedReplay}
+use Rattle.packing.proofs.pack_replay.Statement.{statement}
+use Rattle.packing.proofs.pack_replay.Tie as tie
 
 returns : tie.Need-returns
 unfolding packedReplay

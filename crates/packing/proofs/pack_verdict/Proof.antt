@@ -1,10 +1,10 @@
 -- `pack_verdict` meets its contract, case by case.
 use mathlib.Core.Path.{sym, ap}
 use native.Mathlib.Omega.{arith}
-use Rattle.waderarmoire.specs.Packed.{packedVerdict}
+use Rattle.packing.specs.Packed.{packedVerdict}
 use borrow.Author.Needs.{needs}
-use Rattle.waderarmoire.proofs.pack_verdict.Statement.{statement}
-use Rattle.waderarmoire.proofs.pack_verdict.Tie as tie
+use Rattle.packing.proofs.pack_verdict.Statement.{statement}
+use Rattle.packing.proofs.pack_verdict.Tie as tie
 
 enum-known-outcome : tie.Need-enum-known-outcome
 enum-known-outcome c = search needs

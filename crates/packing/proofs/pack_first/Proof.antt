@@ -1,9 +1,9 @@
 -- `pack_first` meets its contract, case by case.
 use mathlib.Core.Path.{sym, ap}
 use borrow.Author.Needs.{needs}
-use Rattle.waderarmoire.specs.PackedSides.{packedFirst}
-use Rattle.waderarmoire.proofs.pack_first.Statement.{statement}
-use Rattle.waderarmoire.proofs.pack_first.Tie as tie
+use Rattle.packing.specs.PackedSides.{packedFirst}
+use Rattle.packing.proofs.pack_first.Statement.{statement}
+use Rattle.packing.proofs.pack_first.Tie as tie
 
 returns : tie.Need-returns
 unfolding packedFirst
