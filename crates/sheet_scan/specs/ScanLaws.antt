@@ -111,10 +111,6 @@ module _ (s : List ℕ) (from to : ℕ) where
 pub run-more : (p : ℕ → Bool) (s : List ℕ) (from to : ℕ) → Run p s from to → p (getD s to 0) ≡ true → Run p s from (to + 1)
 run-more p s from to r e k l m = cases (decLt k to) (λ h. r k l h) (λ h. let here : k ≡ to = omega arith in rw here e)
 
--- and by a run that follows
-pub run-on : (p : ℕ → Bool) (s : List ℕ) (from mid to : ℕ) → Run p s from mid → Run p s mid to → Run p s from to
-run-on p s from mid to r q k l m = cases (decLt k mid) (λ h. r k l h) (λ h. q k (omega arith) m)
-
 -- the bytes of a run all pass
 run-passes : (p : ℕ → Bool) (m : ℕ) (s : List ℕ) (from to : ℕ) → from + m ≡ to → to ≤ length s → Run p s from to → all p (slice from to s) ≡ true
 unfolding all

@@ -51,24 +51,16 @@ fn are_named(sheet: &[u8], at: usize, width: usize) -> bool
     good
 }
 
-// The offset behind so many bytes if they are letters and digits, and else the offset itself.
-fn past(sheet: &[u8], at: usize, width: usize) -> usize
-    requires { ⌜ at + width ≤ length (now sheet) ⌝ }
-    ensures { λ r. ⌜ (at ≤ r) × (r ≤ at + width) × Run isLetterOrDigit (now (sheet .entry)) at r ⌝ }
-{
-    if are_named(sheet, at, width) {
-        return at + width;
-    }
-    at
-}
-
-// The offset behind the letters and digits at an offset, or behind 13 of them.
+// The offset behind the letters and digits at an offset, or behind 12 of them: those of the longest name are seen at once.
 fn run_end(sheet: &[u8], from: usize) -> usize
-    requires { ⌜ from + 16 ≤ length (now sheet) ⌝ }
-    ensures { λ r. ⌜ (from ≤ r) × (r ≤ from + 13) × Run isLetterOrDigit (now (sheet .entry)) from r ⌝ }
+    requires { ⌜ from + 12 < length (now sheet) ⌝ }
+    ensures { λ r. ⌜ (from ≤ r) × (r ≤ from + 12) × Run isLetterOrDigit (now (sheet .entry)) from r ⌝ }
 {
-    let mut end = past(sheet, past(sheet, from, 8), 4);
-    while end < from + 13 {
+    if are_named(sheet, from, 12) {
+        return from + 12;
+    }
+    let mut end = from;
+    while end < from + 12 {
         if !text_fields::is_letter_or_digit(sheet[end]) {
             return end;
         }
@@ -97,13 +89,10 @@ fn name_end(sheet: &[u8], from: usize, stop: u8) -> usize
     requires { ⌜ from ≤ length (now sheet) ⌝ }
     ensures { λ r. ⌜ (from < r → NameAt (now (sheet .entry)) from r stop) ⌝ }
 {
-    if sheet.len() - from < 16 {
+    if sheet.len() - from < 13 {
         return from;
     }
     let end = run_end(sheet, from);
-    if from + 12 < end {
-        return from;
-    }
     if sheet[end] != stop {
         return from;
     }

@@ -6,11 +6,11 @@ use borrow.Author.Needs.{needs}
 use Rattle.sheet_scan.proofs.name_end.Statement.{statement}
 use Rattle.sheet_scan.proofs.name_end.Tie as tie
 
-returns-5 : tie.Need-returns-5
-returns-5 c = λ some.
-    let short = c .before .before .before .before in
-    a-run-is-a-name _ _ _ _ some (short .if2 .left) (omega arith) (short .before .run-end .ensures .2) (c .before .has-letter .ensures (not-false _ (c .if4 .left)))
-    (c .before .before .if3 .left)
+returns-4 : tie.Need-returns-4
+returns-4 c = λ some.
+    let run = c .before .before .before .before .run-end in
+    a-run-is-a-name _ _ _ _ some (omega arith) (omega arith) (run .ensures .2) (c .before .has-letter .ensures (not-false _ (c .if3 .left)))
+    (c .before .before .if2 .left)
 
 pub name-end-spec : {M : Type 1} → statement M
 name-end-spec =
@@ -21,8 +21,6 @@ name-end-spec =
     (λ c κs. search needs)
     (λ c. search needs)
     (λ c. λ some. absurd (omega arith))
-    (λ c. search needs)
-    (λ c. λ some. absurd (omega arith))
     (λ c κs. search needs)
     (λ c. λ some. absurd (omega arith))
-    returns-5)
+    returns-4)

@@ -5,25 +5,16 @@ use native.Mathlib.Omega.{arith}
 use borrow.Author.Tests.{not-false}
 use Rattle.text_fields.specs.Fields.{isLetterOrDigit}
 use Rattle.sheet_scan.specs.Scan.{Run}
-use Rattle.sheet_scan.specs.ScanLaws.{run-more, run-on}
+use Rattle.sheet_scan.specs.ScanLaws.{run-more}
 use borrow.Author.Needs.{needs}
 use Rattle.sheet_scan.proofs.run_end.Statement.{statement}
 use Rattle.sheet_scan.proofs.run_end.Tie as tie
 
 abbrev Inv-loop : tie.InvT-loop
-Inv-loop sheet from end₀ end = (from ≤ end) × (end ≤ from + 13) × Run isLetterOrDigit sheet from end
+Inv-loop sheet from end₀ end = (from ≤ end) × (end ≤ from + 12) × Run isLetterOrDigit sheet from end
 
 abbrev μ-loop : tie.MeasureT-loop
-μ-loop sheet from end₀ end = from + 13 - end
-
-loop-holds : tie.Need-loop-holds Inv-loop μ-loop
-loop-holds c =
-    let a = c .before .before .before .args in (
-      omega arith,
-      omega arith,
-      run-on isLetterOrDigit (a .sheet .now) (a .from) (c .before .past .result) (c .past2 .result) (c .before .past .ensures .2)
-          (c .past2 .ensures .2),
-    )
+μ-loop sheet from end₀ end = from + 12 - end
 
 loop-again : tie.Need-loop-again Inv-loop μ-loop
 loop-again c =
@@ -32,7 +23,7 @@ loop-again c =
       omega arith,
       omega arith,
       run-more isLetterOrDigit (a .sheet .now) (a .from) (top .loop .end) (top .loop .inv .2)
-          (sym (c .before .is-letter-or-digit .ensures) ∙ not-false _ (c .if1 .left)),
+          (sym (c .before .is-letter-or-digit .ensures) ∙ not-false _ (c .if2 .left)),
     )
 
 pub run-end-spec : {M : Type 1} → statement M
@@ -41,9 +32,10 @@ run-end-spec =
     (tie.spec
     Inv-loop
     μ-loop
-    (λ c κs. omega arith)
-    (λ c κs. omega arith)
-    loop-holds
+    (λ c κs. search needs)
+    (λ c. search needs)
+    (λ c. (omega arith, omega arith, c .before .are-named .ensures (c .if1 .taken)))
+    (λ c. (omega arith, omega arith, λ k l m. absurd (omega arith)))
     (λ c. omega arith)
     (λ c. omega arith)
     (λ c κs. search needs)
