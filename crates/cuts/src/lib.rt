@@ -58,10 +58,20 @@ fn cuts_by_ends(
     let last = chains.last;
     let before = chains.before;
     let ends = tree_links::ends(n, &last, &before, one, two, marks);
-    let made = cuts_groups::cuts_of(n, &ends, one, two, capacity, balanced);
-    let owner = made.owner;
-    let size = made.size;
-    let count = made.count;
+    let mut owner = [NONE; SITES];
+    let mut size = [0u64; SITES];
+    let mut count = [0usize; SITES];
+    cuts_groups::cuts_of(
+        n,
+        &ends,
+        one,
+        two,
+        capacity,
+        balanced,
+        &mut owner,
+        &mut size,
+        &mut count,
+    );
     Cuts {
         owner,
         size,

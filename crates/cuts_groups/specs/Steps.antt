@@ -1,4 +1,5 @@
 -- What the functions give: the cuts of any terminals, and the steps on the way to them.
+use mathlib.Core.Path.{_≡_}
 use mathlib.Core.List.{List, map}
 use Prim.Native.Nat.{ℕ, zero, suc}
 use lib.ListN.{replicate}
@@ -7,9 +8,24 @@ use Rattle.lists.specs.Numbers.{pick, sum, upfrom, look}
 use Rattle.model.specs.Flows.{Links}
 use Rattle.model.specs.Cuts.{cutSize, cutCount, owner}
 use Rattle.model.specs.Whole.{setSize, setCount}
-use Rattle.cuts_groups.specs.declared.Owned.{Owned}
 use Rattle.cuts_groups.specs.Groups.{labelled}
 use Rattle.cuts_groups.specs.Places.{places, ofTerminal}
+
+-- the cuts, at place x - 1 for site x: the terminal whose cut holds the site, and for a terminal the size and the number of sites of its cut
+pub record Owned : Type 0 where
+  pub owner : List ℕ
+  pub size : List ℕ
+  pub count : List ℕ
+
+-- the cuts that three lists hold
+abbrev pub owning : List ℕ → List ℕ → List ℕ → Owned
+owning owner size count = record { owner = owner; size = size; count = count }
+
+-- three lists of zeros, one for each site
+pub record Blank (owner size count : List ℕ) : Type 0 where
+  pub owners : owner ≡ replicate SITES 0
+  pub sizes : size ≡ replicate SITES 0
+  pub counts : count ≡ replicate SITES 0
 
 -- the owner at place i: the one that stands there, or a where there is none and the cut holds the place
 unfoldable pub claim : List ℕ → (ℕ → ℕ) → ℕ → ℕ → ℕ

@@ -1,5 +1,7 @@
 // Inner: the cuts of any terminals. Sites are grouped by the links whose balanced capacity is below the given one: for each group the
 // capacities of the links that leave it and the set of its sites, and for each site the terminal of its group. Only the planner's own crates call it.
+// The cuts stand in three lists, lent as zeros, at place x - 1 for site x: the terminal whose cut holds the site, and for a terminal the size and the
+// number of sites of its cut. Places of other sites and places past the last site hold 0.
 use model::PLACES;
 use model::SETS;
 use model::SITES;
@@ -9,8 +11,8 @@ use tree_sets::Set;
 ghost use mathlib.Core.Path.{_≡_};
 ghost use mathlib.Core.List.{map};
 ghost use Prim.Native.Nat.{ℕ, _+_, _*_, _≤_};
-ghost use lib.ListN.{length};
-ghost use Rattle.model.specs.Limits.{PLACES, SITES};
+ghost use lib.ListN.{length, replicate};
+ghost use Rattle.model.specs.Limits.{PLACES, SETS, SITES};
 ghost use Rattle.lists.specs.Numbers.{upfrom, look};
 ghost use Rattle.model.specs.Cuts.{group};
 ghost use Rattle.model.specs.Whole.{EndSets};
@@ -20,21 +22,7 @@ ghost use Rattle.tree_links.specs.Chains.{Placed, Limited};
 ghost use Rattle.tree_sets.specs.Members.{member};
 ghost use Rattle.cuts_groups.specs.Groups.{Addable, Tallied, leaves, leaving, labelled, inWords};
 ghost use Rattle.cuts_groups.specs.Places.{places, ofTerminal};
-ghost use Rattle.cuts_groups.specs.Steps.{members, claim, ownersTo, cutsBy, owned, setsOf};
-
-// At place x the label of site x, and at place l the sum of label l.
-struct Tally {
-    labels: [u16; PLACES],
-    leaving: [u64; PLACES],
-}
-
-// The cuts, at place x - 1 for site x: the terminal whose cut holds the site, and for a terminal the size and the number of sites of
-// its cut. Places of other sites and places past the last site hold 0.
-pub struct Owned {
-    pub owner: [usize; SITES],
-    pub size: [u64; SITES],
-    pub count: [usize; SITES],
-}
+ghost use Rattle.cuts_groups.specs.Steps.{Blank, owning, members, claim, ownersTo, cutsBy, owned, setsOf};
 
 // The owner of a place without one.
 pub const NONE: usize = 0;
@@ -69,47 +57,55 @@ fn add_at_labels(sums: &mut [u64; PLACES], labels: &[u16; PLACES], one: usize, t
     }
 }
 
-// For each label the capacities of the links that leave its sites, summed.
+// For each label the capacities of the links that leave its sites, summed, into a list of zeros.
 fn sums_leaving(
     one: &[usize],
     two: &[usize],
     capacity: &[u64],
     labels: &[u16; PLACES],
-) -> [u64; PLACES]
-    requires { ⌜ Placed (now one) (now two) × Limited (now one) (now capacity) × ((x : ℕ) → look (now labels) x ≤ SITES) ⌝ }
-    ensures { λ r. ⌜ ((l : ℕ) → look r l ≡ leaving (now (labels .entry)) (now (one .entry)) (now (two .entry)) (now (capacity .entry)) l) ⌝ }
+    sums: &mut [u64; PLACES],
+)
+    requires { ⌜ Placed (now one) (now two) × Limited (now one) (now capacity) × ((x : ℕ) → look (now labels) x ≤ SITES)
+        × (now sums ≡ replicate PLACES 0) ⌝ }
+    ensures { λ _. ⌜ ((l : ℕ) → look (now (sums .exit)) l
+        ≡ leaving (now (labels .entry)) (now (one .entry)) (now (two .entry)) (now (capacity .entry)) l) ⌝ }
 {
-    let mut sums = [0u64; PLACES];
     for j in 0..one.len() {
-        add_at_labels(&mut sums, labels, one[j], two[j], capacity[j]);
+        add_at_labels(sums, labels, one[j], two[j], capacity[j]);
     }
-    sums
 }
 
-// The groups of a tree's sites, by the given and the balanced capacities of its links.
-fn of_links(one: &[usize], two: &[usize], capacity: &[u64], balanced: &[u64]) -> Tally
-    requires { ⌜ Placed (now one) (now two) × Limited (now one) (now capacity) × (length (now balanced) ≡ length (now one)) ⌝ }
-    ensures { λ r. ⌜ Tallied (links (now (one .entry)) (now (two .entry))) (look (now (capacity .entry))) (look (now (balanced .entry))) (r .labels)
-        (r .leaving) ⌝ }
+// The groups of a tree's sites, by the given and the balanced capacities of its links: the label of each site, and at place l of a list of zeros the sum
+// of label l.
+fn of_links(
+    one: &[usize],
+    two: &[usize],
+    capacity: &[u64],
+    balanced: &[u64],
+    leaving: &mut [u64; PLACES],
+) -> [u16; PLACES]
+    requires { ⌜ Placed (now one) (now two) × Limited (now one) (now capacity) × (length (now balanced) ≡ length (now one))
+        × (now leaving ≡ replicate PLACES 0) ⌝ }
+    ensures { λ r. ⌜ Tallied (links (now (one .entry)) (now (two .entry))) (look (now (capacity .entry))) (look (now (balanced .entry))) r
+        (now (leaving .exit)) ⌝ }
 {
     let mut labels = tree_labels::own_labels();
     join_kept(one, two, capacity, balanced, &mut labels);
     tree_parents::settle(&mut labels);
-    let leaving = sums_leaving(one, two, capacity, &labels);
-    Tally { labels, leaving }
+    sums_leaving(one, two, capacity, &labels, leaving);
+    labels
 }
 
-// For each label the places of its sites among the first n, as a set of WORDS words: that of label l from word WORDS l on. Place i is that of site i + 1.
-fn sets(n: usize, labels: &[u16; PLACES]) -> [u64; SETS]
-    requires { ⌜ (n ≤ SITES) × ((x : ℕ) → look (now labels) x ≤ SITES) ⌝ }
-    ensures { λ r. ⌜ ((l i : ℕ) → inWords r l i ≡ labelled n (now (labels .entry)) l i) ⌝ }
+// For each label the places of its sites among the first n, as a set of WORDS words: that of label l from word WORDS l on, in a list of zeros. Place i is
+// that of site i + 1.
+fn sets(n: usize, labels: &[u16; PLACES], words: &mut [u64; SETS])
+    requires { ⌜ (n ≤ SITES) × ((x : ℕ) → look (now labels) x ≤ SITES) × (now words ≡ replicate SETS 0) ⌝ }
+    ensures { λ _. ⌜ ((l i : ℕ) → inWords (now (words .exit)) l i ≡ labelled n (now (labels .entry)) l i) ⌝ }
 {
-    let mut words = [0u64; SETS];
     for i in 0..n {
         let w = labels[i + 1] as usize * WORDS + i / 64;
         words[w] |= 1u64 << i % 64;
     }
-    words
 }
 
 // The set of a label: the WORDS words from word WORDS l on for label l.
@@ -158,57 +154,64 @@ fn take_cut(
     cut.count()
 }
 
-// Puts the terminals among n sites at the places of their cuts without an owner, and tells how many sites each cut has.
+// Puts the terminals among n sites at the places of their cuts without an owner, and into a list of zeros how many sites each cut has.
 fn put_owners(
-    owner: &mut [usize; SITES],
     n: usize,
     words: &[u64; SETS],
     labels: &[u16; PLACES],
     ends: &[u8; PLACES],
-) -> [usize; SITES]
-    requires { ⌜ (length (now owner) ≡ SITES) × (n ≤ SITES) × ((x : ℕ) → look (now labels) x ≤ SITES) ⌝ }
-    ensures { λ r. ⌜ (now (owner .exit) ≡ ownersTo (inWords (now (words .entry))) (now (labels .entry)) (now (owner .entry)) (now (ends .entry)) n)
-        × (r ≡ places n (ofTerminal (look (now (ends .entry))) (members (inWords (now (words .entry))) (now (labels .entry))))) ⌝ }
+    owner: &mut [usize; SITES],
+    count: &mut [usize; SITES],
+)
+    requires { ⌜ (n ≤ SITES) × ((x : ℕ) → look (now labels) x ≤ SITES) × (length (now owner) ≡ SITES) × (now count ≡ replicate SITES 0) ⌝ }
+    ensures { λ _. ⌜ (now (owner .exit) ≡ ownersTo (inWords (now (words .entry))) (now (labels .entry)) (now (owner .entry)) (now (ends .entry)) n)
+        × (now (count .exit) ≡ places n (ofTerminal (look (now (ends .entry))) (members (inWords (now (words .entry))) (now (labels .entry))))) ⌝ }
 {
-    let mut count = [0usize; SITES];
     for i in 0..n {
         if ends[i + 1] == 1 {
             count[i] = take_cut(owner, words, labels, i + 1);
         }
     }
-    count
 }
 
-// The sums at the labels of the terminals among n sites.
+// The sums at the labels of the terminals among n sites, into a list of zeros.
 fn terminal_sizes(
     n: usize,
     labels: &[u16; PLACES],
     ends: &[u8; PLACES],
     leaving: &[u64; PLACES],
-) -> [u64; SITES]
-    requires { ⌜ (n ≤ SITES) × ((x : ℕ) → look (now labels) x ≤ SITES) ⌝ }
-    ensures { λ r. ⌜ r ≡ places n (ofTerminal (look (now (ends .entry))) (λ a. look (now (leaving .entry)) (look (now (labels .entry)) a))) ⌝ }
+    size: &mut [u64; SITES],
+)
+    requires { ⌜ (n ≤ SITES) × ((x : ℕ) → look (now labels) x ≤ SITES) × (now size ≡ replicate SITES 0) ⌝ }
+    ensures { λ _. ⌜ now (size .exit)
+        ≡ places n (ofTerminal (look (now (ends .entry))) (λ a. look (now (leaving .entry)) (look (now (labels .entry)) a))) ⌝ }
 {
-    let mut size = [0u64; SITES];
     for i in 0..n {
         let x = i + 1;
         if ends[x] == 1 {
             size[i] = leaving[labels[x] as usize];
         }
     }
-    size
 }
 
 // The cuts of the terminals among n sites, by the labels of the sites, the ends and the sums at the labels.
-fn cuts_by(n: usize, labels: &[u16; PLACES], ends: &[u8; PLACES], leaving: &[u64; PLACES]) -> Owned
-    requires { ⌜ (n ≤ SITES) × ((x : ℕ) → look (now labels) x ≤ SITES) ⌝ }
-    ensures { λ r. ⌜ r ≡ cutsBy n (now (labels .entry)) (now (ends .entry)) (now (leaving .entry)) ⌝ }
+fn cuts_by(
+    n: usize,
+    labels: &[u16; PLACES],
+    ends: &[u8; PLACES],
+    leaving: &[u64; PLACES],
+    owner: &mut [usize; SITES],
+    size: &mut [u64; SITES],
+    count: &mut [usize; SITES],
+)
+    requires { ⌜ (n ≤ SITES) × ((x : ℕ) → look (now labels) x ≤ SITES) × Blank (now owner) (now size) (now count) ⌝ }
+    ensures { λ _. ⌜ owning (now (owner .exit)) (now (size .exit)) (now (count .exit))
+        ≡ cutsBy n (now (labels .entry)) (now (ends .entry)) (now (leaving .entry)) ⌝ }
 {
-    let words = sets(n, labels);
-    let mut owner = [NONE; SITES];
-    let count = put_owners(&mut owner, n, &words, labels, ends);
-    let size = terminal_sizes(n, labels, ends, leaving);
-    Owned { owner, size, count }
+    let mut words = [0u64; SETS];
+    sets(n, labels, &mut words);
+    put_owners(n, &words, labels, ends, owner, count);
+    terminal_sizes(n, labels, ends, leaving, size);
 }
 
 // The cuts of the terminals `ends` of n sites, by the given and the balanced capacities of the links.
@@ -219,15 +222,18 @@ pub fn cuts_of(
     two: &[usize],
     capacity: &[u64],
     balanced: &[u64],
-) -> Owned
-    requires { ⌜ (n ≤ SITES) × Placed (now one) (now two) × Limited (now one) (now capacity) × (length (now balanced) ≡ length (now one)) ⌝ }
-    ensures { λ r. ⌜ r ≡ owned (links (now (one .entry)) (now (two .entry))) n (look (now (ends .entry))) (look (now (capacity .entry)))
-        (look (now (balanced .entry))) ⌝ }
+    owner: &mut [usize; SITES],
+    size: &mut [u64; SITES],
+    count: &mut [usize; SITES],
+)
+    requires { ⌜ (n ≤ SITES) × Placed (now one) (now two) × Limited (now one) (now capacity) × (length (now balanced) ≡ length (now one))
+        × Blank (now owner) (now size) (now count) ⌝ }
+    ensures { λ _. ⌜ owning (now (owner .exit)) (now (size .exit)) (now (count .exit))
+        ≡ owned (links (now (one .entry)) (now (two .entry))) n (look (now (ends .entry))) (look (now (capacity .entry))) (look (now (balanced .entry))) ⌝ }
 {
-    let tally = of_links(one, two, capacity, balanced);
-    let labels = tally.labels;
-    let leaving = tally.leaving;
-    cuts_by(n, &labels, ends, &leaving)
+    let mut leaving = [0u64; PLACES];
+    let labels = of_links(one, two, capacity, balanced, &mut leaving);
+    cuts_by(n, &labels, ends, &leaving, owner, size, count);
 }
 
 // The sets of the terminals `ends` of n sites, where each site is labelled with the terminal whose set holds it, or with 0 where none does.
@@ -238,12 +244,16 @@ pub fn sets_of(
     two: &[usize],
     capacity: &[u64],
     labels: &[u16; PLACES],
-) -> Owned
+    owner: &mut [usize; SITES],
+    size: &mut [u64; SITES],
+    count: &mut [usize; SITES],
+)
     requires { ⌜ (n ≤ SITES) × Placed (now one) (now two) × Limited (now one) (now capacity) × EndSets n (look (now ends)) (look (now labels))
-        × ((x : ℕ) → look (now labels) x ≤ SITES) ⌝ }
-    ensures { λ r. ⌜ r ≡ setsOf (links (now (one .entry)) (now (two .entry))) n (look (now (ends .entry))) (look (now (capacity .entry)))
-        (look (now (labels .entry))) ⌝ }
+        × ((x : ℕ) → look (now labels) x ≤ SITES) × Blank (now owner) (now size) (now count) ⌝ }
+    ensures { λ _. ⌜ owning (now (owner .exit)) (now (size .exit)) (now (count .exit))
+        ≡ setsOf (links (now (one .entry)) (now (two .entry))) n (look (now (ends .entry))) (look (now (capacity .entry))) (look (now (labels .entry))) ⌝ }
 {
-    let leaving = sums_leaving(one, two, capacity, labels);
-    cuts_by(n, labels, ends, &leaving)
+    let mut leaving = [0u64; PLACES];
+    sums_leaving(one, two, capacity, labels, &mut leaving);
+    cuts_by(n, labels, ends, &leaving, owner, size, count);
 }

@@ -21,8 +21,7 @@ use Rattle.theory_trees.specs.Ends.{a-leaf-is-an-end}
 use Rattle.tree.specs.Offer.{links}
 use Rattle.tree.specs.Links.{length-links}
 use Rattle.cuts_groups.specs.Places.{ofTerminal, length-places}
-use Rattle.cuts_groups.specs.Steps.{setsOf}
-use Rattle.cuts_groups.specs.declared.Owned.{Owned}
+use Rattle.cuts_groups.specs.Steps.{Owned, setsOf}
 use Rattle.pairing_walk.specs.Visits.{Walkable}
 use Rattle.sheet.specs.Sheet.{Network}
 use Rattle.sheet.specs.SheetTheorem.{IsNetwork}
@@ -60,13 +59,13 @@ module _ {s : List ℕ} {net : Network} (N : IsNetwork largest s net) where
   }
 
 -- there is a place for each site in the lists of sets
-sets-have-places : (ls : Links) (n : ℕ) (terminal c owner : ℕ → ℕ) → n ≤ SITES → (cuts : Owned) → cuts ≡ setsOf ls n terminal c owner
-    → (SITES ≤ length (cuts .owner)) × (SITES ≤ length (cuts .size)) × (SITES ≤ length (cuts .count))
+pub sets-have-places : (ls : Links) (n : ℕ) (terminal c owner : ℕ → ℕ) → n ≤ SITES → (cuts : Owned) → cuts ≡ setsOf ls n terminal c owner
+    → (SITES ≡ length (cuts .owner)) × (SITES ≡ length (cuts .size)) × (SITES ≡ length (cuts .count))
 unfolding setsOf
 sets-have-places ls n terminal c owner few cuts e = rw e (
-  omega (arith, length-places owner n few),
-  omega (arith, length-places (ofTerminal terminal (setSize ls c owner)) n few),
-  omega (arith, length-places (ofTerminal terminal (setCount n owner)) n few),
+  sym (length-places owner n few),
+  sym (length-places (ofTerminal terminal (setSize ls c owner)) n few),
+  sym (length-places (ofTerminal terminal (setCount n owner)) n few),
 )
 
 -- the lists of an accepted sheet, and what is worked out of them in whole circuits

@@ -22,8 +22,7 @@ use Rattle.tree.specs.Offer.{links}
 use Rattle.trimming.specs.Outcome.{capacities}
 use Rattle.trimming.specs.Promise.{Promise, capacities-keep-the-promise, promised-within}
 use Rattle.cuts_groups.specs.Places.{places, ofTerminal, length-places, look-places, of-terminal}
-use Rattle.cuts_groups.specs.Steps.{owned}
-use Rattle.cuts_groups.specs.declared.Owned.{Owned}
+use Rattle.cuts_groups.specs.Steps.{Owned, owned}
 use Rattle.pairing_walk.specs.Visits.{Walkable, listing}
 use Rattle.pairing_walk.specs.Laws.{listing-counts, listing-holds}
 use Rattle.pairing_order.specs.Laws.{ordering-keeps-length}
@@ -93,7 +92,7 @@ module _ {s : List ℕ} {net : Network} (N : IsNetwork largest s net) (f : Figur
   -- ---- all of it
 
   module _ {terminals owners sizes counts before : List ℕ} (ps : Pairs) (w : Works net f terminals owners sizes counts before (take (ps .count) (ps .list)))
-      (places : (SITES ≤ length owners) × (SITES ≤ length sizes) × (SITES ≤ length counts))
+      (places : (SITES ≡ length owners) × (SITES ≡ length sizes) × (SITES ≡ length counts))
       (held : ps .count ≤ length (ps .list)) where
     pairs-are-few : ps .count ≤ length ls
     pairs-are-few = omega (arith, pairs-shown-are-sound N f h .few, ap length (w .paired), length-take-le (ps .count) (ps .list) held)
@@ -170,13 +169,13 @@ module _ {s : List ℕ} {net : Network} (N : IsNetwork largest s net) where
   }
 
 -- there is a place for each site in the lists of cuts
-owned-has-places : (ls : Links) (n : ℕ) (terminal c t : ℕ → ℕ) → n ≤ SITES → (cuts : Owned) → cuts ≡ owned ls n terminal c t
-    → (SITES ≤ length (cuts .owner)) × (SITES ≤ length (cuts .size)) × (SITES ≤ length (cuts .count))
+pub owned-has-places : (ls : Links) (n : ℕ) (terminal c t : ℕ → ℕ) → n ≤ SITES → (cuts : Owned) → cuts ≡ owned ls n terminal c t
+    → (SITES ≡ length (cuts .owner)) × (SITES ≡ length (cuts .size)) × (SITES ≡ length (cuts .count))
 unfolding owned
 owned-has-places ls n terminal c t few cuts e = rw e (
-  omega (arith, length-places (owner ls c t terminal n) n few),
-  omega (arith, length-places (ofTerminal terminal (cutSize ls c t)) n few),
-  omega (arith, length-places (ofTerminal terminal (cutCount ls c t n)) n few),
+  sym (length-places (owner ls c t terminal n) n few),
+  sym (length-places (ofTerminal terminal (cutSize ls c t)) n few),
+  sym (length-places (ofTerminal terminal (cutCount ls c t n)) n few),
 )
 
 -- the lists of an accepted sheet, and what is worked out of them in halves

@@ -170,7 +170,20 @@ fn plan_charted(
     let mut list = [0u64; SITES];
     trimming_passes::balance(n, order, ends, last, before, one, two, capacity, &mut list);
     let trimmed = &list[..m];
-    let cuts = cuts_groups::cuts_of(n, ends, one, two, capacity, trimmed);
+    let mut owner = [0usize; SITES];
+    let mut size = [0u64; SITES];
+    let mut count = [0usize; SITES];
+    cuts_groups::cuts_of(
+        n,
+        ends,
+        one,
+        two,
+        capacity,
+        trimmed,
+        &mut owner,
+        &mut size,
+        &mut count,
+    );
     let made = pairing_walk::decompose(n, ends, last, before, one, two, trimmed);
     let pairs = pairing_order::ordered(made);
     deliver(
@@ -185,9 +198,9 @@ fn plan_charted(
         capacity,
         trimmed,
         ends,
-        &cuts.owner,
-        &cuts.size,
-        &cuts.count,
+        &owner,
+        &size,
+        &count,
         pairs,
         report,
     )
@@ -218,7 +231,20 @@ fn whole_charted(
     let mut labels = [0u16; PLACES];
     let odd = whole_loads::solve(n, order, ends, one, two, capacity, &mut list, &mut labels);
     let loads = &list[..m];
-    let sets = cuts_groups::sets_of(n, ends, one, two, capacity, &labels);
+    let mut owner = [0usize; SITES];
+    let mut size = [0u64; SITES];
+    let mut count = [0usize; SITES];
+    cuts_groups::sets_of(
+        n,
+        ends,
+        one,
+        two,
+        capacity,
+        &labels,
+        &mut owner,
+        &mut size,
+        &mut count,
+    );
     let made = pairing_walk::decompose(n, ends, last, before, one, two, loads);
     let pairs = pairing_order::ordered(made);
     let mut line = [0u8; 32];
@@ -235,9 +261,9 @@ fn whole_charted(
         capacity,
         loads,
         ends,
-        &sets.owner,
-        &sets.size,
-        &sets.count,
+        &owner,
+        &size,
+        &count,
         pairs,
         report,
     )

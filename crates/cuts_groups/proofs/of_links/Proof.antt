@@ -19,12 +19,12 @@ small c = settled-small (c .settle .ensures) (c .before .before .before .join-ke
 
 sums-leaving-requires : tie.Need-sums-leaving-requires
 sums-leaving-requires c κs =
-    let p = c .before .before .before .before .before .before .before .before .before .before .before .before .pre in
-    (p .0, p .1, small (c .before .before))
+    let p = c .before .before .before .before .before .before .before .before .before .before .before .before .before .pre in
+    (p .0, p .1, small (c .before .before .before), p .3)
 
 returns : tie.Need-returns
 returns c =
-    let settle = c .before .before .before in
+    let settle = c .before .before .before .before in
     let kept = settle .before .before .before .join-kept .ensures in
     let s = settle .before .before .before .before .before .before .before .before .before .before in
     let a = s .args in

@@ -15,21 +15,21 @@ use Rattle.cuts_groups.proofs.put_owners.Statement.{statement}
 use Rattle.cuts_groups.proofs.put_owners.Tie as tie
 
 abbrev Inv-loop : tie.InvT-loop
-Inv-loop owner₀ n words labels ends count₀ i₀ owner count i =
+Inv-loop n words labels ends owner₀ count₀ i₀ owner count i =
     (i ≤ n) × (length owner ≡ SITES) × (owner ≡ ownersTo (inWords words) labels owner₀ ends i)
     × (count ≡ places i (ofTerminal (look ends) (members (inWords words) labels)))
 
 abbrev μ-loop : tie.MeasureT-loop
-μ-loop owner₀ n words labels ends count₀ i₀ owner count i = n - i
+μ-loop n words labels ends owner₀ count₀ i₀ owner count i = n - i
 
 loop-holds : tie.Need-loop-holds Inv-loop μ-loop
 loop-holds c =
     let a = c .args in
     let cut = inWords (a .words .now) in (
       omega arith,
-      c .pre .0,
+      c .pre .2,
       sym (owners-none cut (a .labels .now) (a .owner .now) (a .ends .now)),
-      places-none (ofTerminal (look (a .ends .now)) (members cut (a .labels .now))),
+      c .pre .3 ∙ places-none (ofTerminal (look (a .ends .now)) (members cut (a .labels .now))),
     )
 
 loop-again : tie.Need-loop-again Inv-loop μ-loop
@@ -71,7 +71,7 @@ put-owners-spec =
     (λ c. omega arith)
     (λ c. omega arith)
     (λ c. omega arith)
-    (λ c κs. let top = c .before .before .before .before in (top .loop .inv .1, omega arith, top .before .pre .2 (top .loop .i + 1)))
+    (λ c κs. let top = c .before .before .before .before in (top .loop .inv .1, omega arith, top .before .pre .1 (top .loop .i + 1)))
     (λ c. omega arith)
     (λ c. omega arith)
     (λ c. omega arith)

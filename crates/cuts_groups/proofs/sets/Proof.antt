@@ -17,7 +17,7 @@ abbrev μ-loop : tie.MeasureT-loop
 μ-loop n labels words₀ i₀ words i = n - i
 
 loop-holds : tie.Need-loop-holds Inv-loop μ-loop
-loop-holds c = (omega arith, refl, words-none (c .args .labels .now))
+loop-holds c = rw (c .pre .2) (omega arith, refl, words-none (c .args .labels .now))
 
 -- the label of the site that is looked at has a place
 placed : (c : tie.In-loop Inv-loop μ-loop) → look (c .before .before .args .labels .now) (c .before .loop .i + 1) ≤ SITES
@@ -25,12 +25,12 @@ placed c = c .before .before .pre .1 (c .before .loop .i + 1)
 
 loop-again : tie.Need-loop-again Inv-loop μ-loop
 loop-again c =
-    let top = c .before .before in
+    let top = c .before .before .before in
     let long = top .loop .inv .1 in (
       omega arith,
       simp length-set long,
       λ l k. words-next (top .loop .words) (top .before .args .labels .now) (top .loop .i) (omega arith)
-          (placed (c .before)) long l k (top .loop .inv .2 l k),
+          (placed (c .before .before)) long l k (top .loop .inv .2 l k),
     )
 
 returns : tie.Need-returns Inv-loop μ-loop
@@ -54,7 +54,7 @@ sets-spec =
     (λ c. omega arith)
     (λ c. omega (arith, placed (c .before)))
     (λ c. omega (arith, placed (c .before)))
-    (λ c. omega (arith, placed (c .before)))
+    (λ c. omega (arith, placed (c .before .before)))
     (λ c. omega arith)
     (λ c. omega arith)
     loop-again

@@ -22,7 +22,7 @@ abbrev μ-loop : tie.MeasureT-loop
 
 loop-holds : tie.Need-loop-holds Inv-loop μ-loop
 unfolding sum
-loop-holds c = (omega arith, refl, λ l. (omega (arith, look-zeros PLACES l), look-zeros PLACES l))
+loop-holds c = rw (c .before .before .before .pre .3) (omega arith, refl, λ l. (omega (arith, look-zeros PLACES l), look-zeros PLACES l))
 
 addable : tie.Need-add-at-labels-requires Inv-loop μ-loop
 addable c κs =

@@ -16,7 +16,7 @@ abbrev μ-loop : tie.MeasureT-loop
 μ-loop n labels ends leaving size₀ i₀ size i = n - i
 
 loop-holds : tie.Need-loop-holds Inv-loop μ-loop
-loop-holds c = (omega arith, places-none (ofTerminal (look (c .args .ends .now)) (λ a. look (c .args .leaving .now) (look (c .args .labels .now) a))))
+loop-holds c = (omega arith, c .pre .2 ∙ places-none (ofTerminal (look (c .args .ends .now)) (λ a. look (c .args .leaving .now) (look (c .args .labels .now) a))))
 
 -- the label of the site that is looked at has a place
 placed : (c : tie.In-loop Inv-loop μ-loop) → look (c .before .before .args .labels .now) (c .before .loop .i + 1) ≤ SITES
