@@ -21,8 +21,8 @@ use Rattle.sheet_kinds.specs.LineKinds.{same, field, all, digitsAlone, i
 use Rattle.sheet_kinds.specs.LineKinds.{IsSite, IsLink, judged, mark, reserve, valueFrom, sizeOf, leastNumbers, taken, paired, capacityOf}
 use Rattle.sheet_kinds.specs.declared.Line.{Line}
 use Rattle.sheet_kinds.specs.declared.Line.the-variants.{Fault}
-use Rattle.sheet_kinds.specs.declared.Capacity.{Capacity}
-use Rattle.sheet_kinds.specs.declared.Capacity.the-variants.{Usable, Faulty}
+use Rattle.sheet_sizes.specs.declared.Capacity.{Capacity}
+use Rattle.sheet_sizes.specs.declared.Capacity.the-variants.{Usable, Faulty}
 
 -- what holds of a line, formed or not
 pub judged-cases : (P : Line → Type 0) (c : Check) (w : Line) → (c ≡ check.Formed → P w) → (c ≢ check.Formed → P (Fault (faultOf c))) → P (judged c w)

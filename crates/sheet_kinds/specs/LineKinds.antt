@@ -10,8 +10,8 @@ use lib.Dec.{eqb, leb}
 use lib.ListN.{length}
 use Rattle.sheet_kinds.specs.declared.Line.{Line}
 use Rattle.sheet_kinds.specs.declared.Line.the-variants.{Site, Link, Fault}
-use Rattle.sheet_kinds.specs.declared.Capacity.{Capacity}
-use Rattle.sheet_kinds.specs.declared.Capacity.the-variants.{Usable, Faulty}
+use Rattle.sheet_sizes.specs.declared.Capacity.{Capacity}
+use Rattle.sheet_sizes.specs.declared.Capacity.the-variants.{Usable, Faulty}
 use Rattle.model.specs.Text.{bytes}
 use Rattle.model.specs.declared.Edition.{Edition}
 use Rattle.model.specs.declared.Sizing.{Sizing}
@@ -24,6 +24,8 @@ use Rattle.text_grammar.specs.declared.Size.the-variants.{Within, Above}
 unfoldable pub use Rattle.text_fields.specs.Fields.{same, push, fields, all, isName, isNumber, valueFrom}
 pub use Rattle.text_fields.specs.Fields.{field, isDigit, digitsAlone, isLetterOrDigit, value}
 unfoldable pub use Rattle.text_grammar.specs.Grammar.{checkedFields, checked, faultOf, sizeOf}
+unfoldable pub use Rattle.sheet_sizes.specs.Sizes.{capacityOf}
+pub use Rattle.sheet_sizes.specs.Sizes.{taken, paired}
 
 -- the word of a heading: `ranges` where link lines give a low and a high size (02, Card 11)
 abbrev pub headingWord : Sizing → List ℕ
@@ -89,27 +91,9 @@ low fs = value (field fs 3)
 abbrev pub high : List (List ℕ) → ℕ
 high fs = value (field fs 4)
 
--- the capacity that two numbers give: the usable size (02, Card 5: size minus reserve); on a range sheet the low, or the high size
-abbrev pub taken : Sizing → ℕ → ℕ → ℕ
-taken Reserved a b = a - b
-taken Low a b = a
-taken High a b = b
-
 -- the capacity of a link line
 abbrev pub capacity : Sizing → List (List ℕ) → ℕ
 capacity z fs = taken z (value (field fs 3)) (value (field fs 4))
-
--- the capacity that two numbers within the limit give: 13 where the reserve is above the size; 19 where the low size is above the high one
-abbrev pub paired : Sizing → ℕ → ℕ → Capacity
-paired Reserved a b = cond (leb b a) (Usable (a - b)) (Faulty 13)
-paired Low a b = cond (leb a b) (Usable a) (Faulty 19)
-paired High a b = cond (leb a b) (Usable b) (Faulty 19)
-
--- the capacity that two numbers give, each within the limit or above it: 3 where either is above, then 13 or 19
-unfoldable pub capacityOf : Sizing → Size → Size → Capacity
-capacityOf z Above b = Faulty 3
-capacityOf z (Within a) Above = Faulty 3
-capacityOf z (Within a) (Within b) = paired z a b
 
 -- the line of a link whose names have a and b bytes, by its capacity
 abbrev pub linkOf : ℕ → ℕ → Capacity → Line

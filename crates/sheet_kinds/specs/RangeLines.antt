@@ -17,7 +17,7 @@ use Rattle.sheet_kinds.specs.LineKinds.{same, fields, field, checked, fa
 use Rattle.sheet_kinds.specs.LineKinds.{sizeOf, capacityOf, linkOf, sizedLink, linkLine, kindOf, kind}
 use Rattle.sheet_kinds.specs.declared.Line.{Line}
 use Rattle.sheet_kinds.specs.declared.Line.the-variants.{Site, Link, Fault}
-use Rattle.sheet_kinds.specs.declared.Capacity.the-variants.{Usable, Faulty}
+use Rattle.sheet_sizes.specs.declared.Capacity.the-variants.{Usable, Faulty}
 
 -- the same line, but for the capacity of a link, which is no larger in the first
 abbrev pub LineAlike : Line → Line → Type 0

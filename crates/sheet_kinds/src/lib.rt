@@ -1,16 +1,13 @@
 // What a line of a network sheet is (document 01, "The network sheet"; 02, Card 5, the reserve of a link; Card 7, the mark of a site; Card 11, the low and
 // the high size of a link), by the grammar of lines.
-ghost use mathlib.Core.Bool.{cond};
 ghost use mathlib.Core.Path.{_≡_};
-ghost use lib.Dec.{leb};
-ghost use Rattle.model.specs.declared.Sizing.the-variants.{Reserved};
 ghost use Rattle.text_fields.specs.Fields.{same, fields, field};
 ghost use Rattle.text_grammar.specs.Grammar.{split, sizeOf};
-ghost use Rattle.sheet_kinds.specs.LineKinds.{headingWord, isHeading, siteForm, leastNumbers, linkForm, IsLink, siteLine, paired, capacityOf};
+ghost use Rattle.sheet_kinds.specs.LineKinds.{headingWord, isHeading, siteForm, leastNumbers, linkForm, IsLink, siteLine, capacityOf};
 ghost use Rattle.sheet_kinds.specs.LineKinds.{linkLine, kind};
-ghost use Rattle.sheet_kinds.specs.declared.Capacity.the-variants.{Usable, Faulty};
 use model::Edition;
 use model::Sizing;
+use sheet_sizes::Capacity;
 use text_grammar::Fields;
 use text_grammar::Form;
 use text_grammar::Size;
@@ -32,12 +29,6 @@ pub enum Line {
     },
     // the refusal's number
     Fault(u64),
-}
-
-// The capacity that a link line gives: its usable size, or the refusal's number.
-pub enum Capacity {
-    Usable(u64),
-    Faulty(u64),
 }
 
 // The form of a site line, by its letter.
@@ -129,50 +120,6 @@ fn second(line: &[u8], found: Fields, most: u64) -> Size
     text_grammar::size_of(text_grammar::field(line, found, 4), most)
 }
 
-// The capacity that a size and a reserve give.
-fn less_reserve(size: u64, reserve: u64) -> Capacity
-    ensures { λ r. ⌜ r ≡ paired Reserved size reserve ⌝ }
-{
-    if reserve > size {
-        return Capacity::Faulty(13);
-    }
-    Capacity::Usable(size - reserve)
-}
-
-// The capacity that a low and a high size give, one of which is taken.
-fn of_range(low: u64, high: u64, taken: u64) -> Capacity
-    ensures { λ r. ⌜ r ≡ cond (leb low high) (Usable taken) (Faulty 19) ⌝ }
-{
-    if low > high {
-        return Capacity::Faulty(19);
-    }
-    Capacity::Usable(taken)
-}
-
-// The capacity that two numbers within the limit give.
-pub fn paired(sizing: Sizing, first: u64, second: u64) -> Capacity
-    ensures { λ r. ⌜ r ≡ paired sizing first second ⌝ }
-{
-    match sizing {
-        Sizing::Reserved => less_reserve(first, second),
-        Sizing::Low => of_range(first, second, first),
-        Sizing::High => of_range(first, second, second),
-    }
-}
-
-// The capacity that two numbers give.
-fn capacity_of(sizing: Sizing, first: Size, second: Size) -> Capacity
-    ensures { λ r. ⌜ r ≡ capacityOf sizing first second ⌝ }
-{
-    let Size::Within(a) = first else {
-        return Capacity::Faulty(3);
-    };
-    let Size::Within(b) = second else {
-        return Capacity::Faulty(3);
-    };
-    paired(sizing, a, b)
-}
-
 // The capacity of a link line.
 fn usable(line: &[u8], found: Fields, edition: Edition) -> Capacity
     requires { ⌜ (found ≡ split (now line)) × IsLink (edition .sizing) (fields (now line)) ⌝ }
@@ -181,7 +128,7 @@ fn usable(line: &[u8], found: Fields, edition: Edition) -> Capacity
 {
     let sizing = edition.sizing;
     let first = text_grammar::size_of(text_grammar::field(line, found, 3), edition.size);
-    capacity_of(sizing, first, second(line, found, edition.size))
+    sheet_sizes::capacity_of(sizing, first, second(line, found, edition.size))
 }
 
 // What a line is as a link.

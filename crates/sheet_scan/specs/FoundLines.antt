@@ -22,7 +22,7 @@ use Rattle.sheet_kinds.specs.FaultyLines.{kind-of-L}
 use Rattle.sheet_kinds.specs.KindForms.{a-site-by-its-form}
 use Rattle.sheet_kinds.specs.declared.Line.{Line}
 use Rattle.sheet_kinds.specs.declared.Line.the-variants.{Site, Link}
-use Rattle.sheet_kinds.specs.declared.Capacity.the-variants.{Usable}
+use Rattle.sheet_sizes.specs.declared.Capacity.the-variants.{Usable}
 use Rattle.sheet_scan.specs.Scan.{scanned, NameAt, NumberAt, NumbersAt, LetterTab, letterOf, LineIs, oneNumber, NumbersFound}
 use Rattle.sheet_scan.specs.ScanLaws.{Plain, field-and-more, field-and-end, digits-are-plain, name-is-plain}
 

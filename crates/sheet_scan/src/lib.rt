@@ -9,8 +9,8 @@ ghost use Rattle.sheet_scan.specs.Scan.{scanned, Run, SomeLetter, NameAt
 ghost use Rattle.sheet_scan.specs.Scan.{LetterTab, letterOf, QuickFound};
 use model::Edition;
 use model::Sizing;
-use sheet_kinds::Capacity;
 use sheet_kinds::Line;
+use sheet_sizes::Capacity;
 
 // A line of a sheet: what it is, the offset at which it ends, and that of the next line.
 pub struct Scanned {
@@ -241,7 +241,7 @@ fn quick_link(sheet: &[u8], at: usize, edition: Edition) -> Quick
         return Quick::Doubt;
     };
     let sizing = edition.sizing;
-    let capacity = sheet_kinds::paired(sizing, first, second);
+    let capacity = sheet_sizes::paired(sizing, first, second);
     let Capacity::Usable(size) = capacity else {
         return Quick::Doubt;
     };

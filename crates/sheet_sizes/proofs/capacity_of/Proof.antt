@@ -1,8 +1,8 @@
 -- `capacity_of` meets its contract: the first number, then the second, then the two together.
 use borrow.Author.Needs.{needs}
-use Rattle.sheet_kinds.specs.LineKinds.{capacityOf}
-use Rattle.sheet_kinds.proofs.capacity_of.Statement.{statement}
-use Rattle.sheet_kinds.proofs.capacity_of.Tie as tie
+use Rattle.sheet_sizes.specs.Sizes.{capacityOf}
+use Rattle.sheet_sizes.proofs.capacity_of.Statement.{statement}
+use Rattle.sheet_sizes.proofs.capacity_of.Tie as tie
 
 returns : tie.Need-returns
 unfolding capacityOf

@@ -1,7 +1,7 @@
 -- `paired` meets its contract: by what the two numbers are.
 use borrow.Author.Needs.{needs}
-use Rattle.sheet_kinds.proofs.paired.Statement.{statement}
-use Rattle.sheet_kinds.proofs.paired.Tie as tie
+use Rattle.sheet_sizes.proofs.paired.Statement.{statement}
+use Rattle.sheet_sizes.proofs.paired.Tie as tie
 
 returns : tie.Need-returns
 returns c = rw (c .before .enum-told .given .1) (c .less-reserve .ensures)

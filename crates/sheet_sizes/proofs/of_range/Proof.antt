@@ -1,7 +1,7 @@
 -- `of_range` meets its contract: the low size is above the high one, or it is not.
 use borrow.Author.Tests.{le-leb, lt-leb}
-use Rattle.sheet_kinds.proofs.of_range.Statement.{statement}
-use Rattle.sheet_kinds.proofs.of_range.Tie as tie
+use Rattle.sheet_sizes.proofs.of_range.Statement.{statement}
+use Rattle.sheet_sizes.proofs.of_range.Tie as tie
 
 returns : tie.Need-returns
 returns c = rw (lt-leb _ _ (c .if1 .taken))

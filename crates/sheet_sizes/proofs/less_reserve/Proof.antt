@@ -1,7 +1,7 @@
 -- `less_reserve` meets its contract: the reserve is above the size, or it is not.
 use borrow.Author.Tests.{le-leb, lt-leb}
-use Rattle.sheet_kinds.proofs.less_reserve.Statement.{statement}
-use Rattle.sheet_kinds.proofs.less_reserve.Tie as tie
+use Rattle.sheet_sizes.proofs.less_reserve.Statement.{statement}
+use Rattle.sheet_sizes.proofs.less_reserve.Tie as tie
 
 returns : tie.Need-returns
 returns c = rw (lt-leb _ _ (c .if1 .taken))
