@@ -85,6 +85,3 @@ unfolding halfWord
 half-without s at p =
     rw (caseless-at s at, caseless-at s (at + 1), caseless-at s (at + 2), caseless-at s (at + 3))
     (bytes-without _ _ _ _ (p at) (p (at + 1)) (p (at + 2)))
-
-pub caseless-below : (s : List ℕ) → ((k : ℕ) → getD s k 0 < 256) → (k : ℕ) → getD (caseless s) k 0 < 256
-caseless-below s p k = rw (caseless-at s k) (omega (arith, p k, and-le-l (getD s k 0) 223))

@@ -7,7 +7,7 @@ ghost use lib.Dec.{leb};
 ghost use lib.ListN.{length};
 ghost use Rattle.text_fields.specs.Fields.{same, capital, sameName, caseless, word, lastWord};
 ghost use Rattle.text_fields.specs.Fields.{all, isDigit, digitsAlone, isLetterOrDigit, isName, isNumber};
-ghost use Rattle.text_fields.specs.Words.{HalfWord, SameWord};
+ghost use Rattle.text_fields.specs.Words.{HalfWord, Word, SameWord};
 
 // A byte as a wider number.
 fn wide(b: u8) -> u64
@@ -24,30 +24,30 @@ fn half_word(s: &[u8], at: usize) -> u64
     wide(s[at]) + 256 * wide(s[at + 1]) + 65536 * wide(s[at + 2]) + 16777216 * wide(s[at + 3])
 }
 
-// Four bytes of a string from a place on, as one number, each without the bit by which a-z differ from A-Z.
-fn caseless_half(s: &[u8], at: usize) -> u64
-    requires { ⌜ at + 4 ≤ length (now s) ⌝ }
-    ensures { λ r. ⌜ HalfWord (caseless (now (s .entry))) at r ⌝ }
-{
-    half_word(s, at) & 3755991007
-}
-
 // So for eight bytes.
 fn word(s: &[u8], at: usize) -> u64
     requires { ⌜ at + 8 ≤ length (now s) ⌝ }
-    ensures { λ r. ⌜ r ≡ word (caseless (now (s .entry))) at ⌝ }
+    ensures { λ r. ⌜ Word (now (s .entry)) at r ⌝ }
 {
-    caseless_half(s, at) + 4294967296 * caseless_half(s, at + 4)
+    half_word(s, at) + 4294967296 * half_word(s, at + 4)
 }
 
-// So for the last eight bytes of a string, and 0 for a string of fewer: the same for names that are the same.
+// So for eight bytes, each without the bit by which a-z differ from A-Z.
+fn caseless_word(s: &[u8], at: usize) -> u64
+    requires { ⌜ at + 8 ≤ length (now s) ⌝ }
+    ensures { λ r. ⌜ r ≡ word (caseless (now (s .entry))) at ⌝ }
+{
+    word(s, at) & 16131858542891098079
+}
+
+// So for the last eight of a string, and 0 for a string of fewer: the same for names that are the same.
 pub fn last_word(s: &[u8]) -> u64
     ensures { λ r. ⌜ r ≡ lastWord (caseless (now (s .entry))) ⌝ }
 {
     if s.len() < 8 {
         return 0;
     }
-    word(s, s.len() - 8)
+    caseless_word(s, s.len() - 8)
 }
 
 // Whether eight bytes of two strings are the same, from a place on.
@@ -55,16 +55,19 @@ fn same_word(a: &[u8], b: &[u8], at: usize) -> bool
     requires { ⌜ (at + 8 ≤ length (now a)) × (at + 8 ≤ length (now b)) ⌝ }
     ensures { λ r. ⌜ SameWord (now (a .entry)) (now (b .entry)) at r ⌝ }
 {
-    half_word(a, at) == half_word(b, at) && half_word(a, at + 4) == half_word(b, at + 4)
+    word(a, at) == word(b, at)
 }
 
-// Whether two strings of one length, eight bytes or more, are the same: word by word, the last word ending with them.
+// Whether two strings of one length, eight bytes or more, are the same: word by word, the last word ending with them. Two words tell up to sixteen bytes.
 fn same_words(a: &[u8], b: &[u8]) -> bool
     requires { ⌜ (length (now a) ≡ length (now b)) × (8 ≤ length (now a)) ⌝ }
     ensures { λ r. ⌜ r ≡ same (now (a .entry)) (now (b .entry)) ⌝ }
 {
+    if !same_word(a, b, 0) {
+        return false;
+    }
     let last = a.len() - 8;
-    let mut place = 0;
+    let mut place = 8;
     while place < last {
         if !same_word(a, b, place) {
             return false;

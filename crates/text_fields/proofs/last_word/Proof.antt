@@ -12,7 +12,7 @@ returns c = rw (length-caseless (c .before .before .args .s .now), lt-ltb _ _ (c
 
 returns-2 : tie.Need-returns-2
 unfolding lastWord
-returns-2 c = rw (length-caseless (c .before .before .before .args .s .now), le-ltb _ _ (c .before .if1 .left)) (c .word .ensures)
+returns-2 c = rw (length-caseless (c .before .before .before .args .s .now), le-ltb _ _ (c .before .if1 .left)) (c .caseless-word .ensures)
 
 pub last-word-spec : {M : Type 1} → statement M
 last-word-spec = tie.close (tie.spec returns (λ c. search needs) (λ c κs. search needs) returns-2)

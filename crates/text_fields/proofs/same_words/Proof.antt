@@ -16,24 +16,28 @@ Inv-loop a b last place₀ place = (place ≤ length a) × ((k : ℕ) → k < pl
 abbrev μ-loop : tie.MeasureT-loop
 μ-loop a b last place₀ place = last - place
 
-loop-holds : tie.Need-loop-holds Inv-loop μ-loop
-loop-holds c = (omega arith, λ k l. absurd (omega arith))
-
 returns : tie.Need-returns Inv-loop μ-loop
 returns c = sym (not-same _ _ (c .before .same-word .ensures .no (not-true _ (c .if1 .taken))))
+
+loop-holds : tie.Need-loop-holds Inv-loop μ-loop
+loop-holds c = (omega arith, λ k l. c .before .same-word .ensures .yes (not-false _ (c .if1 .left)) k (omega arith) l)
+
+returns-2 : tie.Need-returns-2 Inv-loop μ-loop
+returns-2 c = sym (not-same _ _ (c .before .same-word2 .ensures .no (not-true _ (c .if2 .taken))))
 
 loop-again : tie.Need-loop-again Inv-loop μ-loop
 loop-again c =
     let l = c .before .before .before .loop in
-    let more = c .before .same-word .ensures .yes (not-false _ (c .if1 .left)) in
+    let more = c .before .same-word2 .ensures .yes (not-false _ (c .if2 .left)) in
     (omega arith, λ k h. elim (decLt k (l .place)) [ yes s ↦ l .inv .1 k s | no s ↦ more k (omega arith) h ])
 
-returns-2 : tie.Need-returns-2 Inv-loop μ-loop
-returns-2 c =
+returns-3 : tie.Need-returns-3 Inv-loop μ-loop
+returns-3 c =
     let top = c .before .before in
-    let s = top .before .before .before .args in
-    let last = c .same-word2 .ensures in
-    same-by (c .same-word2 .result) (s .a .now) (s .b .now) (top .before .before .before .pre .0)
+    let start = top .before .before .before .before .before in
+    let s = start .args in
+    let last = c .same-word3 .ensures in
+    same-by (c .same-word3 .result) (s .a .now) (s .b .now) (start .pre .0)
     (λ e k h. elim (decLt k (top .loop .place)) [ yes q ↦ top .loop .inv .1 k q | no q ↦ last .yes e k (omega arith) (omega arith) ])
     (last .no)
 
@@ -43,12 +47,14 @@ same-words-spec =
     (tie.spec
     Inv-loop
     μ-loop
+    (λ c κs. (omega arith, omega arith))
+    returns
     (λ c. omega arith)
     loop-holds
     (λ c κs. (omega arith, omega arith))
-    returns
+    returns-2
     (λ c. omega arith)
     (λ c. omega arith)
     loop-again
     (λ c κs. (omega arith, omega arith))
-    returns-2)
+    returns-3)

@@ -6,7 +6,7 @@ use Rattle.text_fields.proofs.word.Tie as tie
 
 returns : tie.Need-returns
 unfolding word
-returns c = search needs
+returns c = record { value = search needs; bytes = c .half-word2 .ensures .bytes }
 
 pub word-spec : {M : Type 1} → statement M
 word-spec =
