@@ -13,8 +13,9 @@ use Rattle.lists.specs.Numbers.{pick}
 use Rattle.lists.specs.Sums.{pick-other, pick-cases}
 use Rattle.text_writers.specs.Fields.{digits, decimal, line}
 use Rattle.text_writers.specs.Decimal.{decimal-length}
-use Rattle.report_words.specs.Words.{three, comma, grouped, cause}
-use Rattle.report_words.specs.Lengths.{cause-length}
+use Rattle.text_commas.specs.Commas.{three, comma, grouped}
+use Rattle.report_causes.specs.CauseWords.{cause}
+use Rattle.report_causes.specs.CauseLengths.{cause-length}
 use Rattle.report_words.specs.TwoTexts.{wordsOf, words-of-are-short}
 
 -- ---- a verdict

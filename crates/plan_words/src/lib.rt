@@ -44,7 +44,7 @@ fn put_plan_cause(buf: &mut [u8], at: usize, number: u64) -> usize
     if number == 20 {
         return put_bytes(buf, at, b"pair given on an earlier line", b'\n');
     }
-    report_words::put_cause(buf, at, number)
+    report_causes::put_cause(buf, at, number)
 }
 
 // Why a plan is refused, a line of text from the start of the buffer, and its length.

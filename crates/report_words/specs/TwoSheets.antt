@@ -5,7 +5,7 @@ use Prim.Native.Nat.{ℕ}
 use Rattle.lists.specs.Numbers.{pick}
 use Rattle.model.specs.Text.{bytes}
 use Rattle.text_writers.specs.Fields.{decimal}
-use Rattle.report_words.specs.Words.{place, cause}
+use Rattle.report_causes.specs.CauseWords.{place, cause}
 
 -- which sheet, and where in it: a line, or the sheet as a whole
 unfoldable pub sheetPlace : ℕ → ℕ → List ℕ

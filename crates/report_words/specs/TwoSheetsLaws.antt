@@ -9,8 +9,8 @@ use Rattle.lists.specs.Sums.{pick-same, pick-other, pick-cases}
 use Rattle.model.specs.Text.{bytes}
 use Rattle.text_writers.specs.Fields.{decimal}
 use Rattle.text_writers.specs.Decimal.{decimal-length}
-use Rattle.report_words.specs.Words.{place, cause}
-use Rattle.report_words.specs.Lengths.{place-length, cause-length}
+use Rattle.report_causes.specs.CauseWords.{place, cause}
+use Rattle.report_causes.specs.CauseLengths.{place-length, cause-length}
 use Rattle.report_words.specs.TwoSheets.{sheetPlace, wordsOfSheets}
 
 -- a sheet as a whole, or a line of it

@@ -10,8 +10,10 @@ use Rattle.lists.specs.Numbers.{pick}
 use Rattle.lists.specs.Sums.{pick-cases}
 use Rattle.text_writers.specs.Fields.{decimal, line}
 use Rattle.text_writers.specs.Decimal.{decimal-length}
-use Rattle.report_words.specs.Words.{grouped, words}
-use Rattle.report_words.specs.Lengths.{grouped-length, words-are-short}
+use Rattle.text_commas.specs.Commas.{grouped}
+use Rattle.text_commas.specs.CommaLaws.{grouped-length}
+use Rattle.report_words.specs.Words.{words}
+use Rattle.report_words.specs.Lengths.{words-are-short}
 
 -- `refused`, text, number, line
 unfoldable pub refusalOf : ℕ → ℕ → ℕ → List ℕ

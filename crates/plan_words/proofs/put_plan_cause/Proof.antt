@@ -4,8 +4,8 @@ use native.Mathlib.Decide.{ℕ-discrete}
 use native.Mathlib.Omega.{arith}
 use lib.ListN.{length-append}
 use Rattle.lists.specs.Numbers.{pick}
-use Rattle.report_words.specs.Words.{cause}
-use Rattle.report_words.specs.Lengths.{cause-length}
+use Rattle.report_causes.specs.CauseWords.{cause}
+use Rattle.report_causes.specs.CauseLengths.{cause-length}
 use Rattle.plan_words.specs.PlanWords.{planCause, the-amount-is-told, as-everywhere}
 use borrow.Author.Needs.{needs}
 use Rattle.plan_words.proofs.put_plan_cause.Statement.{statement}

@@ -6,8 +6,8 @@ use borrow.Author.Needs.{needs}
 use lib.ListN.{length, length-append}
 use Rattle.model.specs.Limits.{LOGBYTES, LOGLINES}
 use Rattle.text_writers.specs.Writing.{then}
-use Rattle.report_words.specs.Words.{grouped}
-use Rattle.report_words.specs.Lengths.{grouped-length}
+use Rattle.text_commas.specs.Commas.{grouped}
+use Rattle.text_commas.specs.CommaLaws.{grouped-length}
 use Rattle.report_words.specs.TwoTexts.{logLong}
 use Rattle.report_words.proofs.put_long_log.Statement.{statement}
 use Rattle.report_words.proofs.put_long_log.Tie as tie

@@ -10,7 +10,7 @@ use Rattle.model.specs.Text.{bytes}
 use Rattle.text_writers.specs.Fields.{decimal}
 use Rattle.text_writers.specs.Wrote.{Room}
 use Rattle.text_writers.specs.Writing.{then, room-front, room-after}
-use Rattle.report_words.specs.Words.{place}
+use Rattle.report_causes.specs.CauseWords.{place}
 use Rattle.report_words.specs.TwoSheetsLaws.{no-line-of-it, a-line-of-it, sheet-place-length}
 use Rattle.report_words.proofs.put_sheet_place.Statement.{statement}
 use Rattle.report_words.proofs.put_sheet_place.Tie as tie

@@ -4,7 +4,8 @@ use Prim.Native.Nat.{ℕ, _^_, _<_}
 use native.Mathlib.Omega.{arith}
 use Rattle.text_writers.specs.Wrote.{Room}
 use Rattle.text_writers.specs.Writing.{then, room-front, room-after}
-use Rattle.report_words.specs.Words.{place, cause, words}
+use Rattle.report_causes.specs.CauseWords.{place, cause}
+use Rattle.report_words.specs.Words.{words}
 use Rattle.report_words.specs.Lengths.{words-are-short}
 use borrow.Author.Needs.{needs}
 use Rattle.report_words.proofs.write_words.Statement.{statement}

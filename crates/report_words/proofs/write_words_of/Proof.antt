@@ -9,7 +9,8 @@ use lib.ListN.{length}
 use Rattle.lists.specs.Sums.{pick-same, pick-other}
 use Rattle.text_writers.specs.Wrote.{Room}
 use Rattle.text_writers.specs.Writing.{then, room-front, room-after}
-use Rattle.report_words.specs.Words.{place, cause, words}
+use Rattle.report_causes.specs.CauseWords.{place, cause}
+use Rattle.report_words.specs.Words.{words}
 use Rattle.report_words.specs.TwoTexts.{sheetWord, logWords, wordsOf, words-of-are-short}
 use Rattle.report_words.proofs.write_words_of.Statement.{statement}
 use Rattle.report_words.proofs.write_words_of.Tie as tie

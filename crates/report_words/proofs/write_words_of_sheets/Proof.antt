@@ -5,7 +5,7 @@ use native.Mathlib.Omega.{arith}
 use borrow.Author.Needs.{needs}
 use lib.ListN.{length}
 use Rattle.text_writers.specs.Writing.{then, room-after}
-use Rattle.report_words.specs.Words.{cause}
+use Rattle.report_causes.specs.CauseWords.{cause}
 use Rattle.report_words.specs.TwoSheetsLaws.{of-both, of-one, words-of-sheets-are-short}
 use Rattle.report_words.proofs.write_words_of_sheets.Statement.{statement}
 use Rattle.report_words.proofs.write_words_of_sheets.Tie as tie

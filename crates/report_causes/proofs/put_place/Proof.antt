@@ -4,10 +4,10 @@ use native.Mathlib.Omega.{arith}
 use Rattle.model.specs.Text.{bytes}
 use Rattle.text_writers.specs.Fields.{decimal}
 use Rattle.text_writers.specs.Writing.{then, room-front, room-after}
-use Rattle.report_words.proofs.Laws.{no-line, some-line}
+use Rattle.report_causes.proofs.Laws.{no-line, some-line}
 use borrow.Author.Needs.{needs}
-use Rattle.report_words.proofs.put_place.Statement.{statement}
-use Rattle.report_words.proofs.put_place.Tie as tie
+use Rattle.report_causes.proofs.put_place.Statement.{statement}
+use Rattle.report_causes.proofs.put_place.Tie as tie
 
 slice-aggregate-put-part : tie.Need-slice-aggregate-put-part
 slice-aggregate-put-part c = search needs

@@ -2,12 +2,12 @@
 use Prim.Native.Nat.{_*_, _/_}
 use native.Mathlib.Omega.{arith}
 use Rattle.text_writers.specs.Fields.{decimal}
-use Rattle.report_words.specs.Words.{comma}
-use Rattle.report_words.specs.Lengths.{grouped-small, grouped-thousands, grouped-millions}
-use Rattle.report_words.proofs.Laws.{three-more, room-before-comma, room-after-comma}
+use Rattle.text_commas.specs.Commas.{comma}
+use Rattle.text_commas.specs.CommaLaws.{grouped-small, grouped-thousands, grouped-millions}
+use Rattle.text_commas.proofs.Laws.{three-more, room-before-comma, room-after-comma}
 use borrow.Author.Needs.{needs}
-use Rattle.report_words.proofs.put_grouped.Statement.{statement}
-use Rattle.report_words.proofs.put_grouped.Tie as tie
+use Rattle.text_commas.proofs.put_grouped.Statement.{statement}
+use Rattle.text_commas.proofs.put_grouped.Tie as tie
 
 put-number-requires : tie.Need-put-number-requires
 put-number-requires c κs =

@@ -1,12 +1,12 @@
 -- `put_cause` meets its contract: one text for each number.
 use native.Mathlib.Decide.{ℕ-discrete}
 use Rattle.lists.specs.Numbers.{pick}
-use Rattle.report_words.specs.Words.{cause}
-use Rattle.report_words.specs.Lengths.{the-bytes-are-told, the-sites-are-told}
-use Rattle.report_words.proofs.Laws.{no-cause}
+use Rattle.report_causes.specs.CauseWords.{cause}
+use Rattle.report_causes.specs.CauseLengths.{the-bytes-are-told, the-sites-are-told}
+use Rattle.report_causes.proofs.Laws.{no-cause}
 use borrow.Author.Needs.{needs}
-use Rattle.report_words.proofs.put_cause.Statement.{statement}
-use Rattle.report_words.proofs.put_cause.Tie as tie
+use Rattle.report_causes.proofs.put_cause.Statement.{statement}
+use Rattle.report_causes.proofs.put_cause.Tie as tie
 
 slice-aggregate-put-bytes : tie.Need-slice-aggregate-put-bytes
 slice-aggregate-put-bytes c = search needs

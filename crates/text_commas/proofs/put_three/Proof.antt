@@ -1,8 +1,8 @@
 -- `put_three` meets its contract: the digits are a list of three bytes.
-use Rattle.report_words.specs.Words.{three}
+use Rattle.text_commas.specs.Commas.{three}
 use borrow.Author.Needs.{needs}
-use Rattle.report_words.proofs.put_three.Statement.{statement}
-use Rattle.report_words.proofs.put_three.Tie as tie
+use Rattle.text_commas.proofs.put_three.Statement.{statement}
+use Rattle.text_commas.proofs.put_three.Tie as tie
 
 add-t8 : tie.Need-add-t8
 add-t8 c = search needs

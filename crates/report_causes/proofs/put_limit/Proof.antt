@@ -1,10 +1,10 @@
 -- `put_limit` meets its contract: the text, then the number.
 use mathlib.Core.List.{[], _∷_, _++_}
 use Rattle.text_writers.specs.Writing.{then, room-front, room-after}
-use Rattle.report_words.specs.Words.{grouped}
+use Rattle.text_commas.specs.Commas.{grouped}
 use borrow.Author.Needs.{needs}
-use Rattle.report_words.proofs.put_limit.Statement.{statement}
-use Rattle.report_words.proofs.put_limit.Tie as tie
+use Rattle.report_causes.proofs.put_limit.Statement.{statement}
+use Rattle.report_causes.proofs.put_limit.Tie as tie
 
 put-bytes-requires : tie.Need-put-bytes-requires
 put-bytes-requires c κs =

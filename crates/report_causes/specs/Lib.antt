@@ -1,0 +1,2 @@
+pub mod CauseWords
+pub mod CauseLengths
