@@ -18,11 +18,12 @@ use Rattle.region_sharing.specs.declared.Shared.the-variants.{Apart, Over}
 use Rattle.region_sizes.specs.Laws.{trimmed-again-for-each-link}
 use Rattle.region_sizes.specs.Offered.{regionBy}
 use Rattle.sheet.specs.ListLaws.{names-are}
+use Rattle.sheet.specs.Sound.{distinct-names}
 use Rattle.sheet.specs.Editions.{an-accepted-sheet-is-within-the-largest}
 use Rattle.sheet.specs.Reading.{lists, reading}
 use Rattle.sheet.specs.Sheet.{Network, Read, refused, accepted, readSheet}
 use Rattle.sheet_names.specs.LookupLaws.{length-ranges}
-use Rattle.sheet_names.specs.Names.{ranges, Different}
+use Rattle.sheet_names.specs.Names.{ranges, Distinct}
 use Rattle.sheet.specs.declared.Answer.the-variants as answered
 use Rattle.sheet.specs.declared.Lists.{Lists}
 use Rattle.theory_regions.specs.Regions.{Region, firstSize, Given, given}
@@ -67,11 +68,12 @@ the-lists-are-taken {s} {network} r =
       tree = rw marks (the-network-is-a-marked-tree a);
     }
 
--- its names are different
-pub names-are-different : {s starts stops : List ℕ} {n : ℕ} {one two marks c : List ℕ} → Taken s starts stops n one two marks c
-    → Different s (ranges starts stops 0 n)
-names-are-different {s} {starts} {stops} {n} {one} {two} {marks} {c} r =
-    an-accepted-sheet-is-within-the-largest s (networkBy starts stops n one two marks c) (r .read) .different
+-- its names are different, and lie on the sheet
+pub names-are-distinct : {s starts stops : List ℕ} {n : ℕ} {one two marks c : List ℕ} → Taken s starts stops n one two marks c
+    → Distinct s (ranges starts stops 0 n)
+names-are-distinct {s} {starts} {stops} {n} {one} {two} {marks} {c} r =
+    let net = an-accepted-sheet-is-within-the-largest s (networkBy starts stops n one two marks c) (r .read) in
+    distinct-names (net .names) (net .different)
 
 -- a refusal that the code reads is one of the sheet
 pub refusal-is-read : (s : List ℕ) {k line : ℕ} → reading (readSheet editions s) .answer ≡ answered.Refused k line → readSheet editions s ≡ refused k line

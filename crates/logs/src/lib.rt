@@ -12,7 +12,7 @@ ghost use Rattle.theory_trees.specs.Leaves.{Outer};
 ghost use Rattle.tree.specs.Offer.{links};
 ghost use Rattle.tree.specs.Accepted.{MarkedTree};
 ghost use Rattle.log_steps.specs.Steps.{Given};
-ghost use Rattle.sheet_names.specs.Names.{ranges, Different, Indexes};
+ghost use Rattle.sheet_names.specs.Names.{ranges, Distinct, Indexes};
 ghost use Rattle.planner.specs.Taken.{Listed};
 ghost use Rattle.log_requests.specs.Requests.{lines, requests};
 ghost use Rattle.logs.specs.Outcome.{replayed};
@@ -112,7 +112,7 @@ fn answer_tree(
     log: &[u8],
     list: &mut [u64],
 )
-    requires { ⌜ MarkedTree largest n (now one) (now two) (now marks) (now capacity) × Different (now sheet) (ranges (now starts) (now stops) 0 n)
+    requires { ⌜ MarkedTree largest n (now one) (now two) (now marks) (now capacity) × Distinct (now sheet) (ranges (now starts) (now stops) 0 n)
         × (length (lines (now log)) ≤ length (now list)) ⌝ }
     ensures { λ _. ⌜ now (list .exit) ≡ answers (links (now (one .entry)) (now (two .entry))) (look (now (capacity .entry))) []
         (requests false (now (sheet .entry)) (ranges (now (starts .entry)) (now (stops .entry)) 0 n)
@@ -156,7 +156,7 @@ fn answer_parts<'a>(
     list: &mut [u64],
 )
     requires { ⌜ MarkedTree largest n (take m (now one)) (take m (now two)) (take n (now mark)) (take m (now capacity))
-        × Different (now sheet) (ranges (now starts) (now stops) 0 n) × (length (lines (now log)) ≤ length (now list))
+        × Distinct (now sheet) (ranges (now starts) (now stops) 0 n) × (length (lines (now log)) ≤ length (now list))
         × (m ≤ length (now one)) × (m ≤ length (now two)) × (m ≤ length (now capacity)) × (n ≤ length (now mark)) ⌝ }
     ensures { λ _. ⌜ now (list .exit) ≡ answers (links (take m (now (one .entry))) (take m (now (two .entry)))) (look (take m (now (capacity .entry)))) []
         (requests false (now (sheet .entry)) (ranges (now (starts .entry)) (now (stops .entry)) 0 n)

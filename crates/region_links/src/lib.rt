@@ -9,7 +9,7 @@ ghost use lib.Dec.{eqb};
 ghost use lib.ListN.{length};
 ghost use Rattle.lists.specs.Numbers.{pick, is, differ, sum, look};
 ghost use Rattle.model.specs.Limits.{SITES};
-ghost use Rattle.sheet_names.specs.Names.{ranges, Different};
+ghost use Rattle.sheet_names.specs.Names.{ranges, Distinct};
 ghost use Rattle.theory_regions.specs.Sharing.{firstFrom};
 ghost use Rattle.tree.specs.Offer.{links};
 ghost use Rattle.tree_links.specs.Chains.{Placed};
@@ -36,7 +36,7 @@ pub fn partners(
     stops2: &[usize; SITES],
     m: usize,
 ) -> [usize; PLACES]
-    requires { ⌜ (n ≤ SITES) × (m ≤ SITES) × Different (now second) (ranges (now starts2) (now stops2) 0 m) ⌝ }
+    requires { ⌜ (n ≤ SITES) × (m ≤ SITES) × Distinct (now second) (ranges (now starts2) (now stops2) 0 m) ⌝ }
     ensures { λ r. ⌜ Holds n (partnerIn (now (first .entry)) (ranges (now (starts .entry)) (now (stops .entry)) 0 n)
         (now (second .entry)) (ranges (now (starts2 .entry)) (now (stops2 .entry)) 0 m)) r ⌝ }
 {

@@ -8,6 +8,7 @@ use native.Mathlib.Nat.{sub-zero}
 use native.Mathlib.Numerals.{add-one}
 use native.Mathlib.Omega.{arith}
 use lib.ListN.{length, replicate, set, length-append, length-map}
+use lib.Seq.{getD-append-seam}
 use Rattle.model.specs.Limits.{PLACES, SITES}
 use Rattle.lists.specs.Numbers.{upfrom}
 use Rattle.model.specs.Flows.{Site}
@@ -20,7 +21,7 @@ use Rattle.sheet_names.specs.Names.{TABLE, part, ranges, hash, entered, Indexes
 use Rattle.sheet_names.specs.TableLaws.{no-sites, site-entered}
 use Rattle.sheet.specs.Sheet.{Network, empty, withSite, withLink, refused, accepted, stepOf, added, readLine, readLines, andThen, finish}
 use Rattle.sheet.specs.Reading.{padded, lists, reading}
-use Rattle.sheet.specs.Sound.{Sound, Accepts, none-is-sound, a-line-keeps-sound, links-are-few}
+use Rattle.sheet.specs.Sound.{Sound, Accepts, none-is-sound, distinct-names, a-line-keeps-sound, links-are-few}
 use Rattle.sheet.specs.ReadLaws.{lines-end, lines-step}
 use Rattle.sheet.specs.Held.{LabelsOf, Held}
 use Rattle.sheet.specs.ListLaws.{padded-more, names-are}
@@ -150,6 +151,14 @@ module _ {ed : Edition} {s table parents : List ℕ} {net : Lists} {at number : 
     pub site-fits : (a b m : ℕ) → w ≡ step.Site a b m → net .sites < SITES
     site-fits a b m q = omega (arith, sites-are, sound-next _ (ap (added (P .read)) q) .few, length-append (P .read .names) ((a, b) ∷ []))
 
+    -- its name lies on the sheet
+    pub site-lies : (a b m : ℕ) → w ≡ step.Site a b m → (a ≤ b) × (b ≤ length s)
+    site-lies a b m q =
+        let names = P .read .names in
+        let last = sound-next _ (ap (added (P .read)) q) .names (length names) (omega (arith, length-append names ((a, b) ∷ []))) in
+        let range = rw (getD-append-seam names (a, b) [] (0, 0)) at last in
+        (range .start, range .end)
+
     pub by-site : (a b m : ℕ) → w ≡ step.Site a b m → (entries : List ℕ) → entries ≡ entered table (hash (part s (a, b))) (net .sites + 1)
         → Progress ed s (siteStored net a b m) entries parents (afterLine s at) (number + 1)
     unfolding lists
@@ -157,11 +166,12 @@ module _ {ed : Edition} {s table parents : List ℕ} {net : Lists} {at number : 
         let names = P .read .names in
         let ms = P .read .marks in
         let room : length names < SITES = omega (arith, sites-are, site-fits a b m q) in
+        let after = sound-next _ (ap (added (P .read)) q) in
         let marked : set (padded SITES ms) (length names) m ≡ padded SITES (ms ++ (m ∷ []))
         = rw (← (P .sound .marks)) (padded-more SITES ms m (omega (arith, P .sound .marks))) in
         on (withSite (P .read) (a, b) m) (ap (added (P .read)) q) _
         (rw (P .lists-are, placed (λ r. r .0) names (a, b) room, placed (λ r. r .1) names (a, b) room, marked, length-append names ((a, b) ∷ [])))
-        entries (rw (e, sites-are) (site-entered (P .indexed) (a, b) room (sound-next _ (ap (added (P .read)) q) .different)))
+        entries (rw (e, sites-are) (site-entered (P .indexed) (a, b) room (distinct-names (after .names) (after .different))))
         (P .labels-are)
 
     -- a link takes the next place of the links, and joins its sites

@@ -23,7 +23,7 @@ use Rattle.sheet_kinds.specs.LineKinds.{fields, isName, isHeading, kind}
 use Rattle.sheet_kinds.specs.FormedLines.{Formed, kinds-are-formed}
 use Rattle.sheet_kinds.specs.declared.Line.{Line}
 use Rattle.sheet_kinds.specs.declared.Line.the-variants as line
-use Rattle.sheet_names.specs.Names.{nameAt}
+use Rattle.sheet_names.specs.Names.{nameAt, Different, Distinct}
 use Rattle.sheet_names.specs.Lists.{one-more}
 use Rattle.sheet_names.specs.LookupLaws.{Says, lookup-says}
 use Rattle.sheet_names.specs.declared.Found.{Found}
@@ -37,6 +37,11 @@ pub record IsNameRange (s : List ℕ) (r : ℕ × ℕ) : Type 0 where
   pub start : r .0 ≤ r .1
   pub end : r .1 ≤ length s
   pub name : isName (part s r) ≡ true
+
+-- different names, each in its range, are distinct
+pub distinct-names : {s : List ℕ} {names : List (ℕ × ℕ)} → ((i : ℕ) → i < length names → IsNameRange s (getD names i (0, 0))) → Different s names
+    → Distinct s names
+distinct-names named different = record { different = different; on-sheet = λ i l. (named i l .start, named i l .end) }
 
 -- the network read so far: sites within the limit, with different names and a mark of 0 or 1 each, capacities within the limit, and links between sites
 -- that those above did not join

@@ -112,8 +112,7 @@ fn record_step(
         Line::Site { start, end, mark } => {
             let from = at + start;
             let to = at + end;
-            let name = sheet_names::part(sheet, from, to);
-            let found = sheet_names::find(sheet, starts, ends, sites, table, name);
+            let found = sheet_names::find(sheet, starts, ends, sites, table, &sheet[from..to]);
             site_step(edition, here, sites, found, from, to, mark)
         }
         Line::Link {
@@ -123,10 +122,12 @@ fn record_step(
             end2,
             size,
         } => {
-            let one = sheet_names::part(sheet, at + start, at + end);
-            let two = sheet_names::part(sheet, at + start2, at + end2);
-            let first = sheet_names::find(sheet, starts, ends, sites, table, one);
-            let second = sheet_names::find(sheet, starts, ends, sites, table, two);
+            let from = at + start;
+            let to = at + end;
+            let from2 = at + start2;
+            let to2 = at + end2;
+            let first = sheet_names::find(sheet, starts, ends, sites, table, &sheet[from..to]);
+            let second = sheet_names::find(sheet, starts, ends, sites, table, &sheet[from2..to2]);
             link_step(here, parents, first, second, size)
         }
         Line::Fault(number) => Step::Refused { number, line: here },

@@ -78,9 +78,14 @@ pub record Newest (s : List ℕ) (names : List (ℕ × ℕ)) (h n v : ℕ) : Typ
 abbrev pub Different : List ℕ → List (ℕ × ℕ) → Type 0
 Different s names = (j : ℕ) → j < length names → (i : ℕ) → i < j → ¬ (SameName (nameAt s names i) (nameAt s names j))
 
--- a table of different names: at every hash the newest site with it, and for every site the newest before it with the same hash
-pub record Indexes (s : List ℕ) (names : List (ℕ × ℕ)) (table : List ℕ) : Type 0 where
+-- names that are different, each of them a range that lies on the sheet
+pub record Distinct (s : List ℕ) (names : List (ℕ × ℕ)) : Type 0 where
   pub different : Different s names
+  pub on-sheet : (i : ℕ) → i < length names → (getD names i (0, 0) .0 ≤ getD names i (0, 0) .1) × (getD names i (0, 0) .1 ≤ length s)
+
+-- a table of such names: at every hash the newest site with it, and for every site the newest before it with the same hash
+pub record Indexes (s : List ℕ) (names : List (ℕ × ℕ)) (table : List ℕ) : Type 0 where
+  pub distinct : Distinct s names
   pub long : length table ≡ TABLE
   pub newest : (h : ℕ) → h < HASHES → Newest s names h (length names) (look table h)
   pub older : (i : ℕ) → i < length names → Newest s names (hash (nameAt s names i)) i (look table (HASHES + (i + 1)))

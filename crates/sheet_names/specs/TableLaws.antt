@@ -19,7 +19,7 @@ use Rattle.lists.specs.Sums.{same?}
 use Rattle.model.specs.Limits.{SITES}
 use Rattle.text_fields.specs.Fields.{SameName, caseless, lastWord}
 use Rattle.text_fields.specs.Capitals.{length-caseless, caseless-at, same-length, same-names-are-caseless-alike}
-use Rattle.sheet_names.specs.Names.{HASHES, TABLE, part, lookup, ranges, nameAt, hashFrom, hash, entered, Newest, Different, Indexes}
+use Rattle.sheet_names.specs.Names.{HASHES, TABLE, part, lookup, ranges, nameAt, hashFrom, hash, entered, Newest, Distinct, Indexes}
 use Rattle.sheet_names.specs.LookupLaws.{Says, lookup-says, first-is-found, length-ranges, range-at, ranges-more}
 use Rattle.sheet_names.specs.declared.Found.{Found}
 use Rattle.sheet_names.specs.declared.Found.the-variants.{At, Absent}
@@ -99,13 +99,19 @@ module _ {s : List ℕ} {names : List (ℕ × ℕ)} {table : List ℕ} (t : Inde
 
   pub site-there : (v : ℕ) → 1 ≤ v → v ≤ length names → SameName (nameAt s names (v - 1)) f → lookup s names f ≡ At v
   site-there v l h e =
-      first-is-found s f names 1 (v - 1) (omega arith) e (λ j b z. t .different (v - 1) (omega arith) j b (z ∙ sym e)) ∙ ap At (omega arith)
+      first-is-found s f names 1 (v - 1) (omega arith) e (λ j b z. t .distinct .different (v - 1) (omega arith) j b (z ∙ sym e)) ∙ ap At (omega arith)
+
+-- each of distinct names lies on the sheet
+pub lies-there : {s : List ℕ} (starts ends : List ℕ) (n : ℕ) → Distinct s (ranges starts ends 0 n) → (i : ℕ) → i < n
+    → (look starts i ≤ look ends i) × (look ends i ≤ length s)
+lies-there starts ends n d i l =
+    rw (range-at starts ends n i l) at (d .on-sheet i (omega (arith, length-ranges starts ends 0 n)))
 
 -- ---- entering
 
 pub no-sites : (s : List ℕ) → Indexes s [] (replicate TABLE 0)
 no-sites s = record {
-  different = λ j l. absurd (omega arith);
+  distinct = record { different = λ j l. absurd (omega arith); on-sheet = λ i l. absurd (omega arith) };
   long = length-replicate {A = ℕ} TABLE 0;
   newest = λ h l. record {
     within = omega (arith, look-zeros TABLE h);
@@ -177,32 +183,35 @@ module _ {s : List ℕ} {names : List (ℕ × ℕ)} {table : List ℕ} (t : Inde
       (λ d. rw (at-other (HASHES + (i + 1)) (λ e. omega (arith, hash-below (part s r))) (λ e. d (omega arith)), before i (omega arith))
       (kept _ i _ (omega arith) (t .older i (omega arith))))
 
-  pub site-entered : Different s (names ++ (r ∷ [])) → Indexes s (names ++ (r ∷ [])) (entered table (hash (part s r)) (length names + 1))
+  pub site-entered : Distinct s (names ++ (r ∷ [])) → Indexes s (names ++ (r ∷ [])) (entered table (hash (part s r)) (length names + 1))
   unfolding place after
-  site-entered different =
+  site-entered distinct =
       let more : length (names ++ (r ∷ [])) ≡ length names + 1 = length-append names (r ∷ []) in
       record {
-        different = different;
+        distinct = distinct;
         long = length-set (set table (HASHES + (length names + 1)) (look table place)) place (length names + 1)
             ∙ length-set table (HASHES + (length names + 1)) (look table place) ∙ t .long;
         newest = λ h l. rw more (newest-after h l);
         older = λ i l. older-after i (omega arith);
       }
 
--- the first k of n ranges are different names where all are
-front-different : (s starts ends : List ℕ) (n k : ℕ) → k ≤ n → Different s (ranges starts ends 0 n) → Different s (ranges starts ends 0 k)
-front-different s starts ends n k l d j h i b =
+-- the first k of n ranges are such names where all are
+front-distinct : (s starts ends : List ℕ) (n k : ℕ) → k ≤ n → Distinct s (ranges starts ends 0 n) → Distinct s (ranges starts ends 0 k)
+front-distinct s starts ends n k l d =
     let all = length-ranges starts ends 0 n in
     let few = length-ranges starts ends 0 k in
-    rw (range-at starts ends k i (omega arith), range-at starts ends k j (omega arith))
-    (rw (range-at starts ends n i (omega arith), range-at starts ends n j (omega arith)) at (d j (omega arith) i b))
+    record {
+      different = λ j h i b. rw (range-at starts ends k i (omega arith), range-at starts ends k j (omega arith))
+          (rw (range-at starts ends n i (omega arith), range-at starts ends n j (omega arith)) at (d .different j (omega arith) i b));
+      on-sheet = λ i h. rw (range-at starts ends k i (omega arith)) (rw (range-at starts ends n i (omega arith)) at (d .on-sheet i (omega arith)));
+    }
 
 -- the table of the first k of n ranges with the next one entered
-pub next-entered : (s starts ends table : List ℕ) (n k : ℕ) → n ≤ SITES → k < n → Different s (ranges starts ends 0 n)
+pub next-entered : (s starts ends table : List ℕ) (n k : ℕ) → n ≤ SITES → k < n → Distinct s (ranges starts ends 0 n)
     → Indexes s (ranges starts ends 0 k) table
     → Indexes s (ranges starts ends 0 (k + 1)) (entered table (hash (part s (look starts k, look ends k))) (k + 1))
-next-entered s starts ends table n k room l different t =
+next-entered s starts ends table n k room l distinct t =
     let r : ℕ × ℕ = (look starts k, look ends k) in
     let more : ranges starts ends 0 (k + 1) ≡ ranges starts ends 0 k ++ (r ∷ []) = rw zero-add at (ranges-more starts ends 0 k) in
     let few = length-ranges starts ends 0 k in
-    rw more (rw few at (site-entered t r (omega arith) (rw more at (front-different s starts ends n (k + 1) (omega arith) different))))
+    rw more (rw few at (site-entered t r (omega arith) (rw more at (front-distinct s starts ends n (k + 1) (omega arith) distinct))))

@@ -1,9 +1,10 @@
 // Inner: the names of sites, as ranges of a sheet, and their look-up by a table of hashes. Sites whose names have one hash are chained.
 ghost use mathlib.Core.Path.{_≡_};
 ghost use Prim.Native.Nat.{_≤_, min};
+ghost use lib.ListN.{length};
 ghost use Rattle.model.specs.Limits.{SITES};
 ghost use Rattle.text_fields.specs.Fields.{caseless};
-ghost use Rattle.sheet_names.specs.Names.{part, IsPart, lookup, ranges, hashFrom, hash, entered, Different, Indexes};
+ghost use Rattle.sheet_names.specs.Names.{part, IsPart, lookup, ranges, hashFrom, hash, entered, Distinct, Indexes};
 use model::PLACES;
 use model::SITES;
 
@@ -63,10 +64,10 @@ fn hash(name: &[u8]) -> usize
 // The table with one site more, whose name is the part from a start to an end: it is the newest with its hash, and the one that was comes before it.
 // Only the planner's own crates call it.
 pub fn enter(table: &mut [u16; TABLE], sheet: &[u8], start: usize, end: usize, site: usize)
-    requires { ⌜ site ≤ SITES ⌝ }
+    requires { ⌜ (site ≤ SITES) × (start ≤ end) × (end ≤ length (now sheet)) ⌝ }
     ensures { λ _. ⌜ now (table .exit) ≡ entered (now (table .entry)) (hash (part (now (sheet .entry)) (start, end))) site ⌝ }
 {
-    let place = hash(part(sheet, start, end));
+    let place = hash(&sheet[start..end]);
     table[HASHES + site] = table[place];
     table[place] = site as u16;
 }
@@ -87,7 +88,9 @@ pub fn find(
     let mut site = table[hash(name)] as usize;
     while 0 < site {
         let i = site - 1;
-        if text_fields::same_name(part(sheet, starts[i], ends[i]), name) {
+        let start = starts[i];
+        let end = ends[i];
+        if text_fields::same_name(&sheet[start..end], name) {
             return Found::At(site);
         }
         site = table[HASHES + site] as usize;
@@ -95,14 +98,14 @@ pub fn find(
     Found::Absent
 }
 
-// The table of the sites whose names, all different, are ranges of the sheet. Only the planner's own crates call it.
+// The table of the sites whose names, all different, are ranges that lie on the sheet. Only the planner's own crates call it.
 pub fn index(
     sheet: &[u8],
     starts: &[usize; SITES],
     ends: &[usize; SITES],
     sites: usize,
 ) -> [u16; TABLE]
-    requires { ⌜ (sites ≤ SITES) × Different (now sheet) (ranges (now starts) (now ends) 0 sites) ⌝ }
+    requires { ⌜ (sites ≤ SITES) × Distinct (now sheet) (ranges (now starts) (now ends) 0 sites) ⌝ }
     ensures { λ r. ⌜ Indexes (now (sheet .entry)) (ranges (now (starts .entry)) (now (ends .entry)) 0 sites) r ⌝ }
 {
     let mut table = [0u16; TABLE];

@@ -12,7 +12,8 @@ use Rattle.model.specs.Limits.{LINKS, SITES}
 use Rattle.model.specs.Edition.{editions, largest}
 use Rattle.model.specs.Flows.{Links}
 use Rattle.tree.specs.Accepted.{MarkedTree}
-use Rattle.sheet_names.specs.Names.{lookup, ranges, Different}
+use Rattle.sheet_names.specs.Names.{lookup, ranges, Distinct}
+use Rattle.sheet.specs.Sound.{distinct-names}
 use Rattle.sheet.specs.Editions.{an-accepted-sheet-is-within-the-largest}
 use Rattle.sheet.specs.ListLaws.{names-are}
 use Rattle.sheet.specs.Reading.{lists, reading}
@@ -75,8 +76,9 @@ module _ {s : List ℕ} {network : Lists} (r : Listed s network) where
   unfolding lists
   names-of-lists = rw (r .listed) (names-are SITES (r .net .names))
 
-  pub the-names-are-different : Different s (ranges (network .start) (network .end) 0 (network .sites))
-  the-names-are-different = rw names-of-lists (an-accepted-sheet-is-within-the-largest s (r .net) (r .read) .different)
+  pub the-names-are-distinct : Distinct s (ranges (network .start) (network .end) 0 (network .sites))
+  the-names-are-distinct =
+      let net = an-accepted-sheet-is-within-the-largest s (r .net) (r .read) in rw names-of-lists (distinct-names (net .names) (net .different))
 
   as-many : m ≡ length (r .net .links)
   unfolding lists

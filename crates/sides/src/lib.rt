@@ -9,7 +9,7 @@ ghost use lib.ListN.{length, take, drop};
 ghost use Rattle.model.specs.Edition.{editions, largest};
 ghost use Rattle.theory_regions.specs.Regions.{firstSize, given};
 ghost use Rattle.tree.specs.Accepted.{MarkedTree};
-ghost use Rattle.sheet_names.specs.Names.{lookup, ranges, Different};
+ghost use Rattle.sheet_names.specs.Names.{lookup, ranges, Distinct};
 ghost use Rattle.planner.specs.Taken.{Listed};
 ghost use Rattle.region_links.specs.Partners.{siteFound};
 ghost use Rattle.region_sizes.specs.Offered.{regionBy, Sited};
@@ -62,7 +62,7 @@ fn named_link(
     name: &[u8],
     name2: &[u8],
 ) -> usize
-    requires { ⌜ Sited n (now one) (now two) (now marks) × Different (now sheet) (ranges (now starts) (now stops) 0 n) ⌝ }
+    requires { ⌜ Sited n (now one) (now two) (now marks) × Distinct (now sheet) (ranges (now starts) (now stops) 0 n) ⌝ }
     ensures { λ r. ⌜ r ≡ linkOf (regionBy n (now (one .entry)) (now (two .entry)) (now (marks .entry)) [])
         (siteFound (lookup (now (sheet .entry)) (ranges (now (starts .entry)) (now (stops .entry)) 0 n) (now (name .entry))))
         (siteFound (lookup (now (sheet .entry)) (ranges (now (starts .entry)) (now (stops .entry)) 0 n) (now (name2 .entry)))) ⌝ }
@@ -88,7 +88,7 @@ fn link_in<'a>(
     name: &[u8],
     name2: &[u8],
 ) -> usize
-    requires { ⌜ Sited n (take m (now one)) (take m (now two)) (take n (now mark)) × Different (now sheet) (ranges (now starts) (now stops) 0 n)
+    requires { ⌜ Sited n (take m (now one)) (take m (now two)) (take n (now mark)) × Distinct (now sheet) (ranges (now starts) (now stops) 0 n)
         × (m ≤ length (now one)) × (m ≤ length (now two)) × (n ≤ length (now mark)) ⌝ }
     ensures { λ r. ⌜ r ≡ linkOf (regionBy n (take m (now (one .entry))) (take m (now (two .entry))) (take n (now (mark .entry))) [])
         (siteFound (lookup (now (sheet .entry)) (ranges (now (starts .entry)) (now (stops .entry)) 0 n) (now (name .entry))))

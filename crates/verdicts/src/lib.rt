@@ -14,7 +14,7 @@ ghost use Rattle.tree.specs.Offer.{links};
 ghost use Rattle.tree.specs.Steps.{Tells};
 ghost use Rattle.tree.specs.Accepted.{MarkedTree};
 ghost use Rattle.log_paths.specs.Tables.{Mapped};
-ghost use Rattle.sheet_names.specs.Names.{ranges, Different, Indexes};
+ghost use Rattle.sheet_names.specs.Names.{ranges, Distinct, Indexes};
 ghost use Rattle.planner.specs.Taken.{Listed};
 ghost use Rattle.log_requests.specs.Requests.{lines, requests};
 ghost use Rattle.verdicts.specs.Outcome.{verdict, judged};
@@ -145,7 +145,7 @@ fn judge_tree(
     capacity: &[u64],
     plan: &[u8],
 ) -> Outcome
-    requires { ⌜ MarkedTree largest n (now one) (now two) (now marks) (now capacity) × Different (now sheet) (ranges (now starts) (now stops) 0 n)
+    requires { ⌜ MarkedTree largest n (now one) (now two) (now marks) (now capacity) × Distinct (now sheet) (ranges (now starts) (now stops) 0 n)
         × (length (lines (now plan)) ≤ PLANLINES) ⌝ }
     ensures { λ r. ⌜ r ≡ verdict (links (now (one .entry)) (now (two .entry))) n
         (look (ends (links (now (one .entry)) (now (two .entry))) n (now (marks .entry)))) (now (capacity .entry))
@@ -205,7 +205,7 @@ fn judge_parts<'a>(
     plan: &[u8],
 ) -> Outcome
     requires { ⌜ MarkedTree largest n (take m (now one)) (take m (now two)) (take n (now mark)) (take m (now capacity))
-        × Different (now sheet) (ranges (now starts) (now stops) 0 n) × (length (lines (now plan)) ≤ PLANLINES)
+        × Distinct (now sheet) (ranges (now starts) (now stops) 0 n) × (length (lines (now plan)) ≤ PLANLINES)
         × (m ≤ length (now one)) × (m ≤ length (now two)) × (m ≤ length (now capacity)) × (n ≤ length (now mark)) ⌝ }
     ensures { λ r. ⌜ r ≡ verdict (links (take m (now (one .entry))) (take m (now (two .entry)))) n
         (look (ends (links (take m (now (one .entry))) (take m (now (two .entry)))) n (take n (now (mark .entry))))) (take m (now (capacity .entry)))

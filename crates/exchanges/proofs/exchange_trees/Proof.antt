@@ -2,14 +2,14 @@
 use mathlib.Core.Path.{sym, ap, _∙_}
 use native.Mathlib.Omega.{arith}
 use borrow.Author.Needs.{needs}
-use Rattle.exchanges.specs.Taken.{names-are-different, partners-are-sites, apart-is-told, shared-is-told, shared-is-a-link}
+use Rattle.exchanges.specs.Taken.{names-are-distinct, partners-are-sites, apart-is-told, shared-is-told, shared-is-a-link}
 use Rattle.exchanges.proofs.exchange_trees.Statement.{statement}
 use Rattle.exchanges.proofs.exchange_trees.Tie as tie
 
 partners-requires : tie.Need-partners-requires
 partners-requires c κs =
     let s = c .before .before .before .before .before .before .before .before .before .before .before .before in
-    (omega (arith, s .pre .0 .tree .within .few), omega (arith, s .pre .1 .tree .within .few), names-are-different (s .pre .1))
+    (omega (arith, s .pre .0 .tree .within .few), omega (arith, s .pre .1 .tree .within .few), names-are-distinct (s .pre .1))
 
 sharing-requires : tie.Need-sharing-requires
 sharing-requires c κs =

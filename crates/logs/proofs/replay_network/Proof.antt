@@ -7,7 +7,7 @@ use lib.ListN.{length, drop}
 use Rattle.planner.specs.Taken.{room-for-the-links, the-lists-are-taken-apart, the-marks-are-taken-apart, the-network-is-a-marked-tree}
 use Rattle.log_requests.specs.Requests.{lines}
 use Rattle.logs.specs.OverNetwork.{too-many-bytes, too-many-lines, too-few-places, every-line-answered}
-use Rattle.log_requests.specs.Names.{the-names-are-different}
+use Rattle.log_requests.specs.Names.{the-names-are-distinct}
 use Rattle.logs.specs.OverNetwork.{the-answers-are-the-networks}
 use Rattle.logs.specs.declared.Outcome.the-variants.{Answered}
 use Rattle.logs.proofs.replay_network.Statement.{statement}
@@ -46,7 +46,7 @@ answer-parts-requires c κs =
     let s = else3 .before .before .before .before .before .before .before in
     let room = room-for-the-links (s .pre) in
     let tree = rw (← (the-marks-are-taken-apart (s .pre))) at (the-network-is-a-marked-tree (the-lists-are-taken-apart (s .pre))) in
-    (tree, the-names-are-different (s .pre), places else3, room .0, room .1, room .2, room .3)
+    (tree, the-names-are-distinct (s .pre), places else3, room .0, room .1, room .2, room .3)
 
 returns-4 : tie.Need-returns-4
 returns-4 c =

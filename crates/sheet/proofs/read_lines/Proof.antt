@@ -9,8 +9,8 @@ use Rattle.text_lines.specs.LineLaws.{a-line-is-on-the-sheet, no-line-is-on-the
 use Rattle.sheet_scan.specs.Scan.{scanned}
 use Rattle.sheet.specs.Sheet.{stepOf}
 use Rattle.sheet.specs.Reading.{reading}
-use Rattle.sheet.proofs.Progress.{Progress, start, lengths, table-is, held, by-heading, site-fits, by-site, link-fits, by-link, by-refusal, by-parts}
-use Rattle.sheet.proofs.Progress.{by-acceptance}
+use Rattle.sheet.proofs.Progress.{Progress, start, lengths, table-is, held, by-heading, site-fits, site-lies, by-site, link-fits, by-link}
+use Rattle.sheet.proofs.Progress.{by-refusal, by-parts, by-acceptance}
 use native.Mathlib.Omega.{arith}
 use borrow.Author.Needs.{needs}
 use Rattle.sheet.proofs.read_lines.Statement.{statement}
@@ -103,6 +103,13 @@ ended : (c : tie.Else1 Inv-loop μ-loop) → let top = c .before .before in
 ended c = let top = c .before .before in
     no-line-is-on-the-sheet (top .before .before .before .before .args .sheet .now) (top .loop .at) (sym (c .before .has-line .ensures) ∙ c .if1 .left)
 
+enter-requires : tie.Need-enter-requires Inv-loop μ-loop
+enter-requires c κs =
+    let told = c .before in
+    let step = told .before .before .before in
+    let lies = site-lies (round step .loop .inv) (step .step-at .result) (here (line-of step .before)) (step-is step) _ _ _ (told .before .step2 .given .1) in
+    (omega (arith, site-room told), lies .0, lies .1)
+
 join-requires : tie.Need-join-requires Inv-loop μ-loop
 join-requires c κs =
     let labels = round (c .before .before .before .before) .loop .inv .labels-are in
@@ -146,7 +153,7 @@ read-lines-spec =
     (λ c. omega (arith, site-room c))
     (λ c. omega (arith, site-room c))
     (λ c. omega (arith, site-room (c .before)))
-    (λ c κs. omega (arith, site-room (c .before)))
+    enter-requires
     (λ c. less (c .before .before .before .before .before))
     loop-again-2
     (λ c. search needs)

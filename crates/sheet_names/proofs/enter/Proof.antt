@@ -10,7 +10,7 @@ use Rattle.sheet_names.proofs.enter.Tie as tie
 
 -- the hash is that of the name, and a place of the table
 hash-is : (c : tie.After-hash) → let a = c .before .before .before .args in c .hash .result ≡ hash (part (a .sheet .now) (a .start, a .end))
-hash-is c = rw (c .before .part .ensures .bytes) at (c .hash .ensures)
+hash-is c = c .hash .ensures
 
 place : (c : tie.After-hash) → c .hash .result < HASHES
 place c = let a = c .before .before .before .args in rw (hash-is c) (hash-below (part (a .sheet .now) (a .start, a .end)))
@@ -22,7 +22,9 @@ pub enter-spec : {M : Type 1} → statement M
 enter-spec =
     tie.close
     (tie.spec
-    (λ c κs. search needs)
+    (λ c. search needs)
+    (λ c. search needs)
+    (λ c. search needs)
     (λ c κs. search needs)
     (λ c. omega (arith, place c))
     (λ c. omega (arith, place c))

@@ -4,12 +4,13 @@ use mathlib.Core.Path.{_≡_, sym, ap, _∙_}
 use Prim.Native.Nat.{_≤_, _<_, _+_, _-_}
 use native.Mathlib.Omega.{arith}
 use borrow.Author.Needs.{needs}
+use lib.ListN.{length}
 use Rattle.lists.specs.Numbers.{look}
 use Rattle.text_fields.specs.Fields.{same, capitals, sameName}
 use Rattle.text_fields.specs.FieldLaws.{same-are-equal, equal-are-same}
 use Rattle.sheet_names.specs.Names.{HASHES, ranges, nameAt}
 use Rattle.sheet_names.specs.LookupLaws.{length-ranges, range-at}
-use Rattle.sheet_names.specs.TableLaws.{hash-below, Back, back-from, back-to, goes-back, none-there, site-there}
+use Rattle.sheet_names.specs.TableLaws.{hash-below, Back, back-from, back-to, goes-back, none-there, site-there, lies-there}
 use Rattle.sheet_names.proofs.find.Statement.{statement}
 use Rattle.sheet_names.proofs.find.Tie as tie
 
@@ -32,6 +33,14 @@ starts-there c =
     let from = back-from (start .pre .1) (a .name .now) in
     rw (c .hash .ensures) (omega (arith, from .within, length-ranges (a .starts .now) (a .ends .now) 0 (a .sites)), from)
 
+-- the name of the site lies on the sheet
+lies : (top : tie.At-loop Inv-loop μ-loop) → 1 ≤ top .loop .site → let a = top .before .before .before .before .before .args in let i = top .loop .site - 1 in
+    (look (a .starts .now) i ≤ look (a .ends .now) i) × (look (a .ends .now) i ≤ length (a .sheet .now))
+lies top some =
+    let start = top .before .before .before .before .before in
+    let a = start .args in
+    lies-there (a .starts .now) (a .ends .now) (a .sites) (start .pre .1 .distinct) (top .loop .site - 1) (omega (arith, top .loop .inv .0))
+
 -- what the test says: whether the site has the name
 tested : (c : tie.After-same-name Inv-loop μ-loop) → let top = c .before .before .before .before .before in
     let a = top .before .before .before .before .before .args in
@@ -41,7 +50,7 @@ tested c =
     let top = c .before .before .before .before .before in
     let a = top .before .before .before .before .before .args in
     rw (range-at (a .starts .now) (a .ends .now) (a .sites) (top .loop .site - 1) (omega arith))
-    (rw (c .before .part .ensures .bytes) at (c .same-name .ensures))
+    (c .same-name .ensures)
 
 -- the next site is an older one
 next : (c : tie.After-site2 Inv-loop μ-loop) → let top = c .before .before .before .before .before .before .before in
@@ -92,7 +101,9 @@ find-spec =
     (λ c. omega arith)
     (λ c. omega arith)
     (λ c. omega arith)
-    (λ c κs. search needs)
+    (λ c. omega (arith, lies (c .before .before .before) (omega arith)))
+    (λ c. omega (arith, lies (c .before .before .before) (omega arith)))
+    (λ c. omega (arith, lies (c .before .before .before) (omega arith)))
     (λ c κs. search needs)
     returns
     (λ c. omega arith)

@@ -4,7 +4,7 @@ use Prim.Native.Nat.{_≤_, _-_}
 use native.Mathlib.Omega.{arith}
 use borrow.Author.Needs.{needs}
 use Rattle.sheet_names.specs.Names.{ranges, Indexes}
-use Rattle.sheet_names.specs.TableLaws.{no-sites, next-entered}
+use Rattle.sheet_names.specs.TableLaws.{lies-there, no-sites, next-entered}
 use Rattle.sheet_names.proofs.index.Statement.{statement}
 use Rattle.sheet_names.proofs.index.Tie as tie
 
@@ -17,6 +17,13 @@ abbrev μ-loop : tie.MeasureT-loop
 loop-holds : tie.Need-loop-holds Inv-loop μ-loop
 unfolding ranges
 loop-holds c = (omega arith, no-sites (c .before .args .sheet .now))
+
+enter-requires : tie.Need-enter-requires Inv-loop μ-loop
+enter-requires c κs =
+    let top = c .before .before .before .before in
+    let start = top .before .before in
+    let lies = lies-there (start .args .starts .now) (start .args .ends .now) (start .args .sites) (start .pre .1) (top .loop .i) (omega arith) in
+    (omega arith, lies .0, lies .1)
 
 loop-again : tie.Need-loop-again Inv-loop μ-loop
 loop-again c =
@@ -47,7 +54,7 @@ index-spec =
     (λ c. omega arith)
     (λ c. omega arith)
     (λ c. omega arith)
-    (λ c κs. search needs)
+    enter-requires
     (λ c. omega arith)
     (λ c. omega arith)
     loop-again

@@ -4,7 +4,7 @@ use native.Mathlib.Omega.{arith}
 use borrow.Author.Needs.{needs}
 use Rattle.planner.specs.Taken.{room-for-the-links}
 use Rattle.region_sizes.specs.Offered.{a-tree-is-sited}
-use Rattle.sides.specs.OverNetwork.{the-names-are-different, the-lists-are-a-tree, few-links, no-link-is-given-nothing}
+use Rattle.sides.specs.OverNetwork.{the-names-are-distinct, the-lists-are-a-tree, few-links, no-link-is-given-nothing}
 use Rattle.sides.specs.OverNetwork.{a-larger-number-is-given-nothing, a-shorter-list-is-given-nothing, the-answer-is-given}
 use Rattle.sides.specs.declared.Outcome.the-variants.{Answered}
 use Rattle.sides.proofs.answer_network.Statement.{statement}
@@ -14,7 +14,7 @@ link-in-requires : tie.Need-link-in-requires
 link-in-requires c κs =
     let s = c .before .before .before .before .before .before .before .before .before .before .before .before .before in
     let room = room-for-the-links (s .pre) in
-    (a-tree-is-sited (the-lists-are-a-tree (s .pre)), the-names-are-different (s .pre), room .0, room .1, room .3)
+    (a-tree-is-sited (the-lists-are-a-tree (s .pre)), the-names-are-distinct (s .pre), room .0, room .1, room .3)
 
 returns : tie.Need-returns
 returns c =

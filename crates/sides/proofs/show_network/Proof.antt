@@ -2,7 +2,7 @@
 use mathlib.Core.Path.{sym, ap, _∙_}
 use Rattle.planner.specs.Taken.{room-for-the-links}
 use Rattle.region_sizes.specs.Offered.{a-tree-is-sited}
-use Rattle.sides.specs.OverNetwork.{the-names-are-different, the-lists-are-a-tree, no-link-shows-nothing, a-link-shows-its-size}
+use Rattle.sides.specs.OverNetwork.{the-names-are-distinct, the-lists-are-a-tree, no-link-shows-nothing, a-link-shows-its-size}
 use Rattle.sides.specs.declared.First.the-variants.{Shown}
 use Rattle.sides.proofs.show_network.Statement.{statement}
 use Rattle.sides.proofs.show_network.Tie as tie
@@ -11,7 +11,7 @@ link-in-requires : tie.Need-link-in-requires
 link-in-requires c κs =
     let s = c .before .before .before .before .before .before .before .before .before .before .before .before in
     let room = room-for-the-links (s .pre) in
-    (a-tree-is-sited (the-lists-are-a-tree (s .pre)), the-names-are-different (s .pre), room .0, room .1, room .3)
+    (a-tree-is-sited (the-lists-are-a-tree (s .pre)), the-names-are-distinct (s .pre), room .0, room .1, room .3)
 
 returns : tie.Need-returns
 returns c =

@@ -2,7 +2,7 @@
 use mathlib.Core.Path.{sym, _∙_}
 use borrow.Author.Needs.{needs}
 use Rattle.planner.specs.Taken.{room-for-the-links, the-lists-are-taken-apart, the-marks-are-taken-apart, the-network-is-a-marked-tree}
-use Rattle.log_requests.specs.Names.{the-names-are-different}
+use Rattle.log_requests.specs.Names.{the-names-are-distinct}
 use Rattle.verdicts.specs.OverNetwork.{too-many-bytes, too-many-lines, judged-by-its-lines, the-verdict-is-the-networks}
 use Rattle.verdicts.proofs.judge_network.Statement.{statement}
 use Rattle.verdicts.proofs.judge_network.Tie as tie
@@ -22,7 +22,7 @@ judge-parts-requires c κs =
     let else2 = c .before .before .before .before .before .before .before .before .before .before .before in
     let room = room-for-the-links (s .pre) in
     let tree = rw (← (the-marks-are-taken-apart (s .pre))) at (the-network-is-a-marked-tree (the-lists-are-taken-apart (s .pre))) in
-    (tree, the-names-are-different (s .pre), rw (else2 .before .count-lines .ensures) at (else2 .if2 .left), room .0, room .1, room .2, room .3)
+    (tree, the-names-are-distinct (s .pre), rw (else2 .before .count-lines .ensures) at (else2 .if2 .left), room .0, room .1, room .2, room .3)
 
 returns-3 : tie.Need-returns-3
 returns-3 c =

@@ -25,7 +25,7 @@ link-step-requires c κs =
     let a = c .before .before .before .before .before .before .before .before .args in
     let names = ranges (a .starts .now) (a .ends .now) 0 (a .sites) in
     let few : length names < PLACES = omega (arith, length-ranges (a .starts .now) (a .ends .now) 0 (a .sites)) in (
-      subst (Labelled PLACES) (sym (c .before .find2 .ensures)) (labelled (a .sheet .now) _ names PLACES few),
+      subst (Labelled PLACES) (sym (c .before .before .find2 .ensures)) (labelled (a .sheet .now) _ names PLACES few),
       subst (Labelled PLACES) (sym (c .find3 .ensures)) (labelled (a .sheet .now) _ names PLACES few),
     )
 
@@ -34,21 +34,14 @@ unfolding recordStep
 returns c = λ net h.
     let a = c .before .before .before .before .before .before .before .args in
     let few : length (net .names) ≡ a .sites = ap length (sym (h .names)) ∙ length-ranges (a .starts .now) (a .ends .now) 0 (a .sites) in
-    rw (c .before .before .before .before .line .given .1, few, ← (h .names), ← (c .before .before .part .ensures .bytes), ← (c .before .find .ensures))
+    rw (c .before .before .before .before .line .given .1, few, ← (h .names), ← (c .before .find .ensures))
     (c .site-step .ensures)
 
 returns-2 : tie.Need-returns-2
 unfolding recordStep
 returns-2 c = λ net h.
-    let named = c .before .before .before in
-    rw (
-      named .before .before .before .line2 .given .1,
-      ← (h .names),
-      ← (named .before .part2 .ensures .bytes),
-      ← (named .part3 .ensures .bytes),
-      ← (c .before .before .find2 .ensures),
-      ← (c .before .find3 .ensures),
-    )
+    let find = c .before .before .before in
+    rw (find .before .before .before .line2 .given .1, ← (h .names), ← (find .find2 .ensures), ← (c .before .find3 .ensures))
     (c .link-step .ensures (net .links) (h .labels-are))
 
 returns-3 : tie.Need-returns-3
@@ -62,17 +55,23 @@ record-step-spec =
     (λ c. search needs)
     (λ c. omega (arith, formed (c .before .before .before) _ (c .before .line .given .1)))
     (λ c. omega (arith, formed (c .before .before .before) _ (c .before .line .given .1)))
-    (λ c κs. search needs)
+    (λ c. omega (arith, formed (c .before .before .before) _ (c .before .line .given .1)))
+    (λ c. omega (arith, formed (c .before .before .before) _ (c .before .line .given .1)))
+    (λ c. omega (arith, formed (c .before .before .before) _ (c .before .line .given .1)))
     (λ c κs. search needs)
     (λ c κs. search needs)
     (λ c. search needs)
     (λ c. omega (arith, formed (c .before .before .before) _ (c .before .line2 .given .1)))
     (λ c. omega (arith, formed (c .before .before .before) _ (c .before .line2 .given .1)))
+    (λ c. omega (arith, formed (c .before .before .before) _ (c .before .line2 .given .1)))
+    (λ c. omega (arith, formed (c .before .before .before) _ (c .before .line2 .given .1)))
+    (λ c. omega (arith, formed (c .before .before .before) _ (c .before .line2 .given .1)))
+    (λ c. omega (arith, formed (c .before .before .before) _ (c .before .line2 .given .1)))
+    (λ c. omega (arith, formed (c .before .before .before) _ (c .before .line2 .given .1)))
     (λ c κs. search needs)
-    (λ c. omega (arith, formed (c .before .before .before .before) _ (c .before .before .line2 .given .1)))
-    (λ c. omega (arith, formed (c .before .before .before .before) _ (c .before .before .line2 .given .1)))
-    (λ c κs. search needs)
-    (λ c κs. search needs)
+    (λ c. omega (arith, formed (c .before .before .before .before .before) _ (c .before .before .before .line2 .given .1)))
+    (λ c. omega (arith, formed (c .before .before .before .before .before) _ (c .before .before .before .line2 .given .1)))
+    (λ c. omega (arith, formed (c .before .before .before .before .before) _ (c .before .before .before .line2 .given .1)))
     (λ c κs. search needs)
     link-step-requires
     (λ c. search needs)
