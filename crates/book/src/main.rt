@@ -9,7 +9,7 @@ fn write_page(sites: usize, choice: usize) -> bool {
     match outcome {
         Outcome::Page { length } => text_streams::write(&text[..length]),
         Outcome::Refused { number, line } => {
-            text_streams::refuse(number, line);
+            text_refusals::refuse(number, line);
             false
         }
     }

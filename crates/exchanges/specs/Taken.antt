@@ -128,14 +128,14 @@ module _ {n : ℕ} {one two marks c : List ℕ} {n2 : ℕ} {one2 two2 marks2 c2 
       le-leb (length (second .sizes)) (length m) (omega (arith, as-many-second)),
     ) refl
 
-    -- so for what the code gives, each region by the number that the other shows
-    pub both-are-given : length one2 ≤ length m → {shown shown2 sum sum2 : ℕ} {after after2 : List ℕ} → shown ≡ firstSize a j → shown2 ≡ firstSize b k
-        → sum ≡ given a j shown2 .sum → after ≡ given a j shown2 .sizes ++ drop (length one) l
-        → sum2 ≡ given b k shown .sum → after2 ≡ given b k shown .sizes ++ drop (length one2) m
+    -- so for what the code gives
+    pub both-are-given : length one2 ≤ length m → {sum sum2 : ℕ} {after after2 : List ℕ}
+        → sum ≡ first .sum → sum2 ≡ second .sum
+        → after ≡ first .sizes ++ drop (length one) l → after2 ≡ second .sizes ++ drop (length one2) m
         → let o = deliverBetween a j b k l m in
         (Answered (record { count = length one; sum = sum }) (record { count = length one2; sum = sum2 }) ≡ o .outcome)
         × ((after ≡ o .first) × (after2 ≡ o .second))
-    both-are-given h e f g u g2 u2 = rw (g, u, g2, u2, e, f, both-lists-are-filled h, as-many-first, as-many-second) (refl, (refl, refl))
+    both-are-given h g g2 u u2 = rw (g, g2, u, u2, both-lists-are-filled h, as-many-first, as-many-second) (refl, (refl, refl))
 
 -- ---- the exchange between two networks taken apart
 

@@ -56,8 +56,8 @@ fn answered(count: usize, sum: u64, count2: usize, sum2: u64) -> Outcome
     }
 }
 
-// The answers for two regions that share one link, by its number in each: each is charted once, and given its trimmed sizes, at the front of its lent list,
-// and their sum; or the first list with fewer places than its region has links is refused.
+// The answers for two regions that share one link, by its number in each: each is given its trimmed sizes, at the front of its lent list, and their sum; or the
+// first list with fewer places than its region has links is refused.
 fn deliver(
     n: usize,
     one: &[usize],
@@ -97,35 +97,23 @@ fn deliver(
     if sizes2.len() < count2 {
         return short_list(2);
     }
-    let chart = region_sizes::chart_of(n, one, two, marks, capacity);
-    let chart2 = region_sizes::chart_of(n2, one2, two2, marks2, capacity2);
-    let shown = region_sizes::size_by(n, chart, one, two, capacity, link);
-    let shown2 = region_sizes::size_by(n2, chart2, one2, two2, capacity2, link2);
-    let sum = region_sizes::give_by(
+    let sums = region_giving::give_both(
         n,
-        chart,
         one,
         two,
         marks,
         capacity,
         link,
-        shown,
-        shown2,
-        sizes,
-    );
-    let sum2 = region_sizes::give_by(
         n2,
-        chart2,
         one2,
         two2,
         marks2,
         capacity2,
         link2,
-        shown2,
-        shown,
+        sizes,
         sizes2,
     );
-    answered(count, sum, count2, sum2)
+    answered(count, sums.first, count2, sums.second)
 }
 
 // The exchange between two accepted sheets, each network lent as far as there are sites or links.

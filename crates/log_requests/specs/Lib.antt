@@ -1,5 +1,4 @@
 pub mod Requests
 pub mod RequestLaws
 pub mod TwoEnds
-pub mod Names
 pub mod Sheets

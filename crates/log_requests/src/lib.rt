@@ -75,7 +75,7 @@ fn between(
     let Found::At(second) = to else {
         return Request::Fault(6);
     };
-    if !log_paths::free(n, one, two, rows, ends, outer, first, second) {
+    if !log_ends::free(n, one, two, rows, ends, outer, first, second) {
         return Request::Fault(6);
     }
     let pair = Pair {

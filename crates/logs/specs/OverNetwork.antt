@@ -19,7 +19,7 @@ use Rattle.sheet.specs.declared.Answer.the-variants as answered
 use Rattle.sheet.specs.declared.Lists.{Lists}
 use Rattle.planner.specs.Taken.{Listed, the-lists-are-taken-apart, the-marks-are-taken-apart, the-links-are-the-networks, the-ends-are-the-networks}
 use Rattle.log_requests.specs.Requests.{lines, requests}
-use Rattle.log_requests.specs.Names.{the-names-are-the-networks}
+use Rattle.log_names.specs.Names.{the-names-are-the-networks}
 use Rattle.logs.specs.Log.{answersOf}
 use Rattle.logs.specs.Outcome.{replayOver, replayRead, replayed}
 use Rattle.logs.specs.declared.Outcome.the-variants.{Answered, Refused}

@@ -64,7 +64,7 @@ fn main() {
             write_sites(sheet, &start, &end, &list, count);
         }
         Outcome::Refused { number, line } => {
-            text_streams::refuse(number, line);
+            text_refusals::refuse(number, line);
         }
     }
 }

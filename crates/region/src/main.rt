@@ -60,13 +60,13 @@ fn answer(sheet: &[u8], name: &[u8], name2: &[u8], number: u64) {
         }
         Outcome::Refused { number, line } => {
             if number == 18 {
-                text_streams::refuse_in_words(
+                text_refusals::refuse_in_words(
                     number,
                     b"the number is above the usable size of the shared link\n",
                 );
                 return;
             }
-            text_streams::refuse(number, line);
+            text_refusals::refuse(number, line);
         }
     }
 }
@@ -86,10 +86,10 @@ fn second_step(sheet: &[u8], name: &[u8], name2: &[u8]) {
         }
         Number::Wrong(refusal) => {
             if refusal == 3 {
-                text_streams::refuse_in_words(refusal, b"the number is above 1,000,000\n");
+                text_refusals::refuse_in_words(refusal, b"the number is above 1,000,000\n");
                 return;
             }
-            text_streams::refuse_in_words(
+            text_refusals::refuse_in_words(
                 refusal,
                 b"the number is not written in decimal without a leading zero\n",
             );
@@ -110,13 +110,13 @@ fn steps(sheet: &[u8], name: &[u8], name2: &[u8]) {
         }
         First::Refused { number, line } => {
             if number == 18 {
-                text_streams::refuse_in_words(
+                text_refusals::refuse_in_words(
                     number,
                     b"no link joins the two names, or neither has a single link and no mark\n",
                 );
                 return;
             }
-            text_streams::refuse(number, line);
+            text_refusals::refuse(number, line);
         }
     }
 }

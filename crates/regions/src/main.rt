@@ -38,7 +38,7 @@ fn main() {
             number,
             line,
         } => {
-            text_streams::refuse_sheets(sheet, number, line);
+            text_refusals::refuse_sheets(sheet, number, line);
         }
     }
 }

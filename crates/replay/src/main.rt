@@ -63,7 +63,7 @@ fn main() {
             write_answers(&answers, count);
         }
         Outcome::Refused { text, number, line } => {
-            text_streams::refuse_text(text, number, line);
+            text_refusals::refuse_text(text, number, line);
         }
     }
 }

@@ -18,7 +18,7 @@ pub fn run(whole: bool) {
             text_streams::write(&printed[..length]);
         }
         Outcome::Refused { number, line } => {
-            text_streams::refuse(number, line);
+            text_refusals::refuse(number, line);
         }
     }
 }
@@ -38,7 +38,7 @@ pub fn span() {
             text_streams::write(&printed[..length]);
         }
         Outcome::Refused { number, line } => {
-            text_streams::refuse(number, line);
+            text_refusals::refuse(number, line);
         }
     }
 }

@@ -1,5 +1,4 @@
 pub mod Outcome
-pub mod LinkLaws
 pub mod Causes
 pub mod SideLaws
 pub mod Told

@@ -2,28 +2,23 @@
 -- values, and the lent list after. Document 02, Card 10 (18: what one sheet alone can show of it), and Card 3 (a lent list keeps its values).
 use mathlib.Core.Bool.{cond, _&&_}
 use mathlib.Core.List.{List, _++_}
-use Prim.Native.Nat.{ℕ, _*_, max}
+use Prim.Native.Nat.{ℕ}
 use lib.Dec.{leb, ltb}
 use lib.ListN.{length, drop}
-use Rattle.lists.specs.Numbers.{pick, differ, look}
+use Rattle.lists.specs.Numbers.{look}
 use Rattle.model.specs.declared.Edition.{Edition}
 use Rattle.sheet_names.specs.Names.{lookup}
 use Rattle.sheet.specs.Sheet.{Network, Read, refused, accepted, readSheet}
-use Rattle.theory_regions.specs.Regions.{Region, firstSize, lone, Given, given}
-use Rattle.theory_regions.specs.Sharing.{firstFrom}
-use Rattle.region_links.specs.Partners.{siteFound, joining}
+use Rattle.theory_regions.specs.Regions.{Region, firstSize, Given, given}
+use Rattle.region_links.specs.Partners.{siteFound}
 use Rattle.exchanges.specs.Shared.{regionOf}
+use Rattle.side_links.specs.SharedLink.{linkOf}
 use Rattle.sides.specs.declared.First.{First}
 use Rattle.sides.specs.declared.First.the-variants as first
 use Rattle.sides.specs.declared.Outcome.{Outcome}
 use Rattle.sides.specs.declared.Outcome.the-variants.{Answered, Refused}
 
 -- ---- the shared link
-
--- the link that the sites x and y of a region may share: they are two, one of them, the far one, has a single link and no mark, and this link is between them;
--- the number of links where there is none
-unfoldable pub linkOf : Region → ℕ → ℕ → ℕ
-linkOf a x y = pick (differ x y * max (lone a x) (lone a y)) 1 (firstFrom (joining (a .links) x y) 0 (length (a .links))) (length (a .links))
 
 -- the number of the site that has a name, in either case; 0 where there is none
 abbrev pub siteOf : List ℕ → Network → List ℕ → ℕ

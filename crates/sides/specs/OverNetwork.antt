@@ -27,7 +27,8 @@ use Rattle.region_links.specs.Partners.{siteFound}
 use Rattle.region_sizes.specs.Laws.{trimmed-again-for-each-link}
 use Rattle.region_sizes.specs.Offered.{regionBy}
 use Rattle.exchanges.specs.Shared.{regionOf}
-use Rattle.sides.specs.Outcome.{linkOf, linkNamed, showOver, showRead, firstShown, refusal, answerOver, answerRead, answered}
+use Rattle.side_links.specs.SharedLink.{linkOf}
+use Rattle.sides.specs.Outcome.{linkNamed, showOver, showRead, firstShown, refusal, answerOver, answerRead, answered}
 use Rattle.sides.specs.declared.First.the-variants.{Shown}
 use Rattle.sides.specs.declared.First.the-variants as first
 use Rattle.sides.specs.declared.Outcome.the-variants.{Answered}

@@ -24,7 +24,7 @@ use Rattle.exchanges.specs.Shared.{regionOf, siteName}
 use Rattle.exchanges.specs.SharedLaws.{the-network-is-named, a-look-up-finds-the-site-of-a-name}
 use Rattle.sides.specs.Outcome.{siteOf, linkNamed, showOver, showRead, firstShown, refusal, delivered, answerOver, answerRead, answered}
 use Rattle.sides.specs.Causes.{MayShare, AcceptedSide}
-use Rattle.sides.specs.LinkLaws.{a-link-that-is-found-joins-them, a-link-between-them-is-found}
+use Rattle.side_links.specs.LinkLaws.{a-link-that-is-found-joins-them, a-link-between-them-is-found}
 use Rattle.sides.specs.declared.First.the-variants.{Shown}
 use Rattle.sides.specs.declared.First.the-variants as first
 

@@ -4,8 +4,8 @@ use Prim.Native.Nat.{ℕ}
 use native.Mathlib.Omega.{arith}
 use Rattle.model.specs.Limits.{SITES}
 use Rattle.theory_trees.specs.Trees.{loopless}
-use Rattle.tree.specs.Ordering.Links.{length-links, links-one, links-two}
-use Rattle.tree.specs.Ordering.Steps.{Proper}
+use Rattle.tree_order.specs.Links.{length-links, links-one, links-two}
+use Rattle.tree_order.specs.Steps.{Proper}
 use Rattle.tree.specs.Accepted.{TreeOf}
 
 -- a tree of at most SITES sites has links between different sites

@@ -17,9 +17,9 @@ use Rattle.model.specs.declared.Edition.{Edition}
 use Rattle.lists.specs.Sums.{is-same, is-other, same?, contradiction}
 use Rattle.theory_trees.specs.Sites.{sites-once, sites-site}
 use Rattle.theory_trees.specs.TreeTest.{length-elimination}
-use Rattle.tree.specs.Ordering.Links.{length-links, links-one, links-two}
-use Rattle.tree.specs.Ordering.Toward.{eliminationToward, orderIn}
-use Rattle.tree.specs.Ordering.Rooted.{elimination-toward-a-root-is-inward, ends-at-the-root, without-a-root, length-elimination-toward}
+use Rattle.tree_order.specs.Links.{length-links, links-one, links-two}
+use Rattle.tree_order.specs.Toward.{eliminationToward, orderIn}
+use Rattle.tree_order.specs.Rooted.{elimination-toward-a-root-is-inward, ends-at-the-root, without-a-root, length-elimination-toward}
 use Rattle.tree.specs.declared.Offer.{Offer}
 use Rattle.tree.specs.declared.Offer.the-variants.{NoTree, TooLarge, Accepted}
 use Rattle.tree.specs.Offer.{links, within, labelled, isTree, isMarkedTree, offerOf, offer}

@@ -6,7 +6,7 @@ use lib.ListN.{replicate}
 use Rattle.model.specs.Limits.{SITES}
 use Rattle.model.specs.Edition.{largest}
 use Rattle.model.specs.Trimming.{elimination}
-use Rattle.tree.specs.Ordering.Toward.{eliminationToward, orderIn}
+use Rattle.tree_order.specs.Toward.{eliminationToward, orderIn}
 use Rattle.tree.specs.Offer.{links, offer}
 use Rattle.tree.specs.declared.Elimination.{Elimination}
 use Rattle.tree.specs.declared.Offer.{Offer}

@@ -1,4 +1,3 @@
-pub mod Ordering
 pub mod Offer
 pub mod Places
 pub mod Links

@@ -7,7 +7,7 @@ use lib.Dec.{eqb, leb}
 use lib.ListN.{length}
 use Rattle.model.specs.Flows.{Links, sites, label}
 use Rattle.model.specs.declared.Edition.{Edition}
-unfoldable pub use Rattle.tree.specs.Ordering.Links.{links}
+unfoldable pub use Rattle.tree_order.specs.Links.{links}
 use Rattle.tree.specs.declared.Offer.{Offer}
 use Rattle.tree.specs.declared.Offer.the-variants.{NoTree, TooLarge, Accepted}
 

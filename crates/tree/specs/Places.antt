@@ -13,7 +13,7 @@ use lib.Seq.{drop-cons, getD-take, length-take-le, ext-getD}
 use lib.ListN.{length, drop, set, length-map, length-append, length-drop, take, take-append-drop, drop-of-length-le}
 use Rattle.lists.specs.Numbers.{look, upfrom}
 use Rattle.lists.specs.Places.{length-upfrom, look-values}
-pub use Rattle.tree.specs.Ordering.Links.{sum-next}
+pub use Rattle.tree_order.specs.Links.{sum-next}
 use Rattle.tree.specs.Offer.{within}
 
 -- the list l with f i at every place i below k

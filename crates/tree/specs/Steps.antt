@@ -5,8 +5,8 @@ use mathlib.Core.List.{List}
 use Prim.Native.Nat.{ℕ}
 use Rattle.lists.specs.Sums.{contradiction}
 use Rattle.model.specs.Limits.{SITES}
-use Rattle.tree.specs.Ordering.Toward.{eliminationToward, orderIn}
-use Rattle.tree.specs.declared.ordering.Order.{Order}
+use Rattle.tree_order.specs.Toward.{eliminationToward, orderIn}
+use Rattle.tree_order.specs.declared.Order.{Order}
 use Rattle.tree.specs.Offer.{links, isTree}
 
 -- an answer tells whether P holds

@@ -1,9 +1,7 @@
 // A tree that is offered as lists: whether it is one within the limits of the edition, and the elimination order of its sites.
-mod ordering;
-
 use model::SITES;
 use model::SIZE;
-use ordering::Order;
+use tree_order::Order;
 ghost use mathlib.Core.Bool.{_&&_};
 ghost use mathlib.Core.Path.{_≡_};
 ghost use Prim.Native.Nat.{ℕ, _<_};
@@ -11,7 +9,7 @@ ghost use lib.Dec.{eqb};
 ghost use lib.ListN.{length};
 ghost use Rattle.lists.specs.Numbers.{look};
 ghost use Rattle.model.specs.Edition.{largest};
-ghost use Rattle.tree.specs.Ordering.Steps.{Link, Proper};
+ghost use Rattle.tree_order.specs.Steps.{Link, Proper};
 ghost use Rattle.tree.specs.Offer.{within, offerOf, offer};
 ghost use Rattle.tree.specs.Elimination.{decide, eliminated, eliminatedToward};
 ghost use Rattle.tree.specs.Steps.{Tells, Ordered};
@@ -103,9 +101,9 @@ fn order_of(n: usize, one: &[usize], two: &[usize], root: usize) -> Order
         };
     }
     if n < root {
-        return ordering::order_of(n, one, two, 0);
+        return tree_order::order_of(n, one, two, 0);
     }
-    ordering::order_of(n, one, two, root)
+    tree_order::order_of(n, one, two, root)
 }
 
 // Whether a tree of n sites comes with a mark for each site.

@@ -12,9 +12,9 @@ use Rattle.model.specs.Flows.{Links, total}
 use Rattle.theory_verdicts.specs.HandPlan.{Account, faulty, entries, overloaded, largestTotal}
 use Rattle.theory_verdicts.specs.Loads.{an-overloaded-link-counts}
 use Rattle.verdicts.specs.Outcome.{verdict}
-use Rattle.verdicts.specs.Progress.{Comes}
-use Rattle.verdicts.specs.Loaded.{Loaded}
-use Rattle.verdicts.specs.declared.Accounted.{Accounted}
+use Rattle.plan_accounts.specs.Progress.{Comes}
+use Rattle.plan_accounts.specs.Loaded.{Loaded}
+use Rattle.plan_accounts.specs.declared.Accounted.{Accounted}
 use Rattle.verdicts.specs.declared.Outcome.the-variants.{Judged, Refused}
 
 module _ (ls : Links) (n : ℕ) (terminal : ℕ → ℕ) (c : List ℕ) (r : Accounted) where

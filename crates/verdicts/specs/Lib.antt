@@ -1,6 +1,4 @@
 pub mod Outcome
-pub mod Progress
-pub mod Loaded
 pub mod OverNetwork
 pub mod Laws
 pub mod Causes

@@ -18,8 +18,9 @@ use Rattle.tree.specs.Accepted.{TreeWithin}
 use Rattle.tree.specs.Offer.{links}
 use Rattle.tree.specs.Links.{length-links}
 use Rattle.tree.specs.Places.{filled, same-values}
-use Rattle.whole_loops.specs.Notes.{Given, Within, Found, note, intervalsOf, loadingOf}
-use Rattle.whole_loops.specs.declared.Note.{Note}
+use Rattle.whole_notes.specs.declared.Note.{Note}
+use Rattle.whole_notes.specs.Notes.{Within, note, intervalsOf, loadingOf}
+use Rattle.whole_loops.specs.Ways.{Given, Found}
 use Rattle.whole_parents.specs.Parents.{Leads, ParentsOf, ordered-within, the-order-is-inward, the-order-takes-no-site-twice}
 use Rattle.whole_parents.specs.Leads.{link-load}
 use Rattle.whole_loads.specs.Solved.{EndsAmong}

@@ -1,7 +1,7 @@
 // Inner: the loads and the end sets of the report in whole circuits (02, Card 2), and the number of its odd pieces. Only the planner's own crates call it.
 use model::PLACES;
 use model::SITES;
-use whole_loops::Note;
+use whole_notes::Note;
 ghost use mathlib.Core.Path.{_≡_};
 ghost use Prim.Native.Nat.{ℕ, _+_, _*_, _≤_, _<_};
 ghost use lib.ListN.{length, take};
@@ -13,7 +13,8 @@ ghost use Rattle.theory_whole.specs.Counting.{oddAt};
 ghost use Rattle.tree.specs.Accepted.{TreeWithin};
 ghost use Rattle.tree.specs.Offer.{links};
 ghost use Rattle.tree.specs.Places.{filled};
-ghost use Rattle.whole_loops.specs.Notes.{Given, Within, note};
+ghost use Rattle.whole_notes.specs.Notes.{Within, note};
+ghost use Rattle.whole_loops.specs.Ways.{Given};
 ghost use Rattle.whole_loads.specs.Solved.{oddBy, EndsAmong, Solved};
 
 // The load of each of m links, that of its child, at the front of a lent list.

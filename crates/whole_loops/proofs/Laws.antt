@@ -13,9 +13,9 @@ use Rattle.lists.specs.Numbers.{pick, look}
 use Rattle.lists.specs.Sums.{pick-same, pick-other, pick-cases, same?, cases}
 use Rattle.model.specs.WholeLoads.{Intervals, Loading, noIntervals, put, lowest, highest, ownerAt, newTop, leastAt, topLoad, coming}
 use Rattle.model.specs.WholeLoads.{take, takeAll, give, giveAll}
-use Rattle.whole_loops.specs.declared.Note.{Note}
-use Rattle.whole_loops.specs.Notes.{Given, Within, Fresh, Inward, Found, note, blank, intervalsOf, loadingOf}
-use Rattle.whole_loops.specs.Notes.{takenNote, joinedNote, comeNote, loadedNote}
+use Rattle.whole_notes.specs.declared.Note.{Note}
+use Rattle.whole_notes.specs.Notes.{Within, note, blank, intervalsOf, loadingOf, takenNote, joinedNote, comeNote, loadedNote}
+use Rattle.whole_loops.specs.Ways.{Given, Fresh, Inward, Found}
 
 -- ---- a note is written
 

@@ -7,7 +7,7 @@ use lib.ListN.{length, drop}
 use Rattle.planner.specs.Taken.{room-for-the-links, the-lists-are-taken-apart, the-marks-are-taken-apart, the-network-is-a-marked-tree}
 use Rattle.log_requests.specs.Requests.{lines}
 use Rattle.logs.specs.OverNetwork.{too-many-bytes, too-many-lines, too-few-places, every-line-answered}
-use Rattle.log_requests.specs.Names.{the-names-are-distinct}
+use Rattle.log_names.specs.Names.{the-names-are-distinct}
 use Rattle.logs.specs.OverNetwork.{the-answers-are-the-networks}
 use Rattle.logs.specs.declared.Outcome.the-variants.{Answered}
 use Rattle.logs.proofs.replay_network.Statement.{statement}

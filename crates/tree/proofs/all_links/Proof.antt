@@ -5,7 +5,7 @@ use borrow.Author.Count.{below-none, below-more}
 use borrow.Author.Tests.{not-true, not-false}
 use lib.ListN.{length}
 use Rattle.lists.specs.Numbers.{look}
-use Rattle.tree.specs.Ordering.Steps.{Link}
+use Rattle.tree_order.specs.Steps.{Link}
 use Rattle.tree.specs.Steps.{told, denied}
 use Rattle.tree.proofs.all_links.Statement.{statement}
 use Rattle.tree.proofs.all_links.Tie as tie

@@ -6,8 +6,8 @@ use Prim.Native.Nat.{ℕ}
 use lib.Dec.{eqb}
 use lib.ListN.{length}
 use Rattle.model.specs.Edition.{largest}
-use Rattle.tree.specs.Ordering.Toward.{eliminationToward, orderIn}
-use Rattle.tree.specs.declared.ordering.Order.{Order}
+use Rattle.tree_order.specs.Toward.{eliminationToward, orderIn}
+use Rattle.tree_order.specs.declared.Order.{Order}
 use Rattle.tree.specs.declared.Elimination.{Elimination}
 use Rattle.tree.specs.declared.Offer.{Offer}
 use Rattle.tree.specs.declared.Offer.the-variants.{NoTree, TooLarge, Accepted}

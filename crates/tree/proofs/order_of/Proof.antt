@@ -6,10 +6,10 @@ use Prim.Native.Nat.{ℕ}
 use native.Mathlib.Omega.{arith}
 use borrow.Author.Tests.{not-true, not-false}
 use Rattle.model.specs.Limits.{SITES}
-use Rattle.tree.specs.Ordering.Links.{links}
-use Rattle.tree.specs.Ordering.Toward.{eliminationToward, orderIn}
-use Rattle.tree.specs.Ordering.Steps.{Proper, Eliminated}
-use Rattle.tree.specs.Ordering.Rooted.{without-a-root}
+use Rattle.tree_order.specs.Links.{links}
+use Rattle.tree_order.specs.Toward.{eliminationToward, orderIn}
+use Rattle.tree_order.specs.Steps.{Proper, Eliminated}
+use Rattle.tree_order.specs.Rooted.{without-a-root}
 use Rattle.tree.specs.Offer.{isTree}
 use Rattle.tree.specs.Accepted.{is-tree-is-a-tree, a-tree-is-tree, is-false}
 use Rattle.tree.specs.Steps.{told, denied}

@@ -2,7 +2,7 @@
 use mathlib.Core.Path.{sym, _∙_}
 use borrow.Author.Needs.{needs}
 use Rattle.planner.specs.Taken.{room-for-the-links, the-lists-are-taken-apart, the-marks-are-taken-apart, the-network-is-a-marked-tree}
-use Rattle.log_requests.specs.Names.{the-names-are-distinct}
+use Rattle.log_names.specs.Names.{the-names-are-distinct}
 use Rattle.verdicts.specs.OverNetwork.{too-many-bytes, too-many-lines, judged-by-its-lines, the-verdict-is-the-networks}
 use Rattle.verdicts.proofs.judge_network.Statement.{statement}
 use Rattle.verdicts.proofs.judge_network.Tie as tie

@@ -19,7 +19,7 @@ use Rattle.tree_links.specs.Chains.{offer-placed}
 use Rattle.sheet_names.specs.Names.{ranges}
 use Rattle.log_requests.specs.Requests.{requests}
 use Rattle.theory_verdicts.specs.HandPlan.{account}
-use Rattle.verdicts.specs.Progress.{Comes}
+use Rattle.plan_accounts.specs.Progress.{Comes}
 use Rattle.verdicts.specs.declared.Outcome.the-variants.{Judged}
 use Rattle.verdicts.specs.Laws.{a-fault-is-the-verdict, an-overload-is-the-verdict, the-total-is-the-verdict}
 use Rattle.verdicts.proofs.judge_tree.Statement.{statement}

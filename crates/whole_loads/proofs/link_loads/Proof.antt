@@ -5,7 +5,7 @@ use native.Mathlib.Omega.{arith}
 use lib.ListN.{length, length-set}
 use Rattle.lists.specs.Numbers.{look}
 use Rattle.tree.specs.Places.{filled, filled-none, filled-next}
-use Rattle.whole_loops.specs.Notes.{note}
+use Rattle.whole_notes.specs.Notes.{note}
 use Rattle.whole_loads.proofs.link_loads.Statement.{statement}
 use Rattle.whole_loads.proofs.link_loads.Tie as tie
 

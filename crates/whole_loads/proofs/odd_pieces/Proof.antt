@@ -6,7 +6,7 @@ use lib.ListN.{length, take}
 use Rattle.model.specs.Limits.{SITES, SIZE}
 use Rattle.lists.specs.Numbers.{over, look}
 use Rattle.theory_whole.specs.Counting.{oddAt}
-use Rattle.whole_loops.specs.Notes.{note}
+use Rattle.whole_notes.specs.Notes.{note}
 use Rattle.whole_loads.specs.Counted.{odd-le, odd-is, over-next, over-none}
 use Rattle.whole_loads.proofs.odd_pieces.Statement.{statement}
 use Rattle.whole_loads.proofs.odd_pieces.Tie as tie

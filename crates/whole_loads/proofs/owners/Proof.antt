@@ -9,7 +9,7 @@ use Rattle.model.specs.Limits.{PLACES}
 use Rattle.lists.specs.Numbers.{look}
 use Rattle.lists.specs.Sums.{same?, cases}
 use Rattle.lists.specs.Places.{look-zeros}
-use Rattle.whole_loops.specs.Notes.{note, blank}
+use Rattle.whole_notes.specs.Notes.{note, blank}
 use Rattle.whole_loads.proofs.owners.Statement.{statement}
 use Rattle.whole_loads.proofs.owners.Tie as tie
 

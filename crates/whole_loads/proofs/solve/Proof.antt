@@ -5,7 +5,7 @@ use native.Mathlib.Omega.{arith}
 use lib.ListN.{length}
 use borrow.Author.Needs.{needs}
 use Rattle.tree.specs.Places.{length-filled}
-use Rattle.whole_loops.specs.Notes.{Given}
+use Rattle.whole_loops.specs.Ways.{Given}
 use Rattle.whole_loads.specs.Ways.{the-ways-are-given, a-child-has-a-place, owners-are-whole, loads-are-whole, odd-pieces-are-counted}
 use Rattle.whole_loads.proofs.solve.Statement.{statement}
 use Rattle.whole_loads.proofs.solve.Tie as tie

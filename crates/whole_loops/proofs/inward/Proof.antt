@@ -3,14 +3,11 @@ use mathlib.Core.Path.{_≡_, refl, sym, ap, _∙_}
 use Prim.Native.Nat.{_-_, _≤_}
 use native.Mathlib.Omega.{arith}
 use Rattle.lists.specs.Numbers.{look}
-use Rattle.whole_loops.specs.Notes.{Inward, note}
+use Rattle.whole_notes.specs.Notes.{note}
+use Rattle.whole_loops.specs.Ways.{Inward}
 use Rattle.whole_loops.proofs.Laws.{Turn, turn-inward, joined-ready, inward-none, inward-turn}
 use Rattle.whole_loops.proofs.inward.Statement.{statement}
 use Rattle.whole_loops.proofs.inward.Tie as tie
-use Rattle.whole_loops.proofs.inward.Reads as reads
-use Rattle.whole_loops.proofs.inward.Lts as lts
-use Rattle.whole_loops.proofs.joined.Reads as joined-reads
-use Rattle.whole_loops.proofs.taken.Reads as taken-reads
 
 abbrev Inv-loop : tie.InvT-loop
 Inv-loop n order parent above ends notes₀ i₀ notes i = (i ≤ n) × Inward i order parent above ends notes

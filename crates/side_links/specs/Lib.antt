@@ -1,0 +1,2 @@
+pub mod SharedLink
+pub mod LinkLaws
