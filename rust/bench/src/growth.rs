@@ -11,7 +11,7 @@ pub const SITES: [usize; 6] = [16, 32, 64, 128, 256, 384];
 pub type Measured<const COUNTS: usize> = [[Times; COUNTS]; SHAPES.len()];
 
 /// Writes the times of both planners for each shape and count, and behind them how many times as long each of
-/// the last `ratios` counts takes as the count before it.
+/// the last `ratios` counts takes as the count before them.
 pub fn table<const COUNTS: usize>(
     text: &mut String,
     counts: [usize; COUNTS],
@@ -19,8 +19,9 @@ pub fn table<const COUNTS: usize>(
     measured: &Measured<COUNTS>,
 ) -> Result {
     let compared: Vec<usize> = (COUNTS - ratios..COUNTS).collect();
+    let base = COUNTS - ratios - 1;
     let columns = counts.map(|count| format!(" {count} |")).concat();
-    let ratio = |&place: &usize| format!(" {} : {} |", counts[place], counts[place - 1]);
+    let ratio = |&place: &usize| format!(" {} : {} |", counts[place], counts[base]);
     let ratio_columns: String = compared.iter().map(ratio).collect();
     writeln!(text, "| shape | planner |{columns}{ratio_columns}")?;
     writeln!(text, "|---|---|{}", "---:|".repeat(COUNTS + ratios))?;
@@ -33,7 +34,7 @@ pub fn table<const COUNTS: usize>(
                 write!(text, " {time:.1} |")?;
             }
             for &place in &compared {
-                write!(text, " {:.2} |", times[place] / times[place - 1])?;
+                write!(text, " {:.2} |", times[place] / times[base])?;
             }
             writeln!(text)?;
         }
