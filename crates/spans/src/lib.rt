@@ -4,17 +4,19 @@ ghost use mathlib.Core.Path.{_≡_};
 ghost use Prim.Native.Nat.{_≤_};
 ghost use lib.Dec.{leb};
 ghost use lib.ListN.{length, take};
+ghost use Rattle.model.specs.Edition.{rangesHigh};
+ghost use Rattle.sheet.specs.Sheet.{readAs};
+ghost use Rattle.sheet.specs.Reading.{reading};
 ghost use Rattle.text_writers.specs.Wrote.{Room};
 ghost use Rattle.report.specs.Span.{spanText};
 ghost use Rattle.report.specs.SpanShown.{spanBy, Ranges};
 ghost use Rattle.planner.specs.Outcome.{deliver};
 ghost use Rattle.spans.specs.Outcome.{spanned};
-ghost use Rattle.spans.specs.Ready.{Apart, Listed};
+ghost use Rattle.spans.specs.Ready.{Apart};
 use model::REPORT;
 use model::SITES;
 use planner::Outcome;
 use sheet::Answer;
-use sheet::Lists;
 
 // Whether the report of lists goes into so many bytes. Its length is measured only where there are fewer than the longest report has.
 fn fits(
@@ -188,27 +190,13 @@ fn span_parts<'a>(
     )
 }
 
-// The networks of an accepted range sheet, with its low and with its high sizes, taken apart.
-fn span_networks(sheet: &[u8], low: Lists, high: Lists, report: &mut [u8]) -> Outcome
-    requires { ⌜ Listed (now sheet) low high ⌝ }
-    ensures told { λ r. ⌜ r ≡ spanned (now (sheet .entry)) (now (report .entry)) .outcome ⌝ }
-    ensures left { λ r. ⌜ now (report .exit) ≡ spanned (now (sheet .entry)) (now (report .entry)) .buffer ⌝ }
+// The high sizes of a range sheet, in the order of its links.
+fn high_sizes(sheet: &[u8]) -> [u64; SITES]
+    ensures { λ r. ⌜ r ≡ reading (readAs rangesHigh (now (sheet .entry))) .network .capacity ⌝ }
 {
-    let n = low.sites;
-    let m = low.links;
-    span_parts(
-        sheet,
-        &low.start,
-        &low.end,
-        n,
-        m,
-        &low.one,
-        &low.two,
-        &low.mark,
-        &low.capacity,
-        &high.capacity,
-        report,
-    )
+    let reading = sheet::read_high(sheet);
+    let network = reading.network;
+    network.capacity
 }
 
 // The span of a range sheet: writes the report headed `span` into the buffer and tells its length, or refuses the sheet and leaves the buffer as it was.
@@ -218,11 +206,21 @@ pub fn span(sheet: &[u8], report: &mut [u8]) -> Outcome
 {
     let reading = sheet::read_low(sheet);
     let answer = reading.answer;
-    match answer {
-        Answer::Refused { number, line } => Outcome::Refused { number, line },
-        Answer::Accepted => {
-            let other = sheet::read_high(sheet);
-            span_networks(sheet, reading.network, other.network, report)
-        }
+    if let Answer::Refused { number, line } = answer {
+        return Outcome::Refused { number, line };
     }
+    let high = high_sizes(sheet);
+    span_parts(
+        sheet,
+        &reading.network.start,
+        &reading.network.end,
+        reading.network.sites,
+        reading.network.links,
+        &reading.network.one,
+        &reading.network.two,
+        &reading.network.mark,
+        &reading.network.capacity,
+        &high,
+        report,
+    )
 }

@@ -1,17 +1,12 @@
--- `span` meets its contract: a refusal of the reading is passed on, and the networks of an accepted sheet are spanned.
+-- `span` meets its contract: a refusal of the reading is passed on, and the lists of an accepted sheet are its networks taken apart.
 use mathlib.Core.Path.{sym, ap, _∙_}
+use Rattle.model.specs.Edition.{rangesHigh}
+use Rattle.sheet.specs.Sheet.{readAs}
+use Rattle.sheet.specs.Reading.{reading}
 use borrow.Author.Needs.{needs}
-use Rattle.spans.specs.Ready.{accepted-is-listed, refused-is-told}
+use Rattle.spans.specs.Ready.{Listed, accepted-is-listed, refused-is-told, room-for-the-links, the-lists-are-taken-apart}
 use Rattle.spans.proofs.span.Statement.{statement}
 use Rattle.spans.proofs.span.Tie as tie
-
-span-networks-requires : tie.Need-span-networks-requires
-span-networks-requires c κs =
-    let low = c .before .before .before .before .read-low .ensures in
-    let high = c .before .read-high .ensures in
-    let a = c .before .before .before .before .before .before .before .args in
-    let told = c .before .before .enum-told .given .1 in
-    rw (← low, ← high) at (accepted-is-listed (a .sheet .now) (sym (ap (λ x. x .answer) low) ∙ told))
 
 returns : tie.Need-returns
 returns c =
@@ -20,15 +15,27 @@ returns c =
     let e = refused-is-told (a .sheet .now) (a .report .now) _ _ (sym (ap (λ x. x .answer) r) ∙ c .before .answer .given .1) in
     (sym (ap (λ p. p .outcome) e), sym (ap (λ p. p .buffer) e))
 
+span-parts-requires : tie.Need-span-parts-requires
+span-parts-requires c κs =
+    let read = c .before .before .before .before .before .before .before .before .before .before .before .before .before .before .before in
+    let sheet = read .before .before .before .before .before .before .args .sheet .now in
+    let low = read .before .before .before .read-low in
+    let high = read .high-sizes .ensures in
+    let told = sym (ap (λ x. x .answer) (low .ensures)) ∙ read .before .enum-told .given .1 in
+    let listed : Listed sheet (low .result .network) (reading (readAs rangesHigh sheet) .network) = rw (← (low .ensures)) at (accepted-is-listed sheet told) in
+    let room = room-for-the-links listed in
+    rw high (the-lists-are-taken-apart listed, room .0, room .1, room .2, room .3, room .4)
+
 pub span-spec : {M : Type 1} → statement M
 span-spec =
     tie.close
     (tie.spec
     (λ c κs. search needs)
     (λ c. search needs)
+    returns
     (λ c. search needs)
     (λ c κs. search needs)
-    span-networks-requires
-    returns
+    (λ c. search needs)
+    span-parts-requires
     (λ c. search needs)
     (λ c. search needs))
