@@ -9,6 +9,7 @@ pub mod Ready
 pub mod Taken
 pub mod Works
 pub mod WholeWorks
+pub mod Link
 pub mod Fits
 pub mod Earlier
 pub mod Unmarked

@@ -83,10 +83,11 @@ whole-circuits-are-ready {s} {starting} {stopping} {n} {one} {two} {c} a shown t
     let ls = the-links-are-the-networks a in
     let N = the-network-is-given a in
     rw (ls, told, a .counted, a .sizes, a .started, a .stopped, a .firsts, a .seconds) (λ e. rw e (λ cut line listed held.
+    let places = sets-have-places (a .net .links) (length (a .net .names)) (terminal (a .net)) (look (a .net .capacities))
+    (wholeOwner (a .net .links) (length (a .net .names)) (terminal (a .net)) (look (a .net .capacities))) (N .few) cuts cut in
     figures-are-ready N (wholes (a .net)) (wholes-can-be-shown (a .net) (N .tree)) ps
     (wholes-are-worked-out N terminals cuts before (take (ps .count) (ps .list)) told cut line listed)
-    (sets-have-places (a .net .links) (length (a .net .names)) (terminal (a .net)) (look (a .net .capacities))
-    (wholeOwner (a .net .links) (length (a .net .names)) (terminal (a .net)) (look (a .net .capacities))) (N .few) cuts cut)
+    (omega (arith, places .0, N .few), omega (arith, places .1, N .few), omega (arith, places .2, N .few))
     held (the-whole-report-shows-wholes (a .net) s) (a .read)))
 
 -- ---- from what the inner functions promise

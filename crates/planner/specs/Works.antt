@@ -92,14 +92,14 @@ module _ {s : List ℕ} {net : Network} (N : IsNetwork largest s net) (f : Figur
   -- ---- all of it
 
   module _ {terminals owners sizes counts before : List ℕ} (ps : Pairs) (w : Works net f terminals owners sizes counts before (take (ps .count) (ps .list)))
-      (places : (SITES ≡ length owners) × (SITES ≡ length sizes) × (SITES ≡ length counts))
+      (places : (size ≤ length owners) × (size ≤ length sizes) × (size ≤ length counts))
       (held : ps .count ≤ length (ps .list)) where
     pairs-are-few : ps .count ≤ length ls
     pairs-are-few = omega (arith, pairs-shown-are-sound N f h .few, ap length (w .paired), length-take-le (ps .count) (ps .list) held)
 
     owners-are-named : Owners s (starts net) (stops net) owners size
     owners-are-named = record {
-      held = omega (arith, places .0, N .few);
+      held = places .0;
       named = λ i l d. rw (w .own i l) (elim (h .owned (1 + i) (omega arith, omega arith)) [
         | inl r ↦ absurd (d (w .own i l ∙ r))
         | inr r ↦ named-site N _ (r .0)
@@ -129,8 +129,8 @@ module _ {s : List ℕ} {net : Network} (N : IsNetwork largest s net) (f : Figur
             named = sites-are-named N;
             linked = links-join-named-sites;
             owned = owners-are-named;
-            sized = omega (arith, places .1, N .few);
-            counted = omega (arith, places .2, N .few);
+            sized = places .1;
+            counted = places .2;
             paired = pairs-can-be-written;
             small = rw (w .paired) (total-shown-within N f h);
             room = rw shows (omega (arith, figures-are-small N f h));
@@ -191,10 +191,11 @@ what-is-worked-out-is-ready {s} {starting} {stopping} {n} {one} {two} {c} a show
     let ls = the-links-are-the-networks a in
     let N = the-network-is-given a in
     rw (ls, told, a .counted, a .sizes, a .started, a .stopped, a .firsts, a .seconds) (λ e. rw e (λ cut listed held.
+    let places = owned-has-places (a .net .links) (length (a .net .names)) (terminal (a .net)) (look (a .net .capacities))
+    (look (halves (a .net) .shown)) (N .few) cuts cut in
     figures-are-ready N (halves (a .net)) (halves-can-be-shown (a .net) (N .tree)) ps
     (halves-are-worked-out N terminals cuts (take (ps .count) (ps .list)) told cut listed)
-    (owned-has-places (a .net .links) (length (a .net .names)) (terminal (a .net)) (look (a .net .capacities))
-    (look (halves (a .net) .shown)) (N .few) cuts cut)
+    (omega (arith, places .0, N .few), omega (arith, places .1, N .few), omega (arith, places .2, N .few))
     held (the-report-shows-halves (a .net) s) (a .read)))
 
 -- ---- from what the inner functions promise

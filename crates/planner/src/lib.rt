@@ -3,14 +3,20 @@ ghost use mathlib.Core.Path.{_≡_};
 ghost use Prim.Native.Nat.{_≤_};
 ghost use lib.ListN.{length, take};
 ghost use Rattle.model.specs.Edition.{editions};
+ghost use Rattle.model.specs.Limits.{SIZE};
+ghost use Rattle.lists.specs.Numbers.{look};
+ghost use Rattle.theory_link.specs.TwoSites.{linkPairs};
 ghost use Rattle.tree_links.specs.Chains.{Chained};
+ghost use Rattle.pairing_walk.specs.Visits.{listing};
 ghost use Rattle.report.specs.Report.{reportOf};
 ghost use Rattle.report.specs.Shown.{shownBy, CanWrite};
 ghost use Rattle.planner.specs.Outcome.{deliver, reporter, plannedBy, planned, plannedWhole, answeredBy, answered};
 ghost use Rattle.planner.specs.Ready.{TakenApart, Ordered, Charted};
 ghost use Rattle.planner.specs.Fits.{fits};
+ghost use Rattle.planner.specs.Link.{linkPlan};
 use model::CHAINS;
 use model::PLACES;
+use model::Pair;
 use model::Pairs;
 use model::REPORT;
 use model::SITES;
@@ -323,6 +329,109 @@ fn plan_chained<'a>(
     )
 }
 
+// The one pair of a network of two sites, of twice the link's capacity; none for capacity 0 (01: with two sites only).
+fn pair_of(capacity: u64) -> Pairs
+    requires { ⌜ capacity ≤ SIZE ⌝ }
+    ensures { λ r. ⌜ r ≡ listing (linkPairs capacity) ⌝ }
+{
+    let none = Pair {
+        first: 0,
+        second: 0,
+        amount: 0,
+    };
+    let mut list = [none; SITES];
+    if capacity == 0 {
+        return Pairs { list, count: 0 };
+    }
+    list[0] = Pair {
+        first: 1,
+        second: 2,
+        amount: 2 * capacity,
+    };
+    Pairs { list, count: 1 }
+}
+
+// The report of the lists of two sites into the buffer: the link carries its capacity, each site is in the set of its own, and there is one pair.
+fn deliver_link(
+    word: &[u8],
+    before: &[u8],
+    sheet: &[u8],
+    start: &[usize],
+    end: &[usize],
+    one: &[usize],
+    two: &[usize],
+    capacity: &[u64],
+    report: &mut [u8],
+) -> Outcome
+    requires { ⌜ (1 ≤ length (now capacity)) × (look (now capacity) 0 ≤ SIZE)
+        × CanWrite (now sheet) (now start) (now end)
+        (linkPlan (now word) (now before) (now sheet) (now start) (now end) (now one) (now two) (now capacity)) (listing (linkPairs (look (now capacity) 0))) ⌝ }
+    ensures told { λ r. ⌜ r ≡ deliver (reportOf
+        (linkPlan (now (word .entry)) (now (before .entry)) (now (sheet .entry)) (now (start .entry)) (now (end .entry)) (now (one .entry)) (now (two .entry))
+        (now (capacity .entry)))) (now (report .entry)) .outcome ⌝ }
+    ensures left { λ r. ⌜ now (report .exit) ≡ deliver (reportOf
+        (linkPlan (now (word .entry)) (now (before .entry)) (now (sheet .entry)) (now (start .entry)) (now (end .entry)) (now (one .entry)) (now (two .entry))
+        (now (capacity .entry)))) (now (report .entry)) .buffer ⌝ }
+{
+    let c = capacity[0];
+    let mut ends = [0u8; PLACES];
+    ends[1] = 1;
+    ends[2] = 1;
+    let owner = [1usize, 2];
+    let size = [c, c];
+    let count = [1usize, 1];
+    let pairs = pair_of(c);
+    deliver(
+        word,
+        before,
+        sheet,
+        start,
+        end,
+        2,
+        one,
+        two,
+        capacity,
+        capacity,
+        &ends,
+        &owner,
+        &size,
+        &count,
+        pairs,
+        report,
+    )
+}
+
+// The lists of an accepted sheet of two sites, planned in whole circuits or in halves.
+fn plan_link(
+    whole: bool,
+    sheet: &[u8],
+    start: &[usize],
+    end: &[usize],
+    one: &[usize],
+    two: &[usize],
+    capacity: &[u64],
+    buf: &mut [u8],
+) -> Outcome
+    requires { ⌜ TakenApart (now sheet) (now start) (now end) 2 (now one) (now two) (now capacity) ⌝ }
+    ensures told { λ r. ⌜ r ≡ plannedBy (reporter whole) editions (now (sheet .entry)) (now (buf .entry)) .outcome ⌝ }
+    ensures left { λ r. ⌜ now (buf .exit) ≡ plannedBy (reporter whole) editions (now (sheet .entry)) (now (buf .entry)) .buffer ⌝ }
+{
+    if whole {
+        return deliver_link(
+            b"whole",
+            b"Q\t0\n",
+            sheet,
+            start,
+            end,
+            one,
+            two,
+            capacity,
+            buf,
+        );
+    }
+    deliver_link(b"plan", b"", sheet, start, end, one, two, capacity, buf)
+}
+
 // The lists of an accepted sheet, planned in whole circuits or in halves: its tree is tested once, and its
 // chains and ends are made once.
 fn plan_lists(
@@ -341,6 +450,9 @@ fn plan_lists(
     ensures told { λ r. ⌜ r ≡ plannedBy (reporter whole) editions (now (sheet .entry)) (now (report .entry)) .outcome ⌝ }
     ensures left { λ r. ⌜ now (report .exit) ≡ plannedBy (reporter whole) editions (now (sheet .entry)) (now (report .entry)) .buffer ⌝ }
 {
+    if n == 2 {
+        return plan_link(whole, sheet, start, end, one, two, capacity, report);
+    }
     let tree = tree::eliminate(n, one, two, marks, capacity);
     let chains = tree_links::chain(one, two);
     plan_chained(
