@@ -115,6 +115,9 @@ fn largest_sheet(shape: Shape, sites: usize) -> Vec<u8> {
 /// The sheet of the smallest tree.
 const TWO_SITES: &[u8] = b"network\t1\nN\ta\nN\tb\nL\ta\tb\t4\n";
 
+/// The smallest sheet that has a joint.
+const THREE_SITES: &[u8] = b"network\t1\nN\ta\nN\tb\nN\tc\nL\ta\tb\t4\nL\ta\tc\t3\n";
+
 /// All tables.
 fn tables(options: &Options) -> Result<String, Box<dyn std::error::Error>> {
     let mut text = String::new();
@@ -185,6 +188,8 @@ fn other_buffers_table(
     for (unit, libraries) in units {
         let two_sites = time(libraries, TWO_SITES, REPORT_BYTES, rounds);
         two_sites.write_row(text, &format!("two sites, {unit}"))?;
+        let three_sites = time(libraries, THREE_SITES, REPORT_BYTES, rounds);
+        three_sites.write_row(text, &format!("three sites, {unit}"))?;
         for shape in [Shape::Star, Shape::Path, Shape::Prufer] {
             let sheet = largest_sheet(shape, SITES);
             let short = library::short_buffer(libraries, &sheet);
