@@ -365,7 +365,8 @@ fn deliver_link(
 ) -> Outcome
     requires { ⌜ (1 ≤ length (now capacity)) × (look (now capacity) 0 ≤ SIZE)
         × CanWrite (now sheet) (now start) (now end)
-        (linkPlan (now word) (now before) (now sheet) (now start) (now end) (now one) (now two) (now capacity)) (listing (linkPairs (look (now capacity) 0))) ⌝ }
+        (linkPlan (now word) (now before) (now sheet) (now start) (now end) (now one) (now two) (now capacity))
+        (listing (linkPairs (look (now capacity) 0))) ⌝ }
     ensures told { λ r. ⌜ r ≡ deliver (reportOf
         (linkPlan (now (word .entry)) (now (before .entry)) (now (sheet .entry)) (now (start .entry)) (now (end .entry)) (now (one .entry)) (now (two .entry))
         (now (capacity .entry)))) (now (report .entry)) .outcome ⌝ }

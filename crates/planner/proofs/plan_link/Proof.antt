@@ -12,7 +12,8 @@ use Rattle.planner.proofs.plan_link.Tie as tie
 whole-requires : tie.Need-deliver-link-requires
 whole-requires c κs =
     let s = c .before .before .before .before .before .before .before .before .before .before .before in
-    (one-capacity-within (s .pre) .0, one-capacity-within (s .pre) .1, the-link-is-ready-whole (s .pre) .writable)
+    let within = one-capacity-within (s .pre) in
+    (within .0, within .1, the-link-is-ready-whole (s .pre) .writable)
 
 returns : tie.Need-returns
 unfolding reporter
@@ -20,13 +21,15 @@ returns c =
     let made = c .before .before in
     let s = c .before .before .before .before .before .before .before .before .before .before .before .before .before .before in
     let e : wholeReport ≡ reporter (s .args .whole) = sym (ap reporter (made .before .before .before .before .if1 .taken)) in
-    let delivered = ready-is-delivered (the-link-is-ready-whole (s .pre)) (s .args .buf .now) ∙ ap (λ text. plannedBy text editions (s .args .sheet .now) (s .args .buf .now)) e in
+    let delivered = ready-is-delivered (the-link-is-ready-whole (s .pre)) (s .args .buf .now)
+    ∙ ap (λ text. plannedBy text editions (s .args .sheet .now) (s .args .buf .now)) e in
     (made .deliver-link .ensures .0 ∙ ap (λ p. p .outcome) delivered, made .deliver-link .ensures .1 ∙ ap (λ p. p .buffer) delivered)
 
 halves-requires : tie.Need-deliver-link-requires-2
 halves-requires c κs =
     let s = c .before .before .before .before .before .before .before .before .before .before .before in
-    (one-capacity-within (s .pre) .0, one-capacity-within (s .pre) .1, the-link-is-ready (s .pre) .writable)
+    let within = one-capacity-within (s .pre) in
+    (within .0, within .1, the-link-is-ready (s .pre) .writable)
 
 returns-2 : tie.Need-returns-2
 unfolding reporter
@@ -34,7 +37,8 @@ returns-2 c =
     let made = c .before .before in
     let s = c .before .before .before .before .before .before .before .before .before .before .before .before .before .before in
     let e : report ≡ reporter (s .args .whole) = sym (ap reporter (made .before .before .before .before .if1 .left)) in
-    let delivered = ready-is-delivered (the-link-is-ready (s .pre)) (s .args .buf .now) ∙ ap (λ text. plannedBy text editions (s .args .sheet .now) (s .args .buf .now)) e in
+    let delivered = ready-is-delivered (the-link-is-ready (s .pre)) (s .args .buf .now)
+    ∙ ap (λ text. plannedBy text editions (s .args .sheet .now) (s .args .buf .now)) e in
     (made .deliver-link2 .ensures .0 ∙ ap (λ p. p .outcome) delivered, made .deliver-link2 .ensures .1 ∙ ap (λ p. p .buffer) delivered)
 
 pub plan-link-spec : {M : Type 1} → statement M
