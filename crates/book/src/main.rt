@@ -1,5 +1,7 @@
 // The exercise book on standard output (document 02, Card 13): a line for each tree of 2 to 5 sites with sizes 0 to 2, in order. What could not be written it
 // says on standard error, and stops there.
+#![tactic(auto)]
+
 use books::Outcome;
 
 // Writes the page of a choice of links between so many sites; whether all of it went.

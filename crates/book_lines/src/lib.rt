@@ -1,4 +1,6 @@
 // Inner: only the planner's own crates call it. Writing the exercise book (document 02, Card 13): the line of an entry, and the lines of a page.
+#![tactic(auto)]
+
 ghost use Rattle.std.specs.Prelude.{◌≡◌, [], ◌∷◌, ◌++◌, map, ◌-◌, ◌≤◌, ◌^◌, length};
 ghost use Rattle.tree.specs.Offer.{links};
 ghost use Rattle.text_writers.specs.Fields.{decimal};

@@ -1,5 +1,7 @@
 // Inner: only the planner's own crates call it. The lists of the exercise book by number (document 02, Card 13): the choice of links, and the list of sizes,
 // that come at a place.
+#![tactic(auto)]
+
 ghost use Rattle.std.specs.Prelude.{◌≡◌, [], ◌∷◌, ◌++◌, ◌+◌, ◌/◌, ◌%◌, ◌^◌, ◌≤◌, ◌<◌, length, take};
 ghost use Rattle.lists.specs.Numbers.{pick};
 ghost use Rattle.theory_book.specs.Book.{possible};
@@ -13,7 +15,7 @@ pub const LISTED: usize = 20;
 pub const SIZES: usize = 4;
 
 // A choice of links: the first `count` places hold their lower and their higher numbers.
-#[derive(Drop)]
+#[derive(Clone, Copy)]
 pub struct Choice {
     pub one: [usize; LISTED],
     pub two: [usize; LISTED],

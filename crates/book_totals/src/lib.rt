@@ -1,5 +1,7 @@
 // Inner: only the planner's own crates call it. The total of an entry of the exercise book (document 02, Card 13): its links and sizes are offered to trimming
 // as a tree without marks, and the trimmed sizes are summed over the ends' links.
+#![tactic(auto)]
+
 ghost use Rattle.std.specs.Prelude.{◌≡◌, ◌*◌, ◌≤◌, replicate};
 ghost use Rattle.lists.specs.Numbers.{is, look};
 ghost use Rattle.model.specs.Limits.{SITES};
@@ -14,7 +16,7 @@ use model::{CHAINS, PLACES};
 use trimming::Trimming;
 
 // What links with sizes come to: they are no tree, or a tree with its total in halves.
-#[derive(Drop)]
+#[derive(Clone, Copy)]
 pub enum Outcome {
     NoTree,
     Halves { halves: u64 },

@@ -1,9 +1,11 @@
 // The exercise book (document 02, Card 13): a line for each tree of 2 to 5 sites with sizes 0 to 2, page by page. A page is a choice of links.
+#![tactic(auto)]
+
 ghost use Rattle.std.specs.Prelude.{◌≡◌};
 ghost use Rattle.books.specs.Outcome.{choices, page_into};
 
 // What writing a page comes to: so many bytes, or a refusal with its number and line.
-#[derive(Drop)]
+#[derive(Clone, Copy)]
 pub enum Outcome {
     Page { length: usize },
     Refused { number: u64, line: usize },

@@ -1,4 +1,6 @@
 // Terminal cuts: for each site the terminal whose cut holds it, and each cut's size and number of sites.
+#![tactic(auto)]
+
 ghost use Rattle.std.specs.Prelude.{◌≡◌, length};
 ghost use Rattle.model.specs.Edition.{largest};
 ghost use Rattle.tree.specs.Accepted.{MarkedTree};
@@ -9,7 +11,7 @@ use model::{SITES, SIZE};
 use tree::Offer;
 
 // What is said of an offer of a tree with given and balanced capacities.
-#[derive(Drop)]
+#[derive(Clone, Copy)]
 pub enum Answer {
     // no tree of two or more sites within the limits, with a mark for each site
     NoTree,
@@ -23,7 +25,7 @@ pub enum Answer {
 
 // The terminal cuts, at place x - 1 for site x: the terminal whose cut holds the site, and for a terminal the size and the number of
 // sites of its cut. Places of other sites and places past the last site hold 0.
-#[derive(Drop)]
+#[derive(Clone, Copy)]
 pub struct Cuts {
     pub owner: [usize; SITES],
     pub size: [u64; SITES],

@@ -2,6 +2,8 @@
 // capacities of the links that leave it and the set of its sites, and for each site the terminal of its group. Only the planner's own crates call it.
 // The cuts stand in three lists, lent as zeros, at place x - 1 for site x: the terminal whose cut holds the site, and for a terminal the size and the
 // number of sites of its cut. Places of other sites and places past the last site hold 0.
+#![tactic(auto)]
+
 ghost use Rattle.std.specs.Prelude.{◌≡◌, map, ℕ, ◌+◌, ◌*◌, ◌≤◌, length, replicate};
 ghost use Rattle.model.specs.Limits.{PLACES, SETS, SITES};
 ghost use Rattle.lists.specs.Numbers.{upfrom, look};

@@ -1,4 +1,6 @@
 // Two regions that share one link (document 02, Card 10): each is given its trimmed sizes of the joined tree, by its own sheet and one number of the other's.
+#![tactic(auto)]
+
 ghost use Rattle.std.specs.Prelude.{◌≡◌, ◌≤◌, ◌<◌, length, take};
 ghost use Rattle.model.specs.Edition.{editions, largest};
 ghost use Rattle.tree.specs.Accepted.{MarkedTree};
@@ -13,14 +15,14 @@ use region_sharing::Shared;
 use sheet::Lists;
 
 // What a region is told: the number of its trimmed sizes, which stand in its lent list, and their sum over its own ends' links.
-#[derive(Drop)]
+#[derive(Clone, Copy)]
 pub struct Answer {
     pub count: usize,
     pub sum: u64,
 }
 
 // What the exchange comes to: the answer for each region, or a refusal with its sheet (1, 2, or 0 where it means both), number and line.
-#[derive(Drop)]
+#[derive(Clone, Copy)]
 pub enum Outcome {
     Answered {
         first: Answer,

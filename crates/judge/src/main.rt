@@ -1,5 +1,7 @@
 // A plan drawn by hand judged over a sheet (document 02, Card 12), the two being files that the arguments name: the line of the verdict, or the line of the
 // refusal. What a refusal means, and what could not be read or written, it says on standard error.
+#![tactic(auto)]
+
 use libc::STDERR_FILENO;
 use model::{BYTES, PLANBYTES};
 use verdicts::Outcome;

@@ -1,4 +1,6 @@
 // Inner: the pairs that a line may ask for (02, Card 6): two different ends with no other end on their path. Only the planner's own crates call it.
+#![tactic(auto)]
+
 ghost use Rattle.std.specs.Prelude.{true, not, ◌≡◌, ◌≤◌, eqb};
 ghost use Rattle.model.specs.Limits.{SITES};
 ghost use Rattle.model.specs.Flows.{Site};

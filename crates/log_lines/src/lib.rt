@@ -1,4 +1,6 @@
 // What a line of a booking log is (document 02, Card 6), and a line of a plan drawn by hand (Card 12), by the grammar of lines.
+#![tactic(auto)]
+
 ghost use Rattle.std.specs.Prelude.{◌≡◌};
 ghost use Rattle.text_fields.specs.Fields.{fields};
 ghost use Rattle.text_grammar.specs.Grammar.{split};
@@ -8,7 +10,7 @@ use model::AMOUNT;
 use text_grammar::{Fields, Form, Size};
 
 // What a line of a log is: an amount, in halves, to open or to give up between two names, which are ranges of places in the line; or a fault.
-#[derive(Drop)]
+#[derive(Clone, Copy)]
 pub enum Line {
     Booking {
         opens: bool,

@@ -1,5 +1,7 @@
 // Inner: the open pairs of a booking log (02, Card 6) in arrays, each pair as one number: one is found, grows, or shrinks. Only the planner's own crates call
 // it.
+#![tactic(auto)]
+
 ghost use Rattle.std.specs.Prelude.{◌≡◌, ◌+◌, ◌≤◌, min};
 ghost use Rattle.lists.specs.Numbers.{is, look, sum};
 ghost use Rattle.model.specs.Limits.{OPEN, SITES};

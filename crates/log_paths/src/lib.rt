@@ -1,5 +1,7 @@
 // Inner: the paths of a tree (02, Card 6): for each site the links between it and the root of the elimination order, as a row of bits; the path of two
 // sites is where their rows differ. Only the planner's own crates call it.
+#![tactic(auto)]
+
 ghost use Rattle.std.specs.Prelude.{◌≡◌, ◌≢◌, ℕ, ◌≤◌, ◌<◌, eqb, length};
 ghost use Rattle.model.specs.Limits.{ROWS, SITES};
 ghost use Rattle.model.specs.Edition.{largest};

@@ -1,5 +1,7 @@
 // Inner: what the lines of a text ask that is read with a sheet, a booking log or a plan drawn by hand (document 02, Cards 6 and 12). Only the planner's own
 // crates call it.
+#![tactic(auto)]
+
 ghost use Rattle.std.specs.Prelude.{true, ◌≡◌, ◌≤◌, length};
 ghost use Rattle.lists.specs.Numbers.{look};
 ghost use Rattle.model.specs.Limits.{SITES};

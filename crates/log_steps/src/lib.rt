@@ -1,5 +1,7 @@
 // Inner: one request of a booking log answered (02, Card 6): the loads of the links on its path and the open pairs are moved, or nothing is.
 // Only the planner's own crates call it.
+#![tactic(auto)]
+
 ghost use Rattle.std.specs.Prelude.{◌≡◌};
 ghost use Rattle.lists.specs.Numbers.{look};
 ghost use Rattle.model.specs.Booking.{Asked};
@@ -13,7 +15,7 @@ use model::{OPEN, Pair, ROWS, Request, SITES};
 use tree_sets::Set;
 
 // What a request gets: the answer, and how many pairs are open then.
-#[derive(Drop)]
+#[derive(Clone, Copy)]
 pub struct Replied {
     pub answer: u64,
     pub count: usize,

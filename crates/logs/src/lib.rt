@@ -1,4 +1,6 @@
 // A booking log replayed over a sheet (document 02, Cards 6 and 7): each line gets one answer.
+#![tactic(auto)]
+
 ghost use Rattle.std.specs.Prelude.{true, false, ◌≡◌, [], ◌++◌, ◌≤◌, length, take, drop};
 ghost use Rattle.lists.specs.Numbers.{look};
 ghost use Rattle.model.specs.Edition.{editions, largest};
@@ -18,7 +20,7 @@ use sheet::{Answer, Lists};
 use sheet_names::TABLE;
 
 // What a replay comes to: so many lines answered, or a refusal with its text (1 the sheet, 2 the log), number and line.
-#[derive(Drop)]
+#[derive(Clone, Copy)]
 pub enum Outcome {
     Answered { count: usize },
     Refused { text: u64, number: u64, line: usize },

@@ -1,4 +1,6 @@
 // What every crate of the planner shares: an entry of a multiflow, and the limits of an edition of the sheet.
+#![tactic(auto)]
+
 ghost use Rattle.std.specs.Prelude.{◌≡◌};
 ghost use Rattle.model.specs.Edition.{edition1, edition2, ranges_low, ranges_high};
 
@@ -59,7 +61,7 @@ pub const PLANBYTES: usize = 65536;
 pub const ROWS: usize = WORDS * PLACES;
 
 // An entry of a multiflow (01: a pair of a plan): two sites and the amount between them.
-#[derive(Drop)]
+#[derive(Clone, Copy)]
 pub struct Pair {
     pub first: usize,
     pub second: usize,
@@ -67,14 +69,14 @@ pub struct Pair {
 }
 
 // A pair list: the first `count` places hold its pairs.
-#[derive(Drop)]
+#[derive(Clone, Copy)]
 pub struct Pairs {
     pub list: [Pair; SITES],
     pub count: usize,
 }
 
 // What a line of a booking log asks (02, Card 6): to open or to give up an amount, in halves, between two sites; or its fault's number, which asks nothing.
-#[derive(Drop)]
+#[derive(Clone, Copy)]
 pub enum Request {
     Open(Pair),
     GiveUp(Pair),
@@ -83,7 +85,7 @@ pub enum Request {
 
 // What a sheet's link lines give (02, Cards 5 and 11): a size and maybe a reserve; or a low and a high size, of which the low one, or the high one, is taken
 // for the capacity.
-#[derive(Drop)]
+#[derive(Clone, Copy)]
 pub enum Sizing {
     Reserved,
     Low,
@@ -92,7 +94,7 @@ pub enum Sizing {
 
 // An edition of the sheet (01: edition; 02, Card 8): what its link lines give, the digit in its heading, and the limits that go with it: bytes of a sheet,
 // sites, the size of a link.
-#[derive(Drop)]
+#[derive(Clone, Copy)]
 pub struct Edition {
     pub sizing: Sizing,
     pub digit: u8,

@@ -1,5 +1,7 @@
 // The order of work over the sheet on standard input (document 02, Card 3): a line for each site in the order taken, its number and its name; or the line of
 // the refusal. What a refusal means, and what could not be read or written, it says on standard error.
+#![tactic(auto)]
+
 ghost use Rattle.std.specs.Prelude.{◌+◌, ◌≤◌, length};
 ghost use Rattle.model.specs.Limits.{BYTES};
 

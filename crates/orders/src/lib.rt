@@ -1,4 +1,6 @@
 // The order of work over a sheet (document 02, Card 3): always the lowest-numbered untaken site with at most one unvisited link.
+#![tactic(auto)]
+
 ghost use Rattle.std.specs.Prelude.{◌≡◌, ◌≤◌, length, take};
 ghost use Rattle.model.specs.Edition.{editions, largest};
 ghost use Rattle.model.specs.Trimming.{elimination};
@@ -10,7 +12,7 @@ ghost use Rattle.orders.specs.Outcome.{store, order_of};
 use sheet::{Answer, Lists};
 
 // What the order of work over a sheet comes to: so many sites taken, or a refusal with its number and line.
-#[derive(Drop)]
+#[derive(Clone, Copy)]
 pub enum Outcome {
     Taken { count: usize },
     Refused { number: u64, line: usize },

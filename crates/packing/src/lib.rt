@@ -1,4 +1,6 @@
 // Inner: what the library's functions answer, as one number, for callers in other languages. Only waderarmoire calls it.
+#![tactic(auto)]
+
 ghost use Rattle.std.specs.Prelude.{◌≡◌};
 ghost use Rattle.packing.specs.Packed.{packed, as_outcome, packed_replay, packed_regions, sums_after, packed_verdict, packed_name};
 ghost use Rattle.packing.specs.PackedSides.{packed_first, packed_side};

@@ -1,4 +1,6 @@
 // What is said of an offered tree with its marks whose capacities are to be paired, and its pair list.
+#![tactic(auto)]
+
 mod weighing;
 
 ghost use Rattle.std.specs.Prelude.{◌≡◌, ℕ, ◌≤◌, length};
@@ -11,7 +13,7 @@ use model::{Pair, Pairs, SITES};
 use tree::Offer;
 
 // What is said of an offered tree whose balanced capacities are to be decomposed into pairs.
-#[derive(Drop)]
+#[derive(Clone, Copy)]
 pub enum Pairing {
     // no tree of two or more sites within the limits, with a mark for each site
     NoTree,
@@ -26,7 +28,7 @@ pub enum Pairing {
 }
 
 // What there is to say and to store: the pairs in the order in which they are made.
-#[derive(Drop)]
+#[derive(Clone, Copy)]
 struct Work {
     answer: Pairing,
     pairs: Pairs,

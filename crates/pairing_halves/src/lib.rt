@@ -1,5 +1,7 @@
 // Inner: lists of halves and of pairs in arrays of numbers: what the walk of pairing adds to them, and how those of a site are settled.
 // Only the planner's own crates call it.
+#![tactic(auto)]
+
 ghost use Rattle.std.specs.Prelude.{◌≡◌, [], ◌∷◌, ◌+◌, ◌<◌, ◌≤◌, min, length};
 ghost use Rattle.std.proofs.Math.Seq.{slice};
 ghost use Rattle.lists.specs.Numbers.{look};
@@ -7,14 +9,14 @@ ghost use Rattle.model.specs.Pairing.{put};
 ghost use Rattle.pairing_halves.specs.Arrays.{flat, Stands, Added, Kept, rest, Lies, still, onward, Cut, Fronts, Matchable, Matching, Settling, Settled};
 
 // A place in a list of halves: in the entry at `at`, after `gone` of its halves.
-#[derive(Drop)]
+#[derive(Clone, Copy)]
 struct Place {
     at: usize,
     gone: u64,
 }
 
 // The ends of the three lists that a walk keeps.
-#[derive(Drop)]
+#[derive(Clone, Copy)]
 pub struct Tops {
     pub ups: usize,
     pub downs: usize,
@@ -117,7 +119,7 @@ fn pair_fronts(
 }
 
 // Where a match ends: its place in the up list, and the end of the pair list.
-#[derive(Drop)]
+#[derive(Clone, Copy)]
 struct Matched {
     place: Place,
     end: usize,

@@ -1,5 +1,7 @@
 // Inner: the decomposition of balanced capacities into pairs (01: pairing), by a walk over each part of the tree (02, Card 7: it falls apart at its
 // marked sites), from the root of the part. Only the planner's own crates call it.
+#![tactic(auto)]
+
 ghost use Rattle.std.specs.Prelude.{◌≡◌, suc, ◌*◌, ◌≤◌, ◌<◌, ◌+◌, ◌-◌, length, set, take};
 ghost use Rattle.model.specs.Limits.{NUMBERS, PLACES, SITES, SIZE};
 ghost use Rattle.lists.specs.Numbers.{look, pick};
@@ -41,7 +43,7 @@ fn next_root(past: usize, n: usize, ends: &[u8; PLACES], done: &mut [u8]) -> usi
 
 // A site whose children are walked: the link to its parent, what comes down over it, what remains for the children to send up,
 // the ends of the lists when it was entered, the half link to the child to come, and that child, PLACES after the last.
-#[derive(Drop)]
+#[derive(Clone, Copy)]
 struct Frame {
     site: usize,
     link: usize,
@@ -54,7 +56,7 @@ struct Frame {
 
 // A child that the walk comes to: the link to it, and the halves that it sends up and that come down to it.
 // The root is taken for one over a link past the last, over which nothing goes.
-#[derive(Drop)]
+#[derive(Clone, Copy)]
 struct Child {
     link: usize,
     up: u64,

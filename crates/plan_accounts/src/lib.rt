@@ -1,5 +1,7 @@
 // Inner: the account of a plan drawn by hand over a tree (02, Card 12): its lines entered up to the lowest faulty one, its loads against the capacities, and the
 // largest total that a plan can have. Only the planner's own crates call it.
+#![tactic(auto)]
+
 ghost use Rattle.std.specs.Prelude.{true, ◌≡◌, [], ◌≤◌, length};
 ghost use Rattle.lists.specs.Numbers.{look};
 ghost use Rattle.model.specs.Limits.{PLANLINES};
@@ -20,7 +22,7 @@ use model::{LINKS, PLACES, ROWS, SITES};
 use sheet_names::TABLE;
 
 // What the lines of a plan come to: the number and the line of the lowest fault; or number 0, the total and the load of each link.
-#[derive(Drop)]
+#[derive(Clone, Copy)]
 pub struct Accounted {
     pub number: u64,
     pub line: usize,

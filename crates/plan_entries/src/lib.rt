@@ -1,5 +1,7 @@
 // Inner: one line of a plan drawn by hand entered (02, Card 12): its pair is marked as given and its amount stands on every link of its path, or its number is
 // told. Only the planner's own crates call it.
+#![tactic(auto)]
+
 ghost use Rattle.std.specs.Prelude.{List};
 ghost use Rattle.model.specs.Booking.{Asked};
 ghost use Rattle.model.specs.declared.Pair.{Pair};
@@ -11,7 +13,7 @@ ghost use Rattle.plan_entries.specs.Holding.{Roomy, Holding, PairEntered, LineEn
 use model::{Pair, ROWS, Request, SITES};
 
 // What a line gets: the number, 0 where it is entered, and the amount that it enters.
-#[derive(Drop)]
+#[derive(Clone, Copy)]
 pub struct Entered {
     pub number: u64,
     pub amount: u64,

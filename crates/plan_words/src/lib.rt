@@ -1,4 +1,6 @@
 // Inner: only the planner's own programs call it. The verdict on a plan drawn by hand as a line, and its refusals in words.
+#![tactic(auto)]
+
 ghost use Rattle.std.specs.Prelude.{[], ◌∷◌, ◌++◌, ◌≤◌};
 ghost use Rattle.text_writers.specs.Wrote.{Wrote};
 ghost use Rattle.plan_words.specs.PlanWords.{verdict_line, plan_whole, plan_cause, plan_words, words_judged};

@@ -1,4 +1,6 @@
 // Planning a sheet.
+#![tactic(auto)]
+
 ghost use Rattle.std.specs.Prelude.{◌≡◌, ◌≤◌, length, take};
 ghost use Rattle.model.specs.Edition.{editions};
 ghost use Rattle.model.specs.Limits.{SIZE};
@@ -17,7 +19,7 @@ use model::{CHAINS, PLACES, Pair, Pairs, REPORT, SITES};
 use sheet::Answer;
 
 // What planning comes to: a report of so many bytes, or a refusal with its number and line.
-#[derive(Drop)]
+#[derive(Clone, Copy)]
 pub enum Outcome {
     Report { length: usize },
     Refused { number: u64, line: usize },

@@ -1,6 +1,8 @@
 // One region by itself (document 02, Card 10), by its sheet, a file that the first argument names, and the two shared names: its first trimmed size of the
 // shared link; with the neighbour's number as a fourth argument its sum and, for each of its links, its trimmed size; or the line of the refusal. What a refusal
 // means, and what could not be read or written, it says on standard error.
+#![tactic(auto)]
+
 ghost use Rattle.std.specs.Prelude.{◌≡◌};
 ghost use Rattle.region.specs.NumberText.{within, written};
 
@@ -9,7 +11,7 @@ use sides::{First, Outcome};
 use text_grammar::Size;
 
 // What the text of a number comes to: its value, or the number of a refusal.
-#[derive(Drop)]
+#[derive(Clone, Copy)]
 enum Number {
     Told(u64),
     Wrong(u64),

@@ -1,5 +1,7 @@
 // Inner: what two regions that share one link are given (document 02, Card 10): each its trimmed sizes and their sum, by the one number that the other shows.
 // Only the planner's own crates call it.
+#![tactic(auto)]
+
 ghost use Rattle.std.specs.Prelude.{◌≡◌, ◌++◌, ◌≤◌, ◌<◌, length, drop};
 ghost use Rattle.model.specs.Edition.{largest};
 ghost use Rattle.theory_regions.specs.Regions.{first_size, given};
@@ -7,7 +9,7 @@ ghost use Rattle.tree.specs.Accepted.{MarkedTree};
 ghost use Rattle.region_sizes.specs.Offered.{region_by};
 
 // The sum that each region is told, over its own ends' links.
-#[derive(Drop)]
+#[derive(Clone, Copy)]
 pub struct Sums {
     pub first: u64,
     pub second: u64,

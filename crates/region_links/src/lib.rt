@@ -1,5 +1,7 @@
 // Inner: the link that two regions share (document 02, Card 10): for each site its partner, the site of the other sheet that has its name, and from there
 // whether the regions share one link, and which. Only the planner's own crates call it.
+#![tactic(auto)]
+
 ghost use Rattle.std.specs.Prelude.{◌≡◌, suc, ◌*◌, ◌≤◌, eqb, length};
 ghost use Rattle.lists.specs.Numbers.{pick, is, differ, sum, look};
 ghost use Rattle.model.specs.Limits.{SITES};

@@ -1,5 +1,7 @@
 // Inner: only the planner's own programs call it. The text of a region's answer (document 02, Card 10): a heading, and a line for each link of its sheet with
 // its trimmed size. Each function writes from a place of the buffer on, as those of text_writers do.
+#![tactic(auto)]
+
 ghost use Rattle.std.specs.Prelude.{◌+◌, ◌*◌, ◌≤◌, length, take};
 ghost use Rattle.model.specs.Edition.{editions};
 ghost use Rattle.model.specs.Limits.{REPORT};

@@ -1,5 +1,7 @@
 // Inner: whether two regions share one link (document 02, Card 10), by the partner of each site of the first, and which link it is in each. Only the
 // planner's own crates call it.
+#![tactic(auto)]
+
 ghost use Rattle.std.specs.Prelude.{◌||◌, ◌≡◌, [], ℕ, ◌*◌, ◌≤◌, eqb};
 ghost use Rattle.lists.specs.Numbers.{look};
 ghost use Rattle.model.specs.Edition.{largest};
@@ -13,7 +15,7 @@ ghost use Rattle.region_sharing.specs.Shared.{shared_by};
 use model::PLACES;
 
 // Whether two regions share one link: no, or its number in each.
-#[derive(Drop)]
+#[derive(Clone, Copy)]
 pub enum Shared {
     Apart,
     Over { first: usize, second: usize },

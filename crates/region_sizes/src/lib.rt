@@ -1,5 +1,7 @@
 // Inner: a region that shares one link (document 02, Card 10): the one number that it shows, and what it is given for the other's number. Nothing of the
 // other region comes here but that number. Only the planner's own crates call it.
+#![tactic(auto)]
+
 ghost use Rattle.std.specs.Prelude.{◌≡◌, [], ◌++◌, ◌*◌, ◌≤◌, ◌<◌, min, eqb, length, take, drop, set};
 ghost use Rattle.lists.specs.Numbers.{pick, is, look};
 ghost use Rattle.model.specs.Limits.{SITES};
@@ -16,7 +18,7 @@ ghost use Rattle.region_sizes.specs.Chart.{Charted};
 use model::{CHAINS, PLACES, SITES};
 
 // What is made once of the tree of a region, for all that is worked out over it.
-#[derive(Drop)]
+#[derive(Clone, Copy)]
 pub struct Chart {
     // the elimination order of its sites
     pub order: [usize; SITES],

@@ -1,5 +1,7 @@
 // Two regions that share one link (document 02, Card 10), by two sheets that the arguments name as files: for each region its sum and, for each of its links,
 // its trimmed size; or the line of the refusal. What a refusal means, and what could not be read or written, it says on standard error.
+#![tactic(auto)]
+
 use exchanges::Outcome;
 use model::{BYTES, SITES};
 

@@ -1,5 +1,7 @@
 // A booking log replayed over a sheet (document 02, Card 6), the two being files that the arguments name: a line for each line of the log, its answer; or
 // the line of the refusal. What a refusal means, and what could not be read or written, it says on standard error.
+#![tactic(auto)]
+
 ghost use Rattle.std.specs.Prelude.{◌+◌, ◌≤◌, min, length, ◌≡◌};
 
 use logs::Outcome;

@@ -1,5 +1,7 @@
 // Inner: only the planner's own crates call it. Writing the report of lists, whatever they were worked out from: each function writes bytes from a place
 // of the buffer on, as far as the buffer goes, and returns the place after them, so that a report is measured and written by the same code.
+#![tactic(auto)]
+
 ghost use Rattle.std.specs.Prelude.{◌≡◌, [], ◌∷◌, ◌++◌, ◌*◌, ◌≤◌, length, take};
 ghost use Rattle.model.specs.Limits.{LINKS, SITES, SIZE};
 ghost use Rattle.lists.specs.Numbers.{pick, upfrom};

@@ -1,5 +1,7 @@
 // Inner: only the planner's own crates call it. Where the fault is and what is wrong, in words. Each function writes from a place of the buffer on, as those of
 // text_writers do.
+#![tactic(auto)]
+
 ghost use Rattle.std.specs.Prelude.{[], ◌∷◌, ◌++◌};
 ghost use Rattle.text_writers.specs.Wrote.{Wrote, Room};
 ghost use Rattle.text_commas.specs.Commas.{grouped};

@@ -1,5 +1,7 @@
 // Inner: only the planner's own programs call it. A program that reads one sheet on standard input and writes its report, or the line of its refusal, to
 // standard output. What a refusal means, and what could not be read or written, it says on standard error.
+#![tactic(auto)]
+
 use model::BYTES;
 use planner::Outcome;
 

@@ -1,4 +1,6 @@
 // Inner: only the planner's own programs call it. The refusals in words. Each function writes from a place of the buffer on, as those of text_writers do.
+#![tactic(auto)]
+
 ghost use Rattle.text_writers.specs.Wrote.{Wrote};
 ghost use Rattle.std.specs.Prelude.{◌≤◌};
 ghost use Rattle.report_words.specs.Words.{words};

@@ -1,4 +1,6 @@
 // Reading a network sheet (document 01, "The network sheet"): from its bytes to the network and the names, or to its refusal.
+#![tactic(auto)]
+
 ghost use Rattle.std.specs.Prelude.{◌≡◌, ◌≤◌, length};
 ghost use Rattle.model.specs.Limits.{SITES};
 ghost use Rattle.model.specs.Edition.{editions, ranges_low, ranges_high};
@@ -13,7 +15,7 @@ use sheet_names::TABLE;
 use stepping::Step;
 
 // What a sheet is answered: accepted, or refused with the refusal's number and its line.
-#[derive(Drop)]
+#[derive(Clone, Copy)]
 pub enum Answer {
     Accepted,
     Refused { number: u64, line: usize },
@@ -21,7 +23,7 @@ pub enum Answer {
 
 // The network of a sheet: for each site the range of its name on the sheet and its mark (1 marked, 0 not), for each link its two sites and its capacity,
 // each in the order of the sheet, with zeros behind them; and how many sites and links there are.
-#[derive(Drop)]
+#[derive(Clone, Copy)]
 pub struct Lists {
     pub start: [usize; SITES],
     pub end: [usize; SITES],
@@ -34,14 +36,14 @@ pub struct Lists {
 }
 
 // A part of a sheet, from a start to an end.
-#[derive(Drop)]
+#[derive(Clone, Copy)]
 pub struct Range {
     pub start: usize,
     pub end: usize,
 }
 
 // What reading a sheet comes to; the network of a sheet that is refused is empty.
-#[derive(Drop)]
+#[derive(Clone, Copy)]
 pub struct Reading {
     pub answer: Answer,
     pub network: Lists,

@@ -16,7 +16,7 @@ use sheet_names::{Found, TABLE};
 use sheet_scan::Scanned;
 
 // What a line adds to the network, or its refusal: the number and the line.
-#[derive(Drop)]
+#[derive(Clone, Copy)]
 pub enum Step {
     Nothing,
     Site { start: usize, end: usize, mark: u8 },

@@ -1,5 +1,7 @@
 // What a line of a network sheet is (document 01, "The network sheet"; 02, Card 5, the reserve of a link; Card 7, the mark of a site; Card 11, the low and
 // the high size of a link), by the grammar of lines.
+#![tactic(auto)]
+
 ghost use Rattle.std.specs.Prelude.{◌≡◌};
 ghost use Rattle.text_fields.specs.Fields.{same, fields, field};
 ghost use Rattle.text_grammar.specs.Grammar.{split, size_of};
@@ -11,7 +13,7 @@ use sheet_sizes::Capacity;
 use text_grammar::{Fields, Form, Size};
 
 // What a line below the heading is (01: a site, a link or a fault). Names are ranges of places in the line.
-#[derive(Drop)]
+#[derive(Clone, Copy)]
 pub enum Line {
     // 1 marked (02, Card 7: letter `T`), 0 not
     Site {

@@ -1,4 +1,6 @@
 // Inner: the names of sites, as ranges of a sheet, and their look-up by a table of hashes. Sites whose names have one hash are chained.
+#![tactic(auto)]
+
 ghost use Rattle.std.specs.Prelude.{◌≡◌, ◌≤◌, min, length};
 ghost use Rattle.model.specs.Limits.{SITES};
 ghost use Rattle.text_fields.specs.Fields.{caseless};
@@ -13,7 +15,7 @@ pub const HASHES: usize = 4 * SITES;
 pub const TABLE: usize = HASHES + PLACES;
 
 // What the look-up of a name finds: the number of the site, or that no site above has the name.
-#[derive(Drop)]
+#[derive(Clone, Copy)]
 pub enum Found {
     At(usize),
     Absent,

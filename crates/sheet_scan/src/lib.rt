@@ -1,5 +1,7 @@
 // Inner: a line of a network sheet (document 01, "The network sheet"): where it ends and what it is, in one scan where that leaves no doubt, and else
 // as `text_lines` and `sheet_kinds` find it. Only the planner's own crates call it.
+#![tactic(auto)]
+
 ghost use Rattle.std.specs.Prelude.{true, ◌≡◌, ◌+◌, ◌≤◌, ◌<◌, length};
 ghost use Rattle.text_fields.specs.Fields.{is_letter_or_digit};
 ghost use Rattle.sheet_scan.specs.Scan.{scanned, Run, SomeLetter, NameAt, DigitsFound, NumberFound, one_number, NumbersFound};
@@ -10,7 +12,7 @@ use sheet_kinds::Line;
 use sheet_sizes::Capacity;
 
 // A line of a sheet: what it is, the offset at which it ends, and that of the next line.
-#[derive(Drop)]
+#[derive(Clone, Copy)]
 pub struct Scanned {
     pub line: Line,
     pub end: usize,
@@ -18,21 +20,21 @@ pub struct Scanned {
 }
 
 // A number on the sheet: the offset at which it ends, and its value.
-#[derive(Drop)]
+#[derive(Clone, Copy)]
 enum Number {
     Doubt,
     Till { end: usize, value: u64 },
 }
 
 // The numbers of a link line: the offset at which they and the line end, and their values; 0 stands for a second one that is not there.
-#[derive(Drop)]
+#[derive(Clone, Copy)]
 enum Numbers {
     Doubt,
     Till { end: usize, first: u64, second: u64 },
 }
 
 // What one scan finds: what the line is and the offset at which it ends.
-#[derive(Drop)]
+#[derive(Clone, Copy)]
 enum Quick {
     Doubt,
     Sure { line: Line, end: usize },

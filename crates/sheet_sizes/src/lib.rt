@@ -1,4 +1,6 @@
 // The capacity that the two numbers of a link line give (document 02, Card 5, a size and a reserve; Card 11, a low and a high size).
+#![tactic(auto)]
+
 ghost use Rattle.std.specs.Prelude.{cond, ◌≡◌, leb};
 ghost use Rattle.model.specs.declared.Sizing.TheVariants.{Reserved};
 ghost use Rattle.sheet_sizes.specs.Sizes.{paired, capacity_of};
@@ -8,7 +10,7 @@ use model::Sizing;
 use text_grammar::Size;
 
 // The capacity that a link line gives: its usable size, or the refusal's number.
-#[derive(Drop)]
+#[derive(Clone, Copy)]
 pub enum Capacity {
     Usable(u64),
     Faulty(u64),

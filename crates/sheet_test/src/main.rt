@@ -1,5 +1,7 @@
 // Sheets to try: each part of the input, up to a byte 12, is a title line and a sheet. The program writes the title and the sheet's answer:
 // accepted with the numbers of sites and links, the name of the last site and the numbers of the marked sites, or refused with number and line.
+#![tactic(auto)]
+
 ghost use Rattle.std.specs.Prelude.{◌≤◌, length};
 
 use libc::STDOUT_FILENO;

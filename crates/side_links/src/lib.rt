@@ -1,5 +1,7 @@
 // Inner: the shared link in one region by itself (document 02, Card 10), over its lists: the link that two names mean, its first trimmed size, and what is given
 // for the neighbour's number. Only the planner's own crates call it.
+#![tactic(auto)]
+
 ghost use Rattle.std.specs.Prelude.{◌≡◌, [], ◌++◌, ◌≤◌, ◌<◌, length, take, drop};
 ghost use Rattle.model.specs.Edition.{largest};
 ghost use Rattle.theory_regions.specs.Regions.{first_size, given};

@@ -1,4 +1,6 @@
 // One region by itself (document 02, Card 10), in two steps: what it shows of the shared link, and its answer for the one number that the neighbour shows.
+#![tactic(auto)]
+
 ghost use Rattle.std.specs.Prelude.{◌≡◌};
 ghost use Rattle.model.specs.Edition.{editions};
 ghost use Rattle.planner.specs.Taken.{Listed};
@@ -7,7 +9,7 @@ ghost use Rattle.sides.specs.Outcome.{first_shown, answered};
 use sheet::{Answer, Lists};
 
 // What the first step comes to: this region's first trimmed size of the shared link, or a refusal with its number and line.
-#[derive(Drop)]
+#[derive(Clone, Copy)]
 pub enum First {
     Shown { size: u64 },
     Refused { number: u64, line: usize },
@@ -15,7 +17,7 @@ pub enum First {
 
 // What the second step comes to: the number of trimmed sizes, which stand in the lent list, and their sum over the region's own ends' links; or a refusal
 // with its number and line.
-#[derive(Drop)]
+#[derive(Clone, Copy)]
 pub enum Outcome {
     Answered { count: usize, sum: u64 },
     Refused { number: u64, line: usize },

@@ -1,5 +1,7 @@
 // The span of a range sheet (document 02, Card 11): sizes still under survey are known as between a low and a high one; the report tells what the total and
 // the trimmed sizes lie between.
+#![tactic(auto)]
+
 ghost use Rattle.std.specs.Prelude.{◌≡◌, ◌≤◌, leb, length, take};
 ghost use Rattle.model.specs.Edition.{ranges_high};
 ghost use Rattle.sheet.specs.Sheet.{read_as};

@@ -1,4 +1,6 @@
 // Inner: only the planner's own crates call it. A number with commas, written from a place of the buffer on, as text_writers does.
+#![tactic(auto)]
+
 ghost use Rattle.std.specs.Prelude.{[], ◌∷◌, ◌++◌};
 ghost use Rattle.text_writers.specs.Wrote.{Wrote, Room};
 ghost use Rattle.text_commas.specs.Commas.{three, grouped};

@@ -1,4 +1,6 @@
 // The fields of a line, and which of them are names and numbers (document 01, "The network sheet").
+#![tactic(auto)]
+
 ghost use Rattle.std.specs.Prelude.{◌≡◌, [], ◌∷◌, ◌&&◌, ◌+◌, ◌≤◌, ◌<◌, leb, length};
 ghost use Rattle.text_fields.specs.Fields.{same, capital, same_name, caseless, word, last_word};
 ghost use Rattle.text_fields.specs.Fields.{all, is_digit, digits_alone, is_letter_or_digit, is_name, is_number};

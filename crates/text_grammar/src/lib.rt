@@ -1,5 +1,7 @@
 // Inner: the grammar of a line (document 01, "The network sheet"): its fields in one pass, and the first rule of a form that they break.
 // Only the planner's own crates call it.
+#![tactic(auto)]
+
 ghost use Rattle.std.specs.Prelude.{◌≡◌, ◌+◌, ◌-◌, ◌*◌, ◌≤◌, ◌<◌, leb, length, set};
 ghost use Rattle.std.proofs.Math.Seq.{slice};
 ghost use Rattle.text_fields.specs.Fields.{fields, field, all};
@@ -10,14 +12,14 @@ pub const FIELDS: usize = 5;
 
 // The fields of a line: the places where the first of them end, and how many there are. A field starts one place past the end of the
 // field before it.
-#[derive(Drop)]
+#[derive(Clone, Copy)]
 pub struct Fields {
     pub end: [usize; FIELDS],
     pub count: usize,
 }
 
 // The form of a line: its letter, how many names follow, and the least and the most numbers that follow them.
-#[derive(Drop)]
+#[derive(Clone, Copy)]
 pub struct Form {
     pub letter: u8,
     pub names: usize,
@@ -26,7 +28,7 @@ pub struct Form {
 }
 
 // What a line is found to be when it is held against a form: formed, or the first of the rules that it breaks.
-#[derive(Drop)]
+#[derive(Clone, Copy)]
 pub enum Check {
     Formed,
     Letter,
@@ -37,7 +39,7 @@ pub enum Check {
 }
 
 // What some fields of a line have to be: names, not of digits alone, or numbers.
-#[derive(Drop)]
+#[derive(Clone, Copy)]
 enum Rule {
     Name,
     Lettered,
@@ -45,7 +47,7 @@ enum Rule {
 }
 
 // The value of a number, where it is within a limit.
-#[derive(Drop)]
+#[derive(Clone, Copy)]
 pub enum Size {
     Within(u64),
     Above,

@@ -1,5 +1,7 @@
 // The line reader (document 01, "The network sheet"): it stands over a lent sheet at an offset and hands out the line there as that very
 // part of the sheet. The work is done by covered functions on slice and offset; the methods are thin and proved by hand.
+#![tactic(auto)]
+
 ghost use Rattle.std.specs.Prelude.{false, ◌≡◌, ◌+◌, ◌≤◌, length, drop};
 ghost use Rattle.text_lines.specs.Lines.{line_length, line_start, line_end, after_line, has_line, IsLine};
 ghost use Rattle.text_lines.specs.LineLaws.{NoTen};
@@ -92,7 +94,7 @@ fn after_line(sheet: &[u8], at: usize) -> usize
 }
 
 // A sheet and the offset of the next line on it (01: line reader).
-#[derive(Drop)]
+#[derive(Clone, Copy)]
 pub struct LineReader<'a> {
     pub sheet: &'a [u8],
     pub at: usize,

@@ -1,4 +1,6 @@
 // Inner: only the planner's own programs call it. A refusal of a program: its line on standard output, and what it means on standard error.
+#![tactic(auto)]
+
 use libc::STDERR_FILENO;
 
 // Writes the line of a refusal to standard output, and then what it means to standard error.

@@ -1,11 +1,13 @@
 // Inner: only the planner's own programs call it. Standard input, files and standard output of a program; what fails is told on standard error in a line that
 // begins with `standard` or `file`, by which the script that runs the program knows it.
+#![tactic(auto)]
+
 ghost use Rattle.io.specs.Counts.{IsPrefixLen};
 
 use libc::{STDERR_FILENO, STDIN_FILENO, STDOUT_FILENO};
 
 // What standard input or a file came to: so many bytes, and whether each read went well.
-#[derive(Drop)]
+#[derive(Clone, Copy)]
 pub struct Input {
     pub count: usize,
     pub whole: bool,

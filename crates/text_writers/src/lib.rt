@@ -1,5 +1,7 @@
 // Inner: only the planner's own crates call it. Writing bytes: each function writes from a place of the buffer on, as far as the buffer goes, and
 // returns the place after what it wrote, so that a report is measured and written by the same code. Each requires room for its own text.
+#![tactic(auto)]
+
 ghost use Rattle.std.specs.Prelude.{◌≡◌, [], ◌∷◌, ◌++◌, ◌+◌, ◌-◌, ◌≤◌, ◌<◌, min, length, take, drop};
 ghost use Rattle.std.proofs.lemmas.List.Edits.{sets};
 ghost use Rattle.model.specs.Limits.{REPORT};

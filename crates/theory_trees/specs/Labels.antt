@@ -2,7 +2,7 @@
 -- The one tool: what the sites of every link share, sites of one label share.
 use Rattle.std.specs.Prelude.{◌≡◌, refl, ◌≢◌, ◌↔◌, [], ◌∷◌, ℕ, zero, suc, ◌+◌, ◌-◌, ◌≤◌, ◌<◌, length}
 use Rattle.std.proofs.Common.{sym, ap, ◌∙◌, arith}
-use Rattle.std.proofs.Math.Logic.{Iff·rfl, Iff·symm, Iff·trans}
+use mathlib.Core.Logic.Iff
 use Rattle.lists.specs.Numbers.{pick, is, sum}
 use Rattle.model.specs.Flows.{Links, Site, Ends, one, two, relabel, label, joined, Joined, same, link, back, chain}
 use Rattle.lists.specs.Sums.{pick_same, pick_other, pick_cases, pick_const, is_same, is-other, is_one, is_le, is_mono, is_iff, sum_one, sum-none, sum-eq}
@@ -25,16 +25,16 @@ linked (a ∷ ls) (suc i) l = ap (relabel (label ls a.0) (label ls a.1)) (linked
 -- what the ends of every link share, a site and its label share
 pub along : (ls : Links) (P : ℕ → Type 0) → ((i : ℕ) → i < length ls → P (one ls i) ↔ P (two ls i)) → (x : ℕ) → P (label ls x) ↔ P x
 unfolding label relabel
-along [] P h x = Iff·rfl
+along [] P h x = Iff.rfl
 along (a ∷ ls) P h x =
     let ih = along ls P (λ i l. h (suc i) (omega arith)) in
     pick_cases (λ r. P r ↔ P x) (label ls x) (label ls a.1) (label ls a.0) (label ls x)
-    (λ e. Iff·trans (ih a.0) (Iff·trans (h zero (omega arith)) (Iff·trans (Iff·symm (ih a.1)) (rw (← e) (ih x)))))
+    (λ e. Iff.trans (ih a.0) (Iff.trans (h zero (omega arith)) (Iff.trans (Iff.symm (ih a.1)) (rw (← e) (ih x)))))
     (λ d. ih x)
 
 -- a label is its own label
 pub label-label : (ls : Links) (x : ℕ) → label ls (label ls x) ≡ label ls x
-label-label ls x = (along ls (λ y. label ls y ≡ label ls x) (λ i l. rw (linked ls i l) Iff·rfl) x).1 refl
+label-label ls x = (along ls (λ y. label ls y ≡ label ls x) (λ i l. rw (linked ls i l) Iff.rfl) x).1 refl
 
 -- what the ends of every link share, sites of one label share
 pub induct : (ls : Links) (P : ℕ → Type 0) → ((i : ℕ) → i < length ls → P (one ls i) ↔ P (two ls i)) → (x y : ℕ) → label ls x ≡ label ls y → P x → P y
@@ -42,7 +42,7 @@ induct ls P h x y e p = (along ls P h y).0 (rw e at ((along ls P h x).1 p))
 
 -- the same for a function: equal at the ends of every link, equal at sites of one label
 pub agree : (ls : Links) (f : ℕ → ℕ) → ((i : ℕ) → i < length ls → f (one ls i) ≡ f (two ls i)) → (x y : ℕ) → label ls x ≡ label ls y → f x ≡ f y
-agree ls f h x y e = induct ls (λ z. f x ≡ f z) (λ i l. rw (h i l) Iff·rfl) x y e refl
+agree ls f h x y e = induct ls (λ z. f x ≡ f z) (λ i l. rw (h i l) Iff.rfl) x y e refl
 
 -- joined sites have one label
 pub joined-label : (ls : Links) {a b : ℕ} → Joined ls a b → label ls a ≡ label ls b

@@ -3,7 +3,7 @@
 use Rattle.std.specs.Prelude.{◌≡◌, ◌≢◌, ◌↔◌, [], ◌∷◌, length}
 use Rattle.std.proofs.Math.Path.{refl}
 use Rattle.std.proofs.Common.{sym, ap, ◌∙◌}
-use Rattle.std.proofs.Math.Logic.{Iff·rfl, Iff·symm, Iff·trans}
+use mathlib.Core.Logic.Iff
 use Prim.Native.Nat.{ℕ, zero, suc, ◌+◌, ◌*◌, ◌≤◌, ◌<◌}
 use native.Mathlib.Omega.{arith}
 use Rattle.std.proofs.Math.Decide.{dec_le, dec_lt}
@@ -39,13 +39,13 @@ kept-linked u (a ∷ ls) (suc i) l h =
 kept-along : (u : ℕ → ℕ) (ls : Links) (P : ℕ → Type 0) → ((i : ℕ) → i < length ls → u i ≡ 1 → P (one ls i) ↔ P (two ls i))
     → (x : ℕ) → P (label (kept u ls) x) ↔ P x
 unfolding kept label relabel
-kept-along u [] P h x = Iff·rfl
+kept-along u [] P h x = Iff.rfl
 kept-along u (a ∷ ls) P h x =
     let rest = kept (λ i. u (suc i)) ls in
     let ih = kept-along (λ i. u (suc i)) ls P (λ i p. h (suc i) (omega arith)) in
     same? (u 0) 1
     (λ e. rw (pick_same e) (pick_cases (λ r. P r ↔ P x) (label rest x) (label rest a.1) (label rest a.0) (label rest x)
-    (λ q. Iff·trans (ih a.0) (Iff·trans (h 0 (omega arith) e) (Iff·trans (Iff·symm (ih a.1)) (rw (← q) (ih x)))))
+    (λ q. Iff.trans (ih a.0) (Iff.trans (h 0 (omega arith) e) (Iff.trans (Iff.symm (ih a.1)) (rw (← q) (ih x)))))
     (λ q. ih x)))
     (λ d. rw (pick_other d) (ih x))
 
@@ -57,7 +57,7 @@ kept_induct u ls P h x y e p = (kept-along u ls P h y).0 (rw e at ((kept-along u
 -- the same for a function
 pub kept_agree : (u : ℕ → ℕ) (ls : Links) (f : ℕ → ℕ) → ((i : ℕ) → i < length ls → u i ≡ 1 → f (one ls i) ≡ f (two ls i))
     → (x y : ℕ) → label (kept u ls) x ≡ label (kept u ls) y → f x ≡ f y
-kept_agree u ls f h x y e = kept_induct u ls (λ z. f x ≡ f z) (λ i l k. rw (h i l k) Iff·rfl) x y e refl
+kept_agree u ls f h x y e = kept_induct u ls (λ z. f x ≡ f z) (λ i l k. rw (h i l k) Iff.rfl) x y e refl
 
 -- ---- groups: sites joined by unsaturated links
 

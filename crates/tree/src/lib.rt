@@ -1,4 +1,6 @@
 // A tree that is offered as lists: whether it is one within the limits of the edition, and the elimination order of its sites.
+#![tactic(auto)]
+
 ghost use Rattle.std.specs.Prelude.{◌&&◌, ◌≡◌, ℕ, ◌<◌, eqb, length};
 ghost use Rattle.lists.specs.Numbers.{look};
 ghost use Rattle.model.specs.Edition.{largest};
@@ -11,7 +13,7 @@ use model::{SITES, SIZE};
 use tree_order::Order;
 
 // What a function that is offered a tree with capacities says of the offer.
-#[derive(Drop)]
+#[derive(Clone, Copy)]
 pub enum Offer {
     // no tree of two or more sites within the limits
     NoTree,
@@ -130,7 +132,7 @@ fn offer_of(tree: bool, links: usize, capacity: &[u64]) -> Offer
 }
 
 // What is said of an offered tree, and the elimination order of its sites: 0 past the last site, and everywhere if it is refused.
-#[derive(Drop)]
+#[derive(Clone, Copy)]
 pub struct Elimination {
     pub offer: Offer,
     pub sites: [usize; SITES],

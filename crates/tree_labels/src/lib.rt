@@ -1,4 +1,6 @@
 // The labels of sites: sites that links join have the same label. Place x has the label of site x, and place 0 is unused.
+#![tactic(auto)]
+
 ghost use Rattle.std.specs.Prelude.{◌≡◌};
 ghost use Rattle.model.specs.Limits.{PLACES};
 ghost use Rattle.lists.specs.Numbers.{upfrom};

@@ -1,4 +1,6 @@
 // Inner: the links at each site of a tree as chains, the sums along them, and the ends. Only the planner's own crates call it.
+#![tactic(auto)]
+
 ghost use Rattle.std.specs.Prelude.{◌≢◌, ◌≡◌, ℕ, suc, ◌+◌, ◌*◌, ◌≤◌, ◌<◌, length};
 ghost use Rattle.model.specs.Limits.{SITES};
 ghost use Rattle.lists.specs.Numbers.{pick, look};
@@ -12,7 +14,7 @@ ghost use Rattle.tree_links.specs.Chains.{Placed, Chained, Limited, Summed};
 use model::{CHAINS, PLACES};
 
 // The links at each site as chains, the last link first; links are counted from 1, and 0 is none.
-#[derive(Drop)]
+#[derive(Clone, Copy)]
 pub struct Chains {
     // the last link at each site
     pub last: [usize; PLACES],

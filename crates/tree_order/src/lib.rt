@@ -1,6 +1,8 @@
 // Inner: the elimination order of the sites of a tree, by the links that each site has left. Only the planner's own crates call it.
 // A link's share is 65536 more than its position, and a site's key the sum of the shares of its unvisited links:
 // with at most one such link it is below 131072, and with just one it is that link's share. A taken site has the key 131072.
+#![tactic(auto)]
+
 ghost use Rattle.std.specs.Prelude.{◌≡◌, ◌≢◌, ℕ, suc, ◌+◌, ◌-◌, ◌*◌, ◌≤◌, ◌<◌, max, length, set, replicate};
 ghost use Rattle.model.specs.Limits.{PLACES, SITES};
 ghost use Rattle.lists.specs.Numbers.{pick, is, count, look};
@@ -45,7 +47,7 @@ fn lowest_from(from: usize, n: usize, keys: &[usize; PLACES]) -> usize
 }
 
 // Where to look for the lowest site with a key below 131072: at the site `back`, if it is not 0, else from `from` on.
-#[derive(Drop)]
+#[derive(Clone, Copy)]
 struct Search {
     from: usize,
     back: usize,
@@ -139,7 +141,7 @@ fn take_all(
 }
 
 // Sites in the order taken, and whether all could be taken.
-#[derive(Drop)]
+#[derive(Clone, Copy)]
 pub struct Order {
     pub sites: [usize; SITES],
     pub all: bool,

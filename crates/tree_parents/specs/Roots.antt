@@ -1,6 +1,7 @@
 -- Parents and roots: the parents before the first link, a way made shorter, a root put under another, and labels read off the roots.
 use Rattle.std.specs.Prelude.{List, ◌≢◌, ◌⊎◌, ◌≡◌, refl, ℕ, ◌+◌, ◌≤◌, ◌<◌, length, set}
-use Rattle.std.proofs.Math.Logic.{inl, inr, ⊎_elim, Iff·rfl, Iff·trans}
+use Rattle.std.proofs.Math.Logic.{inl, inr, ⊎_elim}
+use mathlib.Core.Logic.Iff
 use Rattle.std.proofs.Math.Path.{sym, ap}
 use Rattle.std.proofs.Common.{◌∙◌, arith, get_or-set_same, get_or-set_other}
 use Rattle.std.proofs.Math.Decide.{dec_lt}
@@ -40,13 +41,13 @@ module _ {parents : List ℕ} {x : ℕ} where
 -- ---- a site gets the parent of its parent
 
 pub shorter_none : {p : List ℕ} → Lower p → Shorter p p
-shorter_none h = record { long = refl; lower = h; roots = λ x. Iff·rfl; tells = λ label t. t }
+shorter_none h = record { long = refl; lower = h; roots = λ x. Iff.rfl; tells = λ label t. t }
 
 pub shorter_more : {p q r : List ℕ} → Shorter p q → Shorter q r → Shorter p r
 shorter_more s t = record {
   long = t.long ∙ s.long;
   lower = t.lower;
-  roots = λ x. Iff·trans (s.roots x) (t.roots x);
+  roots = λ x. Iff.trans (s.roots x) (t.roots x);
   tells = λ label w. t.tells label (s.tells label w);
 }
 

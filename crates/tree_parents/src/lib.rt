@@ -1,5 +1,7 @@
 // Inner: the labels of sites (tree_labels) held by parents while links come in: each site has a parent, itself or a lower site, and the root that the parents lead to
 // tells the label. Before the first link every site is its own parent. Place x is that of site x, and place 0 is unused. Only the planner's own crates call it.
+#![tactic(auto)]
+
 ghost use Rattle.std.specs.Prelude.{◌<◌, length};
 ghost use Rattle.tree_parents.specs.Parents.{Lower, Root, Shorter, Joins, Settled};
 

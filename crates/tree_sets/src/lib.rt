@@ -1,4 +1,6 @@
 // A set of numbers below SITES as words of 64 bits: members are counted by ones and walked by trailing zeros.
+#![tactic(auto)]
+
 ghost use Rattle.std.specs.Prelude.{◌≡◌, ◌≢◌, ℕ, ◌+◌, ◌-◌, ◌*◌, ◌≤◌, ◌<◌};
 ghost use Rattle.model.specs.Limits.{SITES, WORDS};
 ghost use Rattle.lists.specs.Numbers.{look, sum};
@@ -8,20 +10,20 @@ ghost use Rattle.tree_sets.specs.Walks.{within, lowest, Standing, Walked};
 use model::{SITES, WORDS};
 
 // A set of numbers below SITES: m is the bit m % 64 of the word m / 64.
-#[derive(Drop)]
+#[derive(Clone, Copy)]
 pub struct Set {
     pub words: [u64; WORDS],
 }
 
 // A walk over the members of a set, from the lowest up: the member that it stands at, and those of its word from there up; SITES and none behind the last.
-#[derive(Drop)]
+#[derive(Clone, Copy)]
 pub struct Walk {
     pub place: usize,
     pub left: u64,
 }
 
 // A member that was looked for.
-#[derive(Drop)]
+#[derive(Clone, Copy)]
 pub enum Found {
     At(usize),
     Absent,

@@ -1,5 +1,7 @@
 // Plans the sheets on standard input, each ended by byte 0, and prints the answer to each; then plans the first of them into a buffer just as long as
 // its answer, and into one a byte shorter, and prints number, line and length.
+#![tactic(auto)]
+
 ghost use Rattle.std.specs.Prelude.{◌≤◌, length};
 
 use libc::{STDIN_FILENO, STDOUT_FILENO};

@@ -1,4 +1,6 @@
 // Balanced capacities of an offered tree (01: trimming), with its ends as terminals: each site with one link, and each marked one (02, Card 7).
+#![tactic(auto)]
+
 ghost use Rattle.std.specs.Prelude.{◌≡◌, ◌++◌, ◌≤◌, length, take, drop};
 ghost use Rattle.model.specs.Edition.{largest};
 ghost use Rattle.model.specs.Trimming.{elimination};
@@ -10,7 +12,7 @@ use model::SITES;
 use tree::Offer;
 
 // What is said of an offered tree whose capacities are to be balanced.
-#[derive(Drop)]
+#[derive(Clone, Copy)]
 pub enum Trimming {
     // no tree of two or more sites within the limits, with a mark for each site
     NoTree,

@@ -1,4 +1,6 @@
 // Inner: balanced capacities of a tree (01: trimming), cut at each site inward along an order, then outward against it. Only the planner's own crates call it.
+#![tactic(auto)]
+
 ghost use Rattle.std.specs.Prelude.{◌≡◌, [], ◌∷◌, ◌++◌, ◌-◌, ◌*◌, ◌≤◌, ◌<◌, min, length, set, take, drop};
 ghost use Rattle.model.specs.Limits.{SITES};
 ghost use Rattle.lists.specs.Numbers.{look};

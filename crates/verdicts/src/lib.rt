@@ -1,4 +1,6 @@
 // A plan drawn by hand judged over a sheet (document 02, Card 12): its total, and whether it is one of the largest.
+#![tactic(auto)]
+
 ghost use Rattle.std.specs.Prelude.{true, ◌≡◌, [], ◌≤◌, length, take};
 ghost use Rattle.lists.specs.Numbers.{look};
 ghost use Rattle.model.specs.Limits.{PLANLINES};
@@ -17,7 +19,7 @@ use sheet::{Answer, Lists};
 
 // What judging a plan comes to: its total in halves and whether no fitting plan has a greater one; or a refusal with its text (1 the sheet, 2 the plan),
 // number and line.
-#[derive(Drop)]
+#[derive(Clone, Copy)]
 pub enum Outcome {
     Judged { total: u64, largest: bool },
     Refused { text: u64, number: u64, line: usize },

@@ -1,4 +1,6 @@
 // Inner: the loads and the end sets of the report in whole circuits (02, Card 2), and the number of its odd pieces. Only the planner's own crates call it.
+#![tactic(auto)]
+
 ghost use Rattle.std.specs.Prelude.{◌≡◌, ℕ, ◌+◌, ◌*◌, ◌≤◌, ◌<◌, length, take};
 ghost use Rattle.model.specs.Limits.{PLACES, SITES, SIZE};
 ghost use Rattle.lists.specs.Numbers.{over, look};

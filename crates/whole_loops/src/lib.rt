@@ -1,5 +1,7 @@
 // Inner: the two ways of a plan in whole circuits along an order of the sites (02, Card 2): intervals inward, loads and sets outward.
 // Only the planner's own crates call it.
+#![tactic(auto)]
+
 ghost use Rattle.whole_loops.specs.Ways.{Given, Inward, Found};
 
 use model::{PLACES, SITES};

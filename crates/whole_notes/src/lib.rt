@@ -1,5 +1,7 @@
 // Inner: what the two ways of a plan in whole circuits note of a site (02, Card 2), and what a note becomes as its site, a child or the parent has its turn.
 // Only the planner's own crates call it.
+#![tactic(auto)]
+
 ghost use Rattle.std.specs.Prelude.{◌≡◌, ◌-◌, ◌*◌, ◌≤◌, min, max};
 ghost use Rattle.model.specs.Limits.{SITES, SIZE};
 ghost use Rattle.lists.specs.Numbers.{pick, is};
@@ -9,7 +11,7 @@ ghost use Rattle.whole_notes.specs.Notes.{Within, least_of, taken_note, joined_n
 // What the two ways note of a site: the loads that its children can bring together, from `least` to `most` in steps of 2; those that the link to the
 // parent lets through, from `low` to `high`; the child with the greatest `high`; the terminal to which such children lead; the load of the link to the
 // parent; the terminal whose set the site is in, or 0; and 1 if it is on the way of its set to the terminal.
-#[derive(Drop)]
+#[derive(Clone, Copy)]
 pub struct Note {
     pub least: u32,
     pub most: u32,

@@ -1,4 +1,6 @@
 // Inner: the parent of each site in the elimination order of a tree, and the capacity of the link to it. Only the planner's own crates call it.
+#![tactic(auto)]
+
 ghost use Rattle.std.specs.Prelude.{◌≡◌, take, ◌≤◌};
 ghost use Rattle.model.specs.Limits.{SITES};
 ghost use Rattle.model.specs.Edition.{largest};
@@ -12,7 +14,7 @@ use model::{PLACES, SITES};
 
 // The child of each link, of its two sites the one that is taken first; at place x the parent of site x, and the capacity of the link to it,
 // 0 where there is none.
-#[derive(Drop)]
+#[derive(Clone, Copy)]
 pub struct Parents {
     pub child: [u16; SITES],
     pub parent: [u16; PLACES],
