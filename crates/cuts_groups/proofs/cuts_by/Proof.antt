@@ -20,17 +20,17 @@ returns c =
     let cut' = labelled a.n a.labels.now in
     let e = made.sets.ensures in
     rw (
-      put.put-owners.ensures.0 ∙ owners-alike cut cut' a.labels.now e _ a.ends.now a.n
+      put.put_owners.ensures.0 ∙ owners-alike cut cut' a.labels.now e _ a.ends.now a.n
           ∙ ap (λ l. owners_to cut' a.labels.now l a.ends.now a.n) s.requires.2.owners,
-      put.put-owners.ensures.1
+      put.put_owners.ensures.1
           ∙ places_same (of_terminal (look a.ends.now) (members cut a.labels.now)) (of_terminal (look a.ends.now) (members cut' a.labels.now))
           a.n s.requires.0
           (of_alike (look a.ends.now) (members cut a.labels.now) (members cut' a.labels.now) (members_alike cut cut' a.labels.now e)),
-      c.terminal-sizes.ensures,
+      c.terminal_sizes.ensures,
     ) refl
 
-pub cuts-by-spec : {M : Type 1} → statement M
-cuts-by-spec =
+pub cuts_by_spec : {M : Type 1} → statement M
+cuts_by_spec =
     tie.close
     (tie.spec
     (λ c κs. let p = c.before.requires in (p.0, p.1, refl))

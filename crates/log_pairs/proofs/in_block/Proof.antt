@@ -24,37 +24,37 @@ miss : (f : List ℕ) (key at i : ℕ) → look f (at + i) ≢ key → among f k
 unfolding sum
 miss f key at i d = rw (add-one i) (omega (arith, is-other d))
 
-abbrev invariant-loop : tie.invariant-loop
+abbrev invariant-loop : tie.invariant-loop-i
 invariant-loop key at pairs seen₀ i₀ seen i = (i ≤ BLOCK) × (seen ≡ among pairs key at i)
 
-abbrev decreases-loop : tie.decreases-loop
+abbrev decreases-loop : tie.decreases-loop-i
 decreases-loop key at pairs seen₀ i₀ seen i = BLOCK - i
 
-loop-holds : tie.Need-loop-init invariant-loop decreases-loop
+loop-holds : tie.Need-loop-i-init invariant-loop decreases-loop
 unfolding sum
 loop-holds c = (omega arith, refl)
 
-loop-again : tie.Need-loop-preserved invariant-loop decreases-loop
+loop-again : tie.Need-loop-i-preserved invariant-loop decreases-loop
 loop-again c =
-    let t = c.before.before.before in
+    let t = c.before.before.before.before in
     let a = t.before.args in
     let f = a.pairs.now in (
       omega arith,
       ⊎_elim
-          (λ w. w.1 ∙ hit f a.key a.at t.loop.i w.0.taken)
-          (λ w. w.1 ∙ t.loop.invariant.1 ∙ miss f a.key a.at t.loop.i w.0.left)
-          c.if1.branch,
+          (λ w. w.1 ∙ hit f a.key a.at t.loop-i.i w.0.taken)
+          (λ w. w.1 ∙ t.loop-i.invariant.1 ∙ miss f a.key a.at t.loop-i.i w.0.left)
+          c.if-pairs-at.branch,
     )
 
 returns : tie.Need-returns invariant-loop decreases-loop
 returns c =
     let t = c.before in
     let a = t.before.args in
-    let e : t.loop.i ≡ BLOCK = omega arith in
-    t.loop.invariant.1 ∙ ap (among a.pairs.now a.key a.at) e
+    let e : t.loop-i.i ≡ BLOCK = omega arith in
+    t.loop-i.invariant.1 ∙ ap (among a.pairs.now a.key a.at) e
 
-pub in-block-spec : {M : Type 1} → statement M
-in-block-spec =
+pub in_block_spec : {M : Type 1} → statement M
+in_block_spec =
     tie.close
     (tie.spec
     invariant-loop

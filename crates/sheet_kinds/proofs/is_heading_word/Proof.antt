@@ -3,17 +3,17 @@ use borrow.Author.Rules.{rules}
 use Rattle.sheet_kinds.proofs.is_heading_word.Statement.{statement}
 use Rattle.sheet_kinds.proofs.is_heading_word.Tie as tie
 
-returns : tie.Need-returns
-returns c = rw c.before.before.enum_told.given.1 c.same.ensures
+returns : tie.Need-returns-in-Reserved
+returns c = rw c.before.before.before.in-Reserved.is c.same.ensures
 
-returns-2 : tie.Need-returns-2
-returns-2 c = rw c.before.before.enum-told2.given.1 c.same2.ensures
+returns-2 : tie.Need-returns-in-Low
+returns-2 c = rw c.before.before.before.in-Low.is c.same-in-Low.ensures
 
-returns-3 : tie.Need-returns-3
-returns-3 c = rw c.before.before.enum-told3.given.1 c.same3.ensures
+returns-3 : tie.Need-returns-in-High
+returns-3 c = rw c.before.before.before.in-High.is c.same-in-High.ensures
 
-pub is-heading-word-spec : {M : Type 1} → statement M
-is-heading-word-spec =
+pub is_heading_word_spec : {M : Type 1} → statement M
+is_heading_word_spec =
     tie.close
     (tie.spec
     (λ c. search rules)
