@@ -16,7 +16,7 @@ returns c =
     let made = put.before.before.before.before in
     let s = made.before.before in
     let a = s.args in
-    let cut = in_words made.sets.new.1.1.0 in
+    let cut = in_words made.sets.new.words.1.0 in
     let cut' = labelled a.n a.labels.now in
     let e = made.sets.ensures in
     rw (

@@ -15,7 +15,7 @@ join-kept-requires c κs = let p = c.before.before.before.before.before.before.r
 
 -- the labels have places
 small : (c : tie.After-settle) → (x : ℕ) → look c.settle.new.parents x ≤ SITES
-small c = settled_small c.settle.ensures c.before.before.before.join_Kept.ensures.0
+small c = settled_small c.settle.ensures c.before.before.before.join_kept.ensures.0
 
 sums-leaving-requires : tie.Need-sums_leaving-requires
 sums-leaving-requires c κs =
@@ -25,7 +25,7 @@ sums-leaving-requires c κs =
 returns : tie.Need-returns
 returns c =
     let settle = c.before.before.before.before in
-    let kept = settle.before.before.before.join_Kept.ensures in
+    let kept = settle.before.before.before.join_kept.ensures in
     let s = settle.before.before.before.before.before.before.before.before.before.before in
     let a = s.args in
     let cuts = settled_cuts settle.settle.ensures kept.0 (links a.one.now a.two.now) (look a.capacity.now) (look a.balanced.now) kept.2 in
@@ -42,7 +42,7 @@ of_links_spec =
     (λ c κs. tt)
     (λ c. search rules)
     join-kept-requires
-    (λ c. sym c.before.before.join_Kept.ensures.0)
-    (λ c κs. c.before.before.join_Kept.ensures.1)
+    (λ c. sym c.before.before.join_kept.ensures.0)
+    (λ c κs. c.before.before.join_kept.ensures.1)
     sums-leaving-requires
     returns)

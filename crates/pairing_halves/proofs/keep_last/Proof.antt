@@ -28,7 +28,7 @@ keep_last_spec =
     (λ c. (entry c.before.before).1)
     (λ c. omega (arith, entry c.before.before))
     (λ c κs. simp length-set (omega (arith, entry c.before.before.before, c.before.before.before.before.before.requires.0.stands)))
-    (λ c. c.before.before.move_down.auto.0 ∙ simp length-set)
+    (λ c. c.before.before.move_down.auto.list ∙ simp length-set)
     (λ c. let at-if1 = c.before.before.before.before.before.before in
     let start = at-if1.before.before in
     kept_last start.requires.0 at-if1.if-to-at.false start.requires.1 c.before.before.move_down.ensures))

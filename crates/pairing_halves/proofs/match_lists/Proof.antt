@@ -50,7 +50,7 @@ next c =
 ends : tie.Need-overflow_add-end invariant-loop decreases-loop
 ends c =
     let t = begun c.before.before.before.before in
-    let s = t.before.before.before.loop-down.inv in
+    let s = t.before.before.before.loop-down.invariant in
     let a = t.before.before.before.before.before.before.before in
     omega (arith, match_room s t.loop-down-test.taken a.pre.room, s.pairs.below.as_long, a.good.1.1.1.1.0)
 

@@ -9,7 +9,7 @@ use Rattle.pairing_halves.proofs.settle.Tie as tie
 spare : tie.Need-keep_first-requires
 spare c κs =
     let s = c.before.before.before.before.before.before.before.before.before in
-    omega (arith, s.find.ensures.lies.stands.begins, s.before.before.before.before.before.requires.spare)
+    omega (arith, s.find-cut.ensures.lies.stands.begins, s.before.before.before.before.before.requires.spare)
 
 settled : tie.Need-returns
 settled c =

@@ -20,7 +20,7 @@ size-of-requires : tie.Need-size_of-requires
 size-of-requires c κs = search rules
 
 returns-2 : tie.Need-returns
-returns-2 c = rw c.before.field.ensures at c.type_size.ensures
+returns-2 c = rw c.before.field.ensures at c.size_of.ensures
 
 pub second_spec : {M : Type 1} → statement M
 second_spec = tie.close (tie.spec returns field-requires size-of-requires returns-2)

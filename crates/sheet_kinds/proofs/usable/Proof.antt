@@ -31,7 +31,7 @@ capacity-of-requires c κs = search rules
 
 returns : tie.Need-returns
 returns c =
-    rw (rw c.before.before.before.field.ensures at c.before.before.type_size.ensures, c.before.second.ensures) at c.capacity_of.ensures
+    rw (rw c.before.before.before.field.ensures at c.before.before.size_of-first.ensures, c.before.second.ensures) at c.capacity_of.ensures
 
 pub usable_spec : {M : Type 1} → statement M
 usable_spec =

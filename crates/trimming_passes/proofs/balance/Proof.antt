@@ -26,7 +26,7 @@ both-ways-requires c κs =
     let s = copied.before.before.before.before.before.before in
     let tree = s.requires.0 in
     let in-places = elimination_in_places tree in
-    let long : length summed.sums-sums.result ≡ PLACES = search (rules, summed.sums-sums.type-inv) in
+    let long : length summed.sums-sums.result ≡ PLACES = search (rules, summed.sums-sums.type_inv) in
     let kept = copied_kept tree s.args.lent.now s.requires.3 long summed.sums-sums.ensures in
     (omega (arith, tree.few), rw s.requires.1 in-places, s.requires.2, rw copied.copy.ensures kept)
 
