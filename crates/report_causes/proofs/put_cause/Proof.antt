@@ -8,120 +8,69 @@ use borrow.Author.Rules.{rules}
 use Rattle.report_causes.proofs.put_cause.Statement.{statement}
 use Rattle.report_causes.proofs.put_cause.Tie as tie
 
-slice-aggregate-put-bytes : tie.Need-slice-aggregate-put-bytes
-slice-aggregate-put-bytes c = search rules
-
 put-bytes-requires : tie.Need-put_bytes-requires
 unfolding cause pick ℕ_discrete
 put-bytes-requires c κs = rw (c.before.before.before.in-1.is, the_bytes_are_told) at c.before.before.before.before.before.requires
-
-slice-aggregate-put-bytes-2 : tie.Need-slice-aggregate-put-bytes-2
-slice-aggregate-put-bytes-2 c = search rules
 
 put-bytes-requires-2 : tie.Need-put_bytes-requires-in-2
 unfolding cause pick ℕ_discrete
 put-bytes-requires-2 c κs = rw c.before.before.before.in-2.is at c.before.before.before.before.before.requires
 
-slice-aggregate-put-limit : tie.Need-slice-aggregate-put-limit
-slice-aggregate-put-limit c = search rules
-
 put-limit-requires : tie.Need-put_limit-requires
 unfolding cause pick ℕ_discrete
 put-limit-requires c κs = rw c.before.before.before.in-3.is at c.before.before.before.before.before.requires
-
-slice-aggregate-put-bytes-3 : tie.Need-slice-aggregate-put-bytes-3
-slice-aggregate-put-bytes-3 c = search rules
 
 put-bytes-requires-3 : tie.Need-put_bytes-requires-in-4
 unfolding cause pick ℕ_discrete
 put-bytes-requires-3 c κs = rw (c.before.before.before.in-4.is, the_sites_are_told) at c.before.before.before.before.before.requires
 
-slice-aggregate-put-bytes-4 : tie.Need-slice-aggregate-put-bytes-4
-slice-aggregate-put-bytes-4 c = search rules
-
 put-bytes-requires-4 : tie.Need-put_bytes-requires-in-5
 unfolding cause pick ℕ_discrete
 put-bytes-requires-4 c κs = rw c.before.before.before.in-5.is at c.before.before.before.before.before.requires
-
-slice-aggregate-put-bytes-5 : tie.Need-slice-aggregate-put-bytes-5
-slice-aggregate-put-bytes-5 c = search rules
 
 put-bytes-requires-5 : tie.Need-put_bytes-requires-in-6
 unfolding cause pick ℕ_discrete
 put-bytes-requires-5 c κs = rw c.before.before.before.in-6.is at c.before.before.before.before.before.requires
 
-slice-aggregate-put-bytes-6 : tie.Need-slice-aggregate-put-bytes-6
-slice-aggregate-put-bytes-6 c = search rules
-
 put-bytes-requires-6 : tie.Need-put_bytes-requires-in-7
 unfolding cause pick ℕ_discrete
 put-bytes-requires-6 c κs = rw c.before.before.before.in-7.is at c.before.before.before.before.before.requires
-
-slice-aggregate-put-bytes-7 : tie.Need-slice-aggregate-put-bytes-7
-slice-aggregate-put-bytes-7 c = search rules
 
 put-bytes-requires-7 : tie.Need-put_bytes-requires-in-8
 unfolding cause pick ℕ_discrete
 put-bytes-requires-7 c κs = rw c.before.before.before.in-8.is at c.before.before.before.before.before.requires
 
-slice-aggregate-put-bytes-8 : tie.Need-slice-aggregate-put-bytes-8
-slice-aggregate-put-bytes-8 c = search rules
-
 put-bytes-requires-8 : tie.Need-put_bytes-requires-in-9
 unfolding cause pick ℕ_discrete
 put-bytes-requires-8 c κs = rw c.before.before.before.in-9.is at c.before.before.before.before.before.requires
-
-slice-aggregate-put-bytes-9 : tie.Need-slice-aggregate-put-bytes-9
-slice-aggregate-put-bytes-9 c = search rules
 
 put-bytes-requires-9 : tie.Need-put_bytes-requires-in-10
 unfolding cause pick ℕ_discrete
 put-bytes-requires-9 c κs = rw c.before.before.before.in-10.is at c.before.before.before.before.before.requires
 
-slice-aggregate-put-bytes-10 : tie.Need-slice-aggregate-put-bytes-10
-slice-aggregate-put-bytes-10 c = search rules
-
 put-bytes-requires-10 : tie.Need-put_bytes-requires-in-11
 unfolding cause pick ℕ_discrete
 put-bytes-requires-10 c κs = rw c.before.before.before.in-11.is at c.before.before.before.before.before.requires
-
-slice-aggregate-put-bytes-11 : tie.Need-slice-aggregate-put-bytes-11
-slice-aggregate-put-bytes-11 c = search rules
 
 put-bytes-requires-11 : tie.Need-put_bytes-requires-in-12
 unfolding cause pick ℕ_discrete
 put-bytes-requires-11 c κs = rw c.before.before.before.in-12.is at c.before.before.before.before.before.requires
 
-slice-aggregate-put-bytes-12 : tie.Need-slice-aggregate-put-bytes-12
-slice-aggregate-put-bytes-12 c = search rules
-
 put-bytes-requires-12 : tie.Need-put_bytes-requires-in-13
 unfolding cause pick ℕ_discrete
 put-bytes-requires-12 c κs = rw c.before.before.before.in-13.is at c.before.before.before.before.before.requires
-
-slice-aggregate-put-bytes-13 : tie.Need-slice-aggregate-put-bytes-13
-slice-aggregate-put-bytes-13 c = search rules
 
 put-bytes-requires-13 : tie.Need-put_bytes-requires-in-17
 unfolding cause pick ℕ_discrete
 put-bytes-requires-13 c κs = rw c.before.before.before.in-17.is at c.before.before.before.before.before.requires
 
-slice-aggregate-put-bytes-14 : tie.Need-slice-aggregate-put-bytes-14
-slice-aggregate-put-bytes-14 c = search rules
-
 put-bytes-requires-14 : tie.Need-put_bytes-requires-in-18
 unfolding cause pick ℕ_discrete
 put-bytes-requires-14 c κs = rw c.before.before.before.in-18.is at c.before.before.before.before.before.requires
 
-slice-aggregate-put-bytes-15 : tie.Need-slice-aggregate-put-bytes-15
-slice-aggregate-put-bytes-15 c = search rules
-
 put-bytes-requires-15 : tie.Need-put_bytes-requires-in-19
 unfolding cause pick ℕ_discrete
 put-bytes-requires-15 c κs = rw c.before.before.before.in-19.is at c.before.before.before.before.before.requires
-
-slice-aggregate-put-bytes-16 : tie.Need-slice-aggregate-put-bytes-16
-slice-aggregate-put-bytes-16 c = search rules
 
 put-bytes-requires-16 : tie.Need-put_bytes-requires-in_default
 put-bytes-requires-16 c κs =
@@ -269,39 +218,22 @@ pub put_cause_spec : {M : Type 1} → statement M
 put_cause_spec =
     tie.close
     (tie.spec
-    slice-aggregate-put-bytes
     put-bytes-requires
-    slice-aggregate-put-bytes-2
     put-bytes-requires-2
-    slice-aggregate-put-limit
     put-limit-requires
-    slice-aggregate-put-bytes-3
     put-bytes-requires-3
-    slice-aggregate-put-bytes-4
     put-bytes-requires-4
-    slice-aggregate-put-bytes-5
     put-bytes-requires-5
-    slice-aggregate-put-bytes-6
     put-bytes-requires-6
-    slice-aggregate-put-bytes-7
     put-bytes-requires-7
-    slice-aggregate-put-bytes-8
     put-bytes-requires-8
-    slice-aggregate-put-bytes-9
     put-bytes-requires-9
-    slice-aggregate-put-bytes-10
     put-bytes-requires-10
-    slice-aggregate-put-bytes-11
     put-bytes-requires-11
-    slice-aggregate-put-bytes-12
     put-bytes-requires-12
-    slice-aggregate-put-bytes-13
     put-bytes-requires-13
-    slice-aggregate-put-bytes-14
     put-bytes-requires-14
-    slice-aggregate-put-bytes-15
     put-bytes-requires-15
-    slice-aggregate-put-bytes-16
     put-bytes-requires-16
     same_length
     returns

@@ -9,9 +9,6 @@ use borrow.Author.Rules.{rules}
 use Rattle.report_causes.proofs.put_place.Statement.{statement}
 use Rattle.report_causes.proofs.put_place.Tie as tie
 
-slice-aggregate-put-part : tie.Need-slice-aggregate-put-part
-slice-aggregate-put-part c = search rules
-
 put-part-requires : tie.Need-put_part-requires
 put-part-requires c κs =
     let s = c.before.before.before.before.before in
@@ -24,9 +21,6 @@ returns : tie.Need-returns-then-line-eq0
 returns c =
     let s = c.before.before.before.before.before.before.before.before in
     rw (no_line s.args.line (omega arith)) c.before.before.put_part.ensures
-
-slice-aggregate-put-part-2 : tie.Need-slice-aggregate-put-part-2
-slice-aggregate-put-part-2 c = search rules
 
 put-part-requires-2 : tie.Need-put_part-word-requires
 put-part-requires-2 c κs =
@@ -41,9 +35,6 @@ put-number-requires c κs =
     let l = s.args.line in
     let room = rw (some-line l (λ e. omega (arith, e))) at s.requires in
     room_front _ (decimal l ++ (58 ∷ [])) (32 ∷ []) (room_after word.put_part-word.ensures ((decimal l ++ (58 ∷ [])) ++ (32 ∷ [])) room)
-
-slice-aggregate-put-part-3 : tie.Need-slice-aggregate-put-part-3
-slice-aggregate-put-part-3 c = search rules
 
 put-part-requires-3 : tie.Need-put_part-requires-2
 put-part-requires-3 c κs =
@@ -69,14 +60,11 @@ pub put_place_spec : {M : Type 1} → statement M
 put_place_spec =
     tie.close
     (tie.spec
-    slice-aggregate-put-part
     put-part-requires
     same_length
     returns
-    slice-aggregate-put-part-2
     put-part-requires-2
     put-number-requires
-    slice-aggregate-put-part-3
     put-part-requires-3
     same-length-2
     returns-2)

@@ -57,7 +57,7 @@ next c =
     let site = ap (look a.order.now) c.before.before.before.before.before.before.before.there_and_back.ensures
     ∙ on_the_way a.n a.order.now (enough s) i (omega (arith, more)) in (
       omega (arith, more),
-      c.before.before.cut.auto.capacity.1.1.1.1.1.1.0 ∙ t.loop-i.invariant.1,
+      c.before.before.cut.auto.capacity ∙ t.loop-i.invariant.1,
       c.before.before.cut.ensures.1,
       c.before.before.cut.ensures.0
           ∙ ap₂ (λ v l. cut_first a.one.now a.two.now (look a.ends.now) (v ∷ []) l) site t.loop-i.invariant.3

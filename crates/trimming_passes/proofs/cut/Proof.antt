@@ -27,7 +27,7 @@ terminal c =
 -- where the function began
 abbrev begun : tie.After-middle_at-p → tie.Start
 begun m =
-    let earlier = m.before.before.before.before.before.before.before.before in
+    let earlier = m.before.before.before.before.before.before.before.before.before in
     earlier
 
 -- the tree's links
@@ -56,7 +56,7 @@ none-middle c =
     let m = c.before in
     let s = begun m in
     let a = s.args in
-    let k = s.pre.2 in (
+    let k = s.requires.2 in (
       cut-none a.one.now a.two.now (look a.ends.now) k.placed.seconds a.v a.capacity.now k.each
           (λ j l at-v inner. m.middle_at-p.ensures.others j l at-v (λ z. omega (arith, c.if-p-eq0.true))),
       k,
@@ -68,7 +68,7 @@ not-heavy c =
     let m = e.before in
     let s = begun m in
     let a = s.args in
-    let k = s.pre.2 in
+    let k = s.requires.2 in
     let p = m.middle_at-p.result in (
       cut-none a.one.now a.two.now (look a.ends.now) k.placed.seconds a.v a.capacity.now k.each
           (λ j l at-v inner. same? j (p - 1)
@@ -81,7 +81,7 @@ lower-requires : tie.Need-lower-requires
 lower-requires c κs =
     let e = c.before.before.before.before in
     let s = begun e.before in
-    (omega (arith, e.before.middle_at-p.ensures.there.0, number s, e.if-p-eq0.false), omega arith, s.pre.2)
+    (omega (arith, e.before.middle_at-p.ensures.there.0, number s, e.if-p-eq0.false), omega arith, s.requires.2)
 
 heavy : tie.Need-returns
 heavy c =
@@ -90,7 +90,7 @@ heavy c =
     let m = e.before in
     let s = begun m in
     let a = s.args in
-    let k = s.pre.2 in
+    let k = s.requires.2 in
     let done = c.before.before.lower.ensures in (
       done.0
           ∙ cut-one a.one.now a.two.now (look a.ends.now) k.placed.seconds a.v a.capacity.now m.middle_at-p.result _ k.each
@@ -110,8 +110,8 @@ cut_spec =
     (λ c. search rules)
     none-middle
     (λ c. omega arith)
-    (λ c. let s = begun c.before in omega (arith, c.before.middle_at-p.ensures.there.0, number s, s.pre.2.placed.few))
-    (λ c. let e = c.before in let s = begun e.before in omega (arith, e.before.middle_at-p.ensures.there.0, number s, s.pre.2.each, e.if-p-eq0.false))
+    (λ c. let s = begun c.before in omega (arith, c.before.middle_at-p.ensures.there.0, number s, s.requires.2.placed.few))
+    (λ c. let e = c.before in let s = begun e.before in omega (arith, e.before.middle_at-p.ensures.there.0, number s, s.requires.2.each, e.if-p-eq0.false))
     (λ c. fits c.before)
     (λ c. search rules)
     not-heavy

@@ -25,7 +25,7 @@ decreases-loop v total last before one two capacity passed₀ p₀ passed p = p
 -- where the loop began
 abbrev begun : tie.At-loop-p invariant-loop decreases-loop → tie.Start invariant-loop decreases-loop
 begun t =
-    let earlier = t.before.before.before.before.before in
+    let earlier = t.before.before.before.before.before.before in
     earlier
 
 -- the tree's links
@@ -78,7 +78,7 @@ found c =
     let part : at (ls s) a.v j * look a.capacity.now j ≤ sum (p - 1) (each s) = sum_ge (p - 1) j (each s) l in omega (arith, rw at-v at part) in
     record {
       there = (omega (arith, number s), on.1);
-      others = λ j l at-v d. rw (← s.pre.3) (cases (dec_le p j)
+      others = λ j l at-v d. rw (← s.requires.3) (cases (dec_le p j)
           (λ h. t.loop-p.invariant.2 j h (omega (arith, number s)) at-v)
           (λ h. omega (
             arith,
@@ -96,7 +96,7 @@ back c =
     let t = c.before.before.before.before in
     let s = begun t in
     let here = t.loop-p.invariant.0.1 c.before.before.before.loop-p-test.true in
-    walk_goes_on s.pre.1 s.args.v (t.loop-p.p - 1) c.link_before-p.result (omega arith) here c.link_before-p.ensures
+    walk_goes_on s.requires.1 s.args.v (t.loop-p.p - 1) c.link_before-p.result (omega arith) here c.link_before-p.ensures
 
 falls : tie.Need-loop-p-smaller invariant-loop decreases-loop
 falls c =
@@ -128,7 +128,7 @@ none c =
     let s = begun t in
     record {
       there = (omega arith, λ h. absurd (omega arith));
-      others = λ j l at-v d. rw (← s.pre.3) (t.loop-p.invariant.2 j (omega arith) (omega (arith, number s)) at-v);
+      others = λ j l at-v d. rw (← s.requires.3) (t.loop-p.invariant.2 j (omega arith) (omega (arith, number s)) at-v);
     }
 
 pub middle_at_spec : {M : Type 1} → statement M
@@ -143,11 +143,11 @@ middle_at_spec =
     (λ c. omega arith)
     (λ c. omega arith)
     (λ c. omega arith)
-    (λ c. omega (arith, passing c.before, (begun c.before.before).fits.sum))
+    (λ c. omega (arith, passing c.before, (begun c.before.before).ranges.sum))
     (λ c. omega (arith, passing c.before))
     found
     (λ c. omega arith)
-    (λ c κs. let f = (begun c.before.before.before).pre.1.placed in (omega arith, omega arith, omega arith))
+    (λ c κs. let f = (begun c.before.before.before).requires.1.placed in (omega arith, omega arith, omega arith))
     falls
     next
     none)

@@ -85,8 +85,8 @@ parents_of_spec =
     decreases-loop
     (λ c κs. let s = c.before.before.before in ordered-within s.requires.0 s.requires.1)
     loop-holds
-    (λ c. omega (arith, turn c))
-    (λ c. omega (arith, turn c))
+    (λ c. omega arith)
+    (λ c. omega arith)
     (λ c. omega (arith, turn c))
     (λ c. omega (arith, turn c))
     (λ c. omega (arith, turn c.before))
