@@ -1,6 +1,5 @@
 -- `sets_of` meets its contract: with the owners as labels, the cuts by the labels are the sets.
 use mathlib.Core.Path.{refl, ◌∙◌}
-use borrow.Author.Rules.{rules}
 use Rattle.cuts_groups.proofs.ByOwners.{cuts_by_owners}
 use Rattle.cuts_groups.proofs.sets_of.Statement.{statement}
 use Rattle.cuts_groups.proofs.sets_of.Tie as tie

@@ -5,7 +5,7 @@ use mathlib.Core.List.{List}
 use Prim.Native.Nat.{ℕ, ◌+◌, ◌-◌, ◌≤◌, ◌<◌, min}
 use native.Mathlib.Decide.{dec_lt}
 use native.Mathlib.Omega.{arith}
-use Rattle.model.specs.Limits.{PLACES, SITES}
+use Rattle.model.specs.Limits.{SITES}
 use Rattle.lists.specs.Numbers.{is, look, sum}
 use Rattle.lists.specs.Sums.{cases, is_same, sum_ge}
 use Rattle.log_pairs.specs.Arrays.{packed, BLOCK, FirstFrom, FirstPlace}

@@ -33,26 +33,26 @@ spent : (c : tie.After-pair_fronts-amount invariant-loop decreases-loop) → let
     × (t.up.gone + c.pair_fronts-amount.result ≤ look a.ups.now (t.up.at + 1))
     × (t.down.gone + c.pair_fronts-amount.result ≤ look a.downs.now (t.down.at + 1))
 spent c =
-    let f = match_fronts (begun c).before.before.before.loop-down.invariant (begun c).if1.true in
+    let f = match_fronts (begun c).before.before.before.loop-down.invariant (begun c).loop-down-test.true in
     (f, omega (arith, c.pair_fronts-amount.ensures.0, f.up-partly), omega (arith, c.pair_fronts-amount.ensures.0, f.down-partly))
 
 falls : tie.Need-loop-down-smaller invariant-loop decreases-loop
 falls c =
     let m = c.before.before.before.before in
-    rw (c.spend-down.ensures, m.pair_fronts-amount.ensures.0) (match_falls (begun m).before.before.before.loop-down.invariant (begun m).if1.true)
+    rw (c.spend-down.ensures, m.pair_fronts-amount.ensures.0) (match_falls (begun m).before.before.before.loop-down.invariant (begun m).loop-down-test.true)
 
 next : tie.Need-loop-down-preserved invariant-loop decreases-loop
 next c =
     let m = c.before.before.before.before in
     rw (c.before.spend-up.ensures, c.spend-down.ensures, m.pair_fronts-amount.ensures.0)
-    (match-next (begun m).before.before.before.loop-down.invariant (begun m).if1.true (rw m.pair_fronts-amount.ensures.0 at m.pair_fronts-amount.ensures.1))
+    (match-next (begun m).before.before.before.loop-down.invariant (begun m).loop-down-test.true (rw m.pair_fronts-amount.ensures.0 at m.pair_fronts-amount.ensures.1))
 
 ends : tie.Need-overflow_add-end invariant-loop decreases-loop
 ends c =
     let t = begun c.before.before.before.before in
     let s = t.before.before.before.loop-down.invariant in
     let a = t.before.before.before.before.before.before.before in
-    omega (arith, match_room s t.loop-down-test.taken a.pre.room, s.pairs.below.as_long, a.good.1.1.1.1.0)
+    omega (arith, match_room s t.loop-down-test.true a.requires.room, s.pairs.below.as_long, a.well_formed.1.1.1.1.0)
 
 pub match_lists_spec : {M : Type 1} → statement M
 match_lists_spec =

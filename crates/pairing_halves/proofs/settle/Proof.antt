@@ -31,8 +31,8 @@ settle_spec =
     settling_matches start.requires c.before.find-cut.ensures)
     (λ c κs. let m = c.before.before.before.before.match_lists-matched.ensures in (m.lies, m.begins))
     spare
-    (λ c. c.before.before.before.before.before.before.keep_last.auto.0)
-    (λ c. c.before.before.keep_first.auto.0)
+    (λ c. c.before.before.before.before.before.before.keep_last.auto.list)
+    (λ c. c.before.before.keep_first.auto.list)
     (λ c. let at-match-lists = c.before.before.before.before.before.before.before.before.before.before.before in
-    at-match-lists.match_lists-matched.auto.1.1.1.1.0)
+    at-match-lists.match_lists-matched.auto.pairs)
     settled)
