@@ -20,7 +20,7 @@ says c = sym c.before.before.trim-answer.ensures.0 ∙ c.in-Balanced.is
 -- what it leaves is a tree to be summed
 left : (c : tie.In-Balanced) → let a = c.before.before.before.before.before.before.before.before.args in
     MarkedTree largest a.n a.one.now a.two.now a.marks.now
-    (take (length a.one.now) c.before.before.trim-answer.new.1.1.1.1.1.0)
+    (take (length a.one.now) c.before.before.trim-answer.new.lent)
 left c =
     let s = c.before.before.before.before.before.before.before.before in
     rw c.before.before.trim-answer.ensures.1 (what_is_left_is_a_tree s.requires.0 s.requires.1 (replicate 4 0) (says c))
@@ -32,7 +32,7 @@ array-share-prefix-trimmed c =
       arith,
       (left c).within.firsts,
       (left c).within.capacities,
-      length-take (length a.one.now) c.before.before.trim-answer.new.1.1.1.1.1.0,
+      length-take (length a.one.now) c.before.before.trim-answer.auto.lent,
     )
 
 slice-aggregate-at-ends : tie.Need-slice_bounds-at_ends-end

@@ -28,11 +28,11 @@ is-formed c = judged_right _ _ _ (fault-is c.before) c.if-fault-ne0.false
 
 -- the line, by what its amount was found to be
 line-is : (c : tie.After-size_of-size) → let a = c.before.before.before.before.before.before.before.args in let fs = fields a.line.now in
-    line_as a.letter a.opens fs ≡ booking_of a.opens (length (field fs 1)) (length (field fs 2)) c.type_size.result
+    line_as a.letter a.opens fs ≡ booking_of a.opens (length (field fs 1)) (length (field fs 2)) c.size_of-size.result
 line-is c =
     let a = c.before.before.before.before.before.before.before.args in
     let fs = fields a.line.now in
-    let size : c.type_size.result ≡ size_of AMOUNT (field fs 3) = rw c.before.field.ensures at c.type_size.ensures in
+    let size : c.size_of-size.result ≡ size_of AMOUNT (field fs 3) = rw c.before.field.ensures at c.size_of-size.ensures in
     (is-formed c.before.before).1 ∙ booking_by_size a.opens fs ∙ rw size
 
 returns : tie.Need-returns-then-fault-ne0

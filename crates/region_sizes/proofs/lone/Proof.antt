@@ -17,7 +17,7 @@ returns-2 : tie.Need-returns
 returns-2 c =
     let s = c.before.before.before.before.before.before in
     let a = s.args in
-    c.is_IsLeaf.ensures
+    c.is_leaf.ensures
     ∙ ap (λ x. eqb x 1)
     (a-leaf-without-a-mark-is-lone a.n a.one.now a.two.now a.marks.now a.v s.requires.1.0 c.before.if-marks-v-eq1.false)
 

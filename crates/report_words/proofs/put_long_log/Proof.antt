@@ -44,10 +44,10 @@ pub put_long_log_spec : {M : Type 1} → statement M
 put_long_log_spec =
     tie.close
     (tie.spec
+    (λ c κs. search rules)
     (λ c κs. omega (arith, first c.before.before.before, short LOGBYTES (omega arith)))
-    (λ c κs. omega (arith, second c.before.before.before.before))
+    (λ c κs. omega (arith, second c.before.before.before.before.before))
     (λ c κs. omega (arith, third c.before.before.before, short LOGLINES (omega arith)))
-    (λ c. search rules)
     (λ c κs. omega (arith, fourth c.before.before.before.before.before))
     (λ c. search rules)
     returns)

@@ -24,13 +24,13 @@ abbrev decreases-loop : tie.decreases-loop-i
 decreases-loop sheet from value₀ i₀ v i = from + 8 - i
 
 -- the byte at place i is a digit, and the value before it is of few
-is_digit : (c : tie.Else-not-is_digit invariant-loop decreases-loop) → let top = c.before.before.before.before in
+next_is_digit : (c : tie.Else-not-is_digit invariant-loop decreases-loop) → let top = c.before.before.before.before in
     is_digit (get_or top.before.before.args.sheet.now top.loop-i.i 0) ≡ true
-is_digit c = sym c.before.is_digit.ensures ∙ c.if-not-is_digit.false
+next_is_digit c = sym c.before.is_digit.ensures ∙ c.if-not-is_digit.false
 
 digit : (c : tie.Else-not-is_digit invariant-loop decreases-loop) → let top = c.before.before.before.before in
     let b = get_or top.before.before.args.sheet.now top.loop-i.i 0 in (48 ≤ b) × (b ≤ 57)
-digit c = digit_bounds _ (is_digit c)
+digit c = digit_bounds _ (next_is_digit c)
 
 few : (c : tie.Else-not-is_digit invariant-loop decreases-loop) → c.before.before.before.before.loop-i.value < 100000000
 few c =
@@ -57,7 +57,7 @@ loop-again c =
       omega arith,
       omega arith,
       rw more (one_digit_more l.value (l.i - a.from) _ l.invariant.2 (omega (arith, digit c))),
-      run_more is_digit s a.from l.i l.invariant.3 (is_digit c),
+      run_more is_digit s a.from l.i l.invariant.3 (next_is_digit c),
       λ to p q. l.invariant.4 to (omega arith) q ∙ value_on s l.value l.i to (omega arith) q,
     )
 

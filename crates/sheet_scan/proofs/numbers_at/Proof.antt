@@ -17,15 +17,15 @@ first-here c =
     subst (NumberFound a.sheet.now a.from a.edition.size) k.in-Till.is k.before.number_at-first.ensures
 
 abbrev one : tie.In-Till-second → tie.In-Till
-one c = c.before.before.before.before.before.before.before.before
+one c = c.before.before.before.before.before.before
 
-second-here : (c : tie.In-Till-second) → let k = c in let m = (one c).before in let a = m.before.before.before.before.args in
-    NumberAt a.sheet.now (m.first.given.0.0 + 1) k.in-Till-second.last k.in-Till-second.other a.edition.size
+second-here : (c : tie.In-Till-second) → let k = c in let m = one c in let a = m.before.before.before.args in
+    NumberAt a.sheet.now (m.in-Till.end + 1) k.in-Till-second.last k.in-Till-second.other a.edition.size
 second-here c =
     let k = c in
-    let m = (one c).before in
-    let a = m.before.before.before.before.args in
-    subst (NumberFound a.sheet.now (m.first.given.0.0 + 1) a.edition.size) k.in-Till-second.is k.before.number_at-second.ensures
+    let m = one c in
+    let a = m.before.before.before.args in
+    subst (NumberFound a.sheet.now (m.in-Till.end + 1) a.edition.size) k.in-Till-second.is k.before.number_at-second.ensures
 
 returns-2 : tie.Need-returns-then-sheet-end-eq10
 returns-2 c =
@@ -37,7 +37,7 @@ returns-2 c =
 returns-6 : tie.Need-returns
 returns-6 c =
     let told = c.before.before in
-    let a = (one told).before.before.before.before.before.args in
+    let a = (one told).before.before.before.args in
     two_are_found a.edition a.sheet.now a.from _ _ (first-here (one told)) _ _ told.before.before.if-sheet-end-ne9.false (second-here told)
     c.if-sheet-last-ne10.false
 
