@@ -13,7 +13,7 @@ use Rattle.pairing_walk.proofs.decompose.Tie as tie
 
 -- the pairs of the parts are added
 added : (c : tie.After-join_links-end) → let a = c.before.before.before.before.before.before.before.before.args in
-    Added (replicate (2 * NUMBERS) 0) 0 c.join_links-end.new.1.1.1.1.0 c.join_links-end.result
+    Added (replicate (2 * NUMBERS) 0) 0 c.join_links-end.new.pairs c.join_links-end.result
     (flat_pairs (pairs_of a.n a.ends.now a.one.now a.two.now a.capacity.now))
 added c =
     let w = c.before.before.before in

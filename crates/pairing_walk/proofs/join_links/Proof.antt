@@ -36,7 +36,7 @@ next c =
     let l = c.before.before.before.before.before in
     let s = l.before.before.before.before.before in (
       omega (arith, c.before.before.before.before.loop-j-test.true),
-      singles_next s.requires.0 l.loop.j l.loop.invariant.1 c.before.before.join_link-end.ensures,
+      singles_next s.requires.0 l.loop-j.j l.loop-j.invariant.1 c.before.before.join_link-end.ensures,
     )
 
 all : tie.Need-returns invariant-loop decreases-loop

@@ -211,12 +211,12 @@ array-copy-out-frame c = omega (arith, not_root c)
 loop-less-3 : tie.Need-loop-child-smaller-then-level-sites invariant-loop decreases-loop
 loop-less-3 c =
     let s = settled c.before in
-    returns_owed (past s).before.loop-child.invariant (past s).if1.left s.settle-top.ensures (not_root c.before).0 _
+    returns_owed (past s).before.loop-child.invariant (past s).if-c-lt-PLACES.false s.settle-top.ensures (not_root c.before).0 _
 
 loop-again-3 : tie.Need-loop-child-preserved-then-level-sites invariant-loop decreases-loop
 loop-again-3 c =
     let s = settled c.before in
-    framed_returns (past s).before.loop-child.invariant (past s).if1.left s.settle-top.ensures (not_root c.before).0 _
+    framed_returns (past s).before.loop-child.invariant (past s).if-c-lt-PLACES.false s.settle-top.ensures (not_root c.before).0 _
 
 -- ---- a root has been settled
 
@@ -228,10 +228,10 @@ args c = start (past (whole c)).before
 
 between : (c : tie.Else-level-sites invariant-loop decreases-loop) → let s = whole c in let l = (past s).before.loop-child in let a = (args c).args in
     Between a.ends.now a.one.now a.two.now a.capacity.now a.ups.now a.downs.now a.pairs.now
-    s.settle-top.last.1.0 s.settle-top.last.1.1.0 s.settle-top.last.1.1.1.0 l.done l.root s.settle-top.result
+    s.settle-top.new.ups s.settle-top.new.downs s.settle-top.new.pairs l.done l.root s.settle-top.result
 between c =
     let s = whole c in
-    framed_ends (past s).before.loop-child.invariant (past s).if1.left s.settle-top.ensures (omega (arith, c.if-level-sites.false))
+    framed_ends (past s).before.loop-child.invariant (past s).if-c-lt-PLACES.false s.settle-top.ensures (omega (arith, c.if-level-sites.false))
 
 next-root-requires : tie.Need-next_root-root-requires invariant-loop decreases-loop
 next-root-requires c κs =
@@ -246,7 +246,7 @@ low c = rw (add-one (length (args c.before.before).args.one.now)) at c.next_root
 
 -- it is done now
 marks : (c : tie.After-next_root-root invariant-loop decreases-loop) → c.next_root-root.result ≢ 0
-    → c.next_root-root.new.1.1.1.0 ≡ set (past (whole c.before.before)).before.loop-child.done c.next_root-root.result 1
+    → c.next_root-root.new.done ≡ set (past (whole c.before.before)).before.loop-child.done c.next_root-root.result 1
 marks c d =
     let done = (past (whole c.before.before)).before.loop-child.done in
     c.next_root-root.ensures.1 ∙ pick_other d done (set done c.next_root-root.result 1)
@@ -256,13 +256,13 @@ same_length c =
     let r = c.before.before.before in
     let l = (past (whole r.before.before)).before in
     let a = start l in
-    r.next_root-root.auto.1.1.1.0 ∙ l.loop.invariant.marked.places
+    r.next_root-root.auto.done ∙ l.loop-child.invariant.marked.places
     ∙ sym (ap length a.requires.2.marked ∙ length-set untouched a.args.lowest 1 ∙ length-replicate {A = ℕ} PLACES 0)
 
 -- the three arrays are as long as they were
 abbrev long : (c : tie.Else-level-sites invariant-loop decreases-loop) → let s = whole c in let a = (args c).args in
     Long a.ends.now a.one.now a.two.now a.capacity.now a.ups.now a.downs.now a.pairs.now
-    s.settle-top.last.1.0 s.settle-top.last.1.1.0 s.settle-top.last.1.1.1.0
+    s.settle-top.new.ups s.settle-top.new.downs s.settle-top.new.pairs
 long c = (between c).long
 
 returns : tie.Need-returns-then-root-eq0 invariant-loop decreases-loop

@@ -30,19 +30,19 @@ here c = let top = c.before.before in
 
 -- the line of a turn, and its place in the loop, by its step
 abbrev line_of : tie.After-step_at-step invariant-loop decreases-loop → tie.After-scan-found invariant-loop decreases-loop
-line_of c = c.before.before.before.before.before.before
+line_of c = c.before.before.before.before.before
 
 abbrev round : tie.After-step_at-step invariant-loop decreases-loop → tie.At-loop-edition invariant-loop decreases-loop
 round c = (line_of c).before.before.before
 
 -- the next line is the one after this, which is later
 next-is : (c : tie.After-step_at-step invariant-loop decreases-loop) → let top = round c in
-    (line_of c).scan.result.next ≡ after_line top.before.before.before.before.args.sheet.now top.loop-edition.at
+    (line_of c).scan-found.result.next ≡ after_line top.before.before.before.before.args.sheet.now top.loop-edition.at
 unfolding scanned
-next-is c = ap (λ found. found.next) (line_of c).scan.ensures
+next-is c = ap (λ found. found.next) (line_of c).scan-found.ensures
 
 less : (c : tie.After-step_at-step invariant-loop decreases-loop) → let top = round c in let s = top.before.before.before.before.args.sheet.now in
-    length s - (line_of c).scan.result.next < length s - top.loop-edition.at
+    length s - (line_of c).scan-found.result.next < length s - top.loop-edition.at
 less c =
     let line = line_of c in
     let top = round c in
@@ -53,17 +53,17 @@ less c =
 -- the step is that of the line, after the network read so far
 step_is : (c : tie.After-step_at-step invariant-loop decreases-loop) → let top = round c in let a = top.before.before.before.before.args in
     c.step_at-step.result ≡ step_of a.edition a.sheet.now top.loop-edition.invariant.read top.loop-edition.number top.loop-edition.at
-step_is c = let P = (round c).loop.invariant in c.step_at-step.ensures P.read (held P)
+step_is c = let P = (round c).loop-edition.invariant in c.step_at-step.ensures P.read (held P)
 
 -- there is room for a site, and for a link and its sites
-site-room : (c : tie.In-Site invariant-loop decreases-loop) → (round c.before.before.before).loop.net.sites < SITES
+site-room : (c : tie.In-Site invariant-loop decreases-loop) → (round c.before).loop-edition.net.sites < SITES
 site-room c = let step = c.before in
-    site-fits (round step).loop.invariant step.step_at-step.result (here (line_of step).before) (step_is step) _ _ _ c.in-Site.is
+    site-fits (round step).loop-edition.invariant step.step_at-step.result (here (line_of step).before) (step_is step) _ _ _ c.in-Site.is
 
-link-room : (c : tie.In-Link invariant-loop decreases-loop) → let given = c.before.step-in-Link-1.given in
-    ((round c.before.before.before).loop.net.links < SITES) × (given.0.0 < PLACES) × (given.0.1.0 < PLACES)
+link-room : (c : tie.In-Link invariant-loop decreases-loop) → let given = c.in-Link in
+    ((round c.before).loop-edition.net.links < SITES) × (given.one < PLACES) × (given.two < PLACES)
 link-room c = let step = c.before in
-    link_fits (round step).loop.invariant step.step_at-step.result (here (line_of step).before) (step_is step) _ _ _ c.in-Link.is
+    link_fits (round step).loop-edition.invariant step.step_at-step.result (here (line_of step).before) (step_is step) _ _ _ c.in-Link.is
 
 loop-holds : tie.Need-loop-edition-init invariant-loop decreases-loop
 loop-holds c =
@@ -77,24 +77,24 @@ step-at-requires c κs = let line = c.before.before.before.before in let P = lin
 returns : tie.Need-returns-in-Refused invariant-loop decreases-loop
 returns c = let step = c.before.before in
     let cause =
-    by_refusal (round step).loop.invariant step.step_at-step.result (here (line_of step).before) (step_is step) _ _ c.before.in-Refused.is in
+    by_refusal (round step).loop-edition.invariant step.step_at-step.result (here (line_of step).before) (step_is step) _ _ c.before.in-Refused.is in
     c.refusal.ensures ∙ ap reading (sym cause)
 
 loop-again : tie.Need-loop-edition-preserved-in-Nothing invariant-loop decreases-loop
 loop-again c = let step = c.before in
     rw (next-is step)
-    (by_heading (round step).loop.invariant step.step_at-step.result (here (line_of step).before) (step_is step) c.in-Nothing.is)
+    (by_heading (round step).loop-edition.invariant step.step_at-step.result (here (line_of step).before) (step_is step) c.in-Nothing.is)
 
 loop-again-2 : tie.Need-loop-edition-preserved-in-Site invariant-loop decreases-loop
 loop-again-2 c = let step = c.before.before.before in
     rw (next-is step)
-    (by_site (round step).loop.invariant step.step_at-step.result (here (line_of step).before) (step_is step) _ _ _ c.before.before.in-Site.is _
+    (by_site (round step).loop-edition.invariant step.step_at-step.result (here (line_of step).before) (step_is step) _ _ _ c.before.before.in-Site.is _
     c.enter.ensures)
 
 loop-again-3 : tie.Need-loop-edition-preserved invariant-loop decreases-loop
 loop-again-3 c = let step = c.before.before.before.before in
     rw (next-is step)
-    (by_link (round step).loop.invariant step.step_at-step.result (here (line_of step).before) (step_is step) _ _ _
+    (by_link (round step).loop-edition.invariant step.step_at-step.result (here (line_of step).before) (step_is step) _ _ _
     c.before.before.before.in-Link.is c.before.join.ensures)
 
 -- after the last line
@@ -107,12 +107,12 @@ enter-requires : tie.Need-enter-requires invariant-loop decreases-loop
 enter-requires c κs =
     let told = c.before in
     let step = told.before in
-    let lies = site_lies (round step).loop.invariant step.step_at-step.result (here (line_of step).before) (step_is step) _ _ _ told.in-Site.is in
+    let lies = site_lies (round step).loop-edition.invariant step.step_at-step.result (here (line_of step).before) (step_is step) _ _ _ told.in-Site.is in
     (omega (arith, site-room told), lies.0, lies.1)
 
 join-requires : tie.Need-join-requires invariant-loop decreases-loop
 join-requires c κs =
-    let labels = (round c.before.before.before.before).loop.invariant.labels_are in
+    let labels = (round c.before.before).loop-edition.invariant.labels_are in
     (labels.lower, omega (arith, labels.long, link-room c.before), omega (arith, labels.long, link-room c.before))
 
 returns-2 : tie.Need-returns-then-not-is_whole invariant-loop decreases-loop
@@ -138,7 +138,7 @@ read_lines_spec =
     (λ c κs. search rules)
     (λ c κs. c.before.before.loop-edition.invariant.on_sheet)
     step-at-requires
-    (λ c. let l = (round c).loop in omega (arith, l.invariant.numbered, l.invariant.on_sheet))
+    (λ c. let l = (round c).loop-edition in omega (arith, l.invariant.numbered, l.invariant.on_sheet))
     (λ c. search rules)
     (λ c κs. search rules)
     returns
@@ -164,7 +164,7 @@ read_lines_spec =
     (λ c. omega (arith, link-room c))
     (λ c. (link-room c).0)
     (λ c. omega (arith, link-room c))
-    (λ c. sym (lengths (round c.before.before.before.before).loop.invariant).0)
+    (λ c. sym (lengths (round c.before.before).loop-edition.invariant).0)
     join-requires
     (λ c. less c.before.before.before.before)
     loop-again-3

@@ -27,10 +27,10 @@ unfolding link_step
 returns-2 c = λ ls h. rw (c.before.in-At.is, c.in_default-second.is)
 
 root-requires : tie.Need-root-requires
-root-requires c κs = omega (arith, first-site c.before.before, c.root-arg-1.given.0)
+root-requires c κs = omega (arith, first-site c.before.before, c.root-arg-1.given)
 
 root-requires-2 : tie.Need-root-requires-2
-root-requires-2 c κs = omega (arith, second-site c.before.before.before, c.root-arg-2-1.given.0)
+root-requires-2 c κs = omega (arith, second-site c.before.before.before, c.root-arg-2-1.given)
 
 returns-3 : tie.Need-returns-then-root
 unfolding link_step
