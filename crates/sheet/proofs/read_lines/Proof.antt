@@ -1,6 +1,6 @@
 -- `read_lines` meets its contract: every turn takes one line from those left to those read (`Progress`).
 use mathlib.Core.Path.{◌≡◌, sym, ap, ◌∙◌}
-use Prim.Native.Nat.{◌≤◌, ◌<◌, ◌-◌}
+use Prim.Native.Nat.{ℕ, ◌≤◌, ◌<◌, ◌-◌}
 use lib.ListN.{length}
 use borrow.Author.Tests.{not-true, not-false}
 use Rattle.model.specs.Limits.{PLACES, SITES}
@@ -9,6 +9,7 @@ use Rattle.text_lines.specs.LineLaws.{a_line_is_on_the_sheet, no_line_is_on_the_
 use Rattle.sheet_scan.specs.Scan.{scanned}
 use Rattle.sheet.specs.Sheet.{step_of}
 use Rattle.sheet.specs.Reading.{reading}
+use Rattle.sheet.specs.declared.stepping.Step.TheVariants as variants
 use Rattle.sheet.proofs.Progress.{Progress, start, lengths, table_is, held, by_heading, site-fits, site_lies, by_site, link_fits, by_link}
 use Rattle.sheet.proofs.Progress.{by_refusal, by_parts, by_acceptance}
 use native.Mathlib.Omega.{arith}
@@ -60,10 +61,9 @@ site-room : (c : tie.In-Site invariant-loop decreases-loop) → (round c.before)
 site-room c = let step = c.before in
     site-fits (round step).loop-edition.invariant step.step_at-step.result (here (line_of step).before) (step_is step) _ _ _ c.in-Site.is
 
-link-room : (c : tie.In-Link invariant-loop decreases-loop) → let given = c.in-Link in
-    ((round c.before).loop-edition.net.links < SITES) × (given.one < PLACES) × (given.two < PLACES)
-link-room c = let step = c.before in
-    link_fits (round step).loop-edition.invariant step.step_at-step.result (here (line_of step).before) (step_is step) _ _ _ c.in-Link.is
+link-room : (step : tie.After-step_at-step invariant-loop decreases-loop) → (one two size : ℕ) → step.step_at-step.result ≡ variants.Link one two size
+    → ((round step).loop-edition.net.links < SITES) × (one < PLACES) × (two < PLACES)
+link-room step one two size e = link_fits (round step).loop-edition.invariant step.step_at-step.result (here (line_of step).before) (step_is step) one two size e
 
 loop-holds : tie.Need-loop-edition-init invariant-loop decreases-loop
 loop-holds c =
@@ -113,7 +113,7 @@ enter-requires c κs =
 join-requires : tie.Need-join-requires invariant-loop decreases-loop
 join-requires c κs =
     let labels = (round c.before.before).loop-edition.invariant.labels_are in
-    (labels.lower, omega (arith, labels.long, link-room c.before), omega (arith, labels.long, link-room c.before))
+    (labels.lower, omega (arith, labels.long, link-room c.before.before _ _ _ c.before.in-Link.is), omega (arith, labels.long, link-room c.before.before _ _ _ c.before.in-Link.is))
 
 returns-2 : tie.Need-returns-then-not-is_whole invariant-loop decreases-loop
 returns-2 c = let settle = c.before.before.before.before.before in let over = settle.before.before in
@@ -157,13 +157,13 @@ read_lines_spec =
     (λ c. less c.before.before.before)
     loop-again-2
     (λ c. search rules)
-    (λ c. omega (arith, link-room c))
-    (λ c. (link-room c).0)
-    (λ c. omega (arith, link-room c))
-    (λ c. (link-room c).0)
-    (λ c. omega (arith, link-room c))
-    (λ c. (link-room c).0)
-    (λ c. omega (arith, link-room c))
+    (λ c. omega (arith, link-room c.before _ _ _ c.in-Link.is))
+    (λ c. (link-room c.before _ _ _ c.in-Link.is).0)
+    (λ c. omega (arith, link-room c.before _ _ _ c.in-Link.is))
+    (λ c. (link-room c.before _ _ _ c.in-Link.is).0)
+    (λ c. omega (arith, link-room c.before _ _ _ c.in-Link.is))
+    (λ c. (link-room c.before _ _ _ c.in-Link.is).0)
+    (λ c. omega (arith, link-room c.before _ _ _ c.in-Link.is))
     (λ c. sym (lengths (round c.before.before).loop-edition.invariant).0)
     join-requires
     (λ c. less c.before.before.before.before)
