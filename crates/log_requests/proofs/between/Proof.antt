@@ -32,27 +32,27 @@ free-requires c κs =
 returns-3 : tie.Need-returns-then-not-free
 returns-3 c =
     let k = c in
-    let from = k.before.before.before.before.from-1.given in
-    let to = k.before.to-1.given in
+    let from = k.before.before.before.in-At in
+    let to = k.before.before.in-At-to in
     let a = k.before.before.before.before.before.before.args in
-    rw (from.1, to.1)
-    (sym (a_pair_that_is_not_free_gets_6 (links a.one.now a.two.now) (look a.ends.now) a.opens a.amount from.0.0 to.0.0
+    rw (from.is, to.is)
+    (sym (a_pair_that_is_not_free_gets_6 (links a.one.now a.two.now) (look a.ends.now) a.opens a.amount from.first to.second
     (eqb-false _ 1 (sym c.before.free.ensures ∙ c.if-not-free.true))))
 
 -- what is asked between two ends free to be joined
 asked : (c : tie.Else-not-free) (o : Bool) →
     let k = c in
-    let from = k.before.before.before.before.from-1.given in
-    let to = k.before.to-1.given in
+    let from = k.before.before.before.in-At in
+    let to = k.before.before.in-At-to in
     let a = k.before.before.before.before.before.before.args in
-    a.opens ≡ o → request_for o (pair from.0.0 to.0.0 a.amount)
+    a.opens ≡ o → request_for o (pair from.first to.second a.amount)
     ≡ between (links a.one.now a.two.now) (look a.ends.now) a.opens a.amount a.from a.to
 asked c o e =
     let k = c in
-    let from = k.before.before.before.before.from-1.given in
-    let to = k.before.to-1.given in
+    let from = k.before.before.before.in-At in
+    let to = k.before.before.in-At-to in
     let a = k.before.before.before.before.before.before.args in
-    rw (from.1, to.1, e) (sym (a_free_pair_is_asked_for (links a.one.now a.two.now) (look a.ends.now) o a.amount from.0.0 to.0.0
+    rw (from.is, to.is, e) (sym (a_free_pair_is_asked_for (links a.one.now a.two.now) (look a.ends.now) o a.amount from.first to.second
     (eqb-true _ 1 (sym c.before.free.ensures ∙ c.if-not-free.false))))
 
 returns-4 : tie.Need-returns-then-opens

@@ -7,53 +7,53 @@ use borrow.Author.Rules.{rules}
 use Rattle.text_refusals.proofs.refuse_sheets.Statement.{statement}
 use Rattle.text_refusals.proofs.refuse_sheets.Tie as tie
 
-buffer-requires : tie.Need-buffer-requires
+buffer-requires : tie.Need-buffer-buf-requires
 buffer-requires c κs = search rules
 
-slice-aggregate-write-refusal-of : tie.Need-slice-aggregate-write-refusal-of
+slice-aggregate-write-refusal-of : tie.Need-slice_bounds-write_refusal_of-end
 slice-aggregate-write-refusal-of c = search rules
 
-write-refusal-of-requires : tie.Need-write-refusal-of-requires
+write-refusal-of-requires : tie.Need-write_refusal_of-length-requires
 write-refusal-of-requires c κs = search rules
 
-array-share-prefix-buf : tie.Need-array-share-prefix-buf
+array-share-prefix-buf : tie.Need-slice_bounds-buf-end
 array-share-prefix-buf c = search rules
 
-slice-aggregate-write : tie.Need-slice-aggregate-write
+slice-aggregate-write : tie.Need-slice_bounds-write-end
 slice-aggregate-write c = sym (length-take-le _ _ (search rules))
 
 write-requires : tie.Need-write-requires
 write-requires c κs = search rules
 
-slice-aggregate-write-words-of-sheets : tie.Need-slice-aggregate-write-words-of-sheets
+slice-aggregate-write-words-of-sheets : tie.Need-slice_bounds-write_words_of_sheets-end
 slice-aggregate-write-words-of-sheets c = search rules
 
-write-words-of-sheets-requires : tie.Need-write-words-of-sheets-requires
+write-words-of-sheets-requires : tie.Need-write_words_of_sheets-said-requires
 write-words-of-sheets-requires c κs = search rules
 
-array-share-prefix-buf-2 : tie.Need-array-share-prefix-buf-2
+array-share-prefix-buf-2 : tie.Need-slice_bounds-buf-end-then-write
 array-share-prefix-buf-2 c =
     let s = c.before.before.before.before.before.before.before.before.before.before.args in
-    omega (arith, c.before.write-words-of-sheets.ensures.next, words_of_sheets_are_short s.sheet s.number s.line (omega arith) (omega arith))
+    omega (arith, c.before.write_words_of_sheets-said.ensures.next, words_of_sheets_are_short s.sheet s.number s.line (omega arith) (omega arith))
 
-slice-aggregate-write-all : tie.Need-slice-aggregate-write-all
+slice-aggregate-write-all : tie.Need-slice_bounds-write_all-end
 slice-aggregate-write-all c =
     let at_words = c.before.before in
     let s = at_words.before.before.before.before.before.before.before.before.before.args in
     sym (length-take-le _ _
-    (omega (arith, at_words.write-words-of-sheets.ensures.next, words_of_sheets_are_short s.sheet s.number s.line (omega arith) (omega arith))))
+    (omega (arith, at_words.write_words_of_sheets-said.ensures.next, words_of_sheets_are_short s.sheet s.number s.line (omega arith) (omega arith))))
 
-write-all-requires : tie.Need-write-all-requires
+write-all-requires : tie.Need-write_all-requires
 write-all-requires c κs = search rules
 
-returns : tie.Need-returns
+returns : tie.Need-returns-then-write
 returns c = search rules
 
-returns-2 : tie.Need-returns-2
+returns-2 : tie.Need-returns-else-write
 returns-2 c = search rules
 
-pub refuse-sheets-spec : {M : Type 1} → statement M
-refuse-sheets-spec =
+pub refuse_sheets_spec : {M : Type 1} → statement M
+refuse_sheets_spec =
     tie.close
     (tie.spec
     buffer-requires
