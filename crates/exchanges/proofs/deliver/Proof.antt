@@ -5,37 +5,37 @@ use Rattle.exchanges.specs.Taken.{first_list_is_short, second_list_is_short, bot
 use Rattle.exchanges.proofs.deliver.Statement.{statement}
 use Rattle.exchanges.proofs.deliver.Tie as tie
 
-returns : tie.Need-returns
+returns : tie.Need-returns-then-sizes-count
 returns c =
     let s = c.before.before.before.before.before.before.before.before.before.before.before.before in
     let a = s.args in
-    let e = first_list_is_short s.requires.0 s.requires.2 a.link a.link2 s.requires.1 s.requires.3 a.sizes.now a.sizes2.now c.before.if1.true in
-    (c.short-list.ensures ∙ sym (ap (λ p. p.outcome) e), (sym (ap (λ p. p.first) e), sym (ap (λ p. p.second) e)))
+    let e = first_list_is_short s.requires.0 s.requires.2 a.link a.link2 s.requires.1 s.requires.3 a.sizes.now a.sizes2.now c.before.if-sizes-count.true in
+    (c.short_list.ensures ∙ sym (ap (λ p. p.outcome) e), (sym (ap (λ p. p.first) e), sym (ap (λ p. p.second) e)))
 
-returns-2 : tie.Need-returns-2
+returns-2 : tie.Need-returns-then-sizes2-count2
 returns-2 c =
     let s = c.before.before.before.before.before.before.before.before.before.before.before.before.before in
     let a = s.args in
     let e = second_list_is_short s.requires.0 s.requires.2 a.link a.link2 s.requires.1 s.requires.3 a.sizes.now a.sizes2.now
-    c.before.before.if1.false c.before.if2.true in
-    (c.short-list2.ensures ∙ sym (ap (λ p. p.outcome) e), (sym (ap (λ p. p.first) e), sym (ap (λ p. p.second) e)))
+    c.before.before.if-sizes-count.false c.before.if-sizes2-count2.true in
+    (c.short_list-then-sizes2-count2.ensures ∙ sym (ap (λ p. p.outcome) e), (sym (ap (λ p. p.first) e), sym (ap (λ p. p.second) e)))
 
-give-both-requires : tie.Need-give-both-requires
+give-both-requires : tie.Need-give_both-sums-requires
 give-both-requires c κs =
     let s = c.before.before.before.before.before.before.before.before.before.before.before.before.before.before in
-    (s.requires.0, s.requires.1, s.requires.2, s.requires.3, c.before.before.before.if1.false, c.before.before.if2.false)
+    (s.requires.0, s.requires.1, s.requires.2, s.requires.3, c.before.before.before.if-sizes-count.false, c.before.before.if-sizes2-count2.false)
 
-returns-3 : tie.Need-returns-3
+returns-3 : tie.Need-returns
 returns-3 c =
     let s = c.before.before.before.before.before.before.before.before.before.before.before.before.before.before.before.before.before.before.before.before in
     let a = s.args in
-    let u = c.before.before.before.before.before.give-both.ensures in
+    let u = c.before.before.before.before.before.give_both-sums.ensures in
     let both = both_are_given s.requires.0 s.requires.2 a.link a.link2 s.requires.1 s.requires.3 a.sizes.now a.sizes2.now
-    c.before.before.before.before.before.before.before.before.before.if1.false c.before.before.before.before.before.before.before.before.if2.false u.0 u.1.0 u.1.1.0 u.1.1.1 in
+    c.before.before.before.before.before.before.before.before.before.if-sizes-count.false c.before.before.before.before.before.before.before.before.if-sizes2-count2.false u.0 u.1.0 u.1.1.0 u.1.1.1 in
     (c.answered.ensures ∙ both.0, both.1)
 
-pub deliver-spec : {M : Type 1} → statement M
-deliver-spec =
+pub deliver_spec : {M : Type 1} → statement M
+deliver_spec =
     tie.close
     (tie.spec
     (λ c κs. search rules)

@@ -8,24 +8,24 @@ use Rattle.exchanges.specs.Told.{first_refused}
 use Rattle.exchanges.proofs.exchange.Statement.{statement}
 use Rattle.exchanges.proofs.exchange.Tie as tie
 
-exchange-second-requires : tie.Need-exchange-second-requires
+exchange-second-requires : tie.Need-exchange_second-requires
 exchange-second-requires c κs =
-    let told = c.before.before in
-    let read = told.before.before in
-    rw (← read.read.ensures) at
+    let told = c.before.before.before in
+    let read = told.before in
+    rw (← read.read-reading.ensures) at
     (accepted_is_listed read.before.before.before.before.before.args.first.now
-    (sym (ap (λ x. x.answer) read.read.ensures) ∙ told.enum_told.given.1))
+    (sym (ap (λ x. x.answer) read.read-reading.ensures) ∙ told.in-Accepted.is))
 
-returns : tie.Need-returns
+returns : tie.Need-returns-in-Refused
 returns c =
-    let read = c.before.before.before in
+    let read = c.before in
     let a = read.before.before.before.before.before.args in
     let e = first_refused editions a.first.now a.second.now a.sizes.now a.sizes2.now _ _
-    (refusal_is_read a.first.now (sym (ap (λ x. x.answer) read.read.ensures) ∙ c.before.answer.given.1)) in
+    (refusal_is_read a.first.now (sym (ap (λ x. x.answer) read.read-reading.ensures) ∙ c.in-Refused.is)) in
     (sym (ap (λ p. p.outcome) e), (sym (ap (λ p. p.first) e), sym (ap (λ p. p.second) e)))
 
-pub exchange-spec : {M : Type 1} → statement M
-exchange-spec =
+pub exchange_spec : {M : Type 1} → statement M
+exchange_spec =
     tie.close
     (tie.spec
     (λ c κs. search rules)

@@ -8,27 +8,27 @@ use Rattle.exchanges.specs.Told.{second_refused}
 use Rattle.exchanges.proofs.exchange_second.Statement.{statement}
 use Rattle.exchanges.proofs.exchange_second.Tie as tie
 
-exchange-networks-requires : tie.Need-exchange-networks-requires
+exchange-networks-requires : tie.Need-exchange_networks-requires
 exchange-networks-requires c κs =
-    let told = c.before.before in
-    let read = told.before.before in
+    let told = c.before.before.before in
+    let read = told.before in
     let s = read.before.before.before.before.before in (
       s.requires,
-      rw (← read.read.ensures) at
-          (accepted_is_listed s.args.second.now (sym (ap (λ x. x.answer) read.read.ensures) ∙ told.enum_told.given.1)),
+      rw (← read.read-reading.ensures) at
+          (accepted_is_listed s.args.second.now (sym (ap (λ x. x.answer) read.read-reading.ensures) ∙ told.in-Accepted.is)),
     )
 
-returns : tie.Need-returns
+returns : tie.Need-returns-in-Refused
 returns c =
-    let read = c.before.before.before in
+    let read = c.before in
     let s = read.before.before.before.before.before in
     let a = s.args in
     let e = second_refused editions a.first.now a.second.now a.sizes.now a.sizes2.now s.requires.net _ _ s.requires.read
-    (refusal_is_read a.second.now (sym (ap (λ x. x.answer) read.read.ensures) ∙ c.before.answer.given.1)) in
+    (refusal_is_read a.second.now (sym (ap (λ x. x.answer) read.read-reading.ensures) ∙ c.in-Refused.is)) in
     (sym (ap (λ p. p.outcome) e), (sym (ap (λ p. p.first) e), sym (ap (λ p. p.second) e)))
 
-pub exchange-second-spec : {M : Type 1} → statement M
-exchange-second-spec =
+pub exchange_second_spec : {M : Type 1} → statement M
+exchange_second_spec =
     tie.close
     (tie.spec
     (λ c κs. search rules)

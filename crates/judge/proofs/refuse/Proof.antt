@@ -7,19 +7,19 @@ use borrow.Author.Rules.{rules}
 use Rattle.judge.proofs.refuse.Statement.{statement}
 use Rattle.judge.proofs.refuse.Tie as tie
 
-array-share-prefix-buf-2 : tie.Need-array-share-prefix-buf-2
+array-share-prefix-buf-2 : tie.Need-slice_bounds-buf-end-then-write
 array-share-prefix-buf-2 c =
     let s = c.before.before.before.before.before.before.before.before.before.before.args in
-    omega (arith, c.before.write-words.ensures.next, words_judged_are_short s.text s.number s.line (omega arith))
+    omega (arith, c.before.write_words-told.ensures.next, words_judged_are_short s.text s.number s.line (omega arith))
 
-slice-aggregate-write-all : tie.Need-slice-aggregate-write-all
+slice-aggregate-write-all : tie.Need-slice_bounds-write_all-end
 slice-aggregate-write-all c =
     let at_words = c.before.before in
     let s = at_words.before.before.before.before.before.before.before.before.before.args in
-    sym (length-take-le _ _ (omega (arith, at_words.write-words.ensures.next, words_judged_are_short s.text s.number s.line (omega arith))))
+    sym (length-take-le _ _ (omega (arith, at_words.write_words-told.ensures.next, words_judged_are_short s.text s.number s.line (omega arith))))
 
-pub refuse-spec : {M : Type 1} → statement M
-refuse-spec =
+pub refuse_spec : {M : Type 1} → statement M
+refuse_spec =
     tie.close
     (tie.spec
     (λ c κs. search rules)

@@ -5,8 +5,8 @@ use borrow.Author.Rules.{rules}
 use Rattle.judge.proofs.tell.Statement.{statement}
 use Rattle.judge.proofs.tell.Tie as tie
 
-pub tell-spec : {M : Type 1} → statement M
-tell-spec =
+pub tell_spec : {M : Type 1} → statement M
+tell_spec =
     tie.close
     (tie.spec
     (λ c κs. search rules)

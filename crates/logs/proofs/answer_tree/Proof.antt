@@ -17,14 +17,14 @@ use Rattle.log_requests.specs.Requests.{lines, requests}
 use Rattle.logs.proofs.answer_tree.Statement.{statement}
 use Rattle.logs.proofs.answer_tree.Tie as tie
 
-ends-of-requires : tie.Need-ends-of-requires
+ends-of-requires : tie.Need-ends_of-ends-requires
 ends-of-requires c κs =
     let s = c.before.before.before.before.before.before.before.before in
     let tree = s.requires.0 in
     (omega (arith, tree.within.few), tree.marked, offer-placed tree.within)
 
 -- without marks each end has one link
-answer-lines-requires : tie.Need-answer-lines-requires
+answer-lines-requires : tie.Need-answer_lines-requires
 answer-lines-requires c κs =
     let paths = c.before.before.before.before in
     let marks = paths.before in
@@ -33,11 +33,11 @@ answer-lines-requires c κs =
     let s = table.before.before.before.before.before.before.before.before in
     let a = s.args in
     let ls = links a.one.now a.two.now in (
-      record { within = s.requires.0.within; table = paths.paths.ensures },
-      table.index.ensures,
+      record { within = s.requires.0.within; table = paths.paths-rows.ensures },
+      table.index-table.ensures,
       s.requires.2,
-      λ e. subst (Outer ls a.n) (sym ends.ends_of.ensures)
-          (unmarked_ends_are_outer ls a.n a.marks.now (told marks.unmarked.result marks.unmarked.ensures e)),
+      λ e. subst (Outer ls a.n) (sym ends.ends_of-ends.ensures)
+          (unmarked_ends_are_outer ls a.n a.marks.now (told marks.unmarked-outer.result marks.unmarked-outer.ensures e)),
     )
 
 returns : tie.Need-returns
@@ -47,12 +47,12 @@ returns c =
     let a = ends.before.before.before.before.before.before.before.before.before.args in
     let ls = links a.one.now a.two.now in
     let names = ranges a.starts.now a.stops.now 0 a.n in
-    made.answer-lines.ensures
+    made.answer_lines.ensures
     ∙ ap (λ t. answers ls (look a.capacity.now) [] (requests false a.sheet.now names ls t a.log.now)
-    ++ drop (length (lines a.log.now)) a.list.now) ends.ends_of.ensures
+    ++ drop (length (lines a.log.now)) a.list.now) ends.ends_of-ends.ensures
 
-pub answer-tree-spec : {M : Type 1} → statement M
-answer-tree-spec =
+pub answer_tree_spec : {M : Type 1} → statement M
+answer_tree_spec =
     tie.close
     (tie.spec
     (λ c κs. search rules)

@@ -5,10 +5,10 @@ use borrow.Author.Rules.{rules}
 use Rattle.order.proofs.main.Statement.{statement}
 use Rattle.order.proofs.main.Tie as tie
 
-write-sites-requires : tie.Need-write-sites-requires
+write-sites-requires : tie.Need-write_sites-requires
 write-sites-requires c κs =
-    let asked = c.before.before.before.before.before.before.before.before.before in
-    let read = asked.before.before.before.before.before.before.before.before.read in
+    let asked = c.before.before.before.before.before.before.before in
+    let read = asked.before.before.before.before.before.before.before.before.read-input in
     omega (arith, length-take read.result.count read.new.0, read.ensures)
 
 pub main_spec : {M : Type 1} → statement M

@@ -17,35 +17,35 @@ short : (k : ℕ) → k < 2 ^ 64 → length (decimal k ++ (9 ∷ [])) ≤ 21
 short k h = omega (arith, length-append (decimal k) (9 ∷ []), decimal-length k h)
 
 -- so much is written
-written : (c : tie.After-put-bytes) → c.put-bytes.result ≤ length c.put-bytes.new.0
+written : (c : tie.After-put_bytes-length) → c.put_bytes-length.result ≤ length c.put_bytes-length.new.buf
 written c =
     let number = c.before.before.before in
     let s = number.before.before.before.before in
     omega (
       arith,
       s.requires,
-      number.put-number.ensures.next,
+      number.put_number-next.ensures.next,
       short s.args.site (omega arith),
-      c.put-bytes.ensures.next,
+      c.put_bytes-length.ensures.next,
       length-append s.args.name.now (10 ∷ []),
-      same_size c.put-bytes.ensures,
-      same_size number.put-number.ensures,
+      same_size c.put_bytes-length.ensures,
+      same_size number.put_number-next.ensures,
     )
 
-put-bytes-requires : tie.Need-put-bytes-requires
+put-bytes-requires : tie.Need-put_bytes-length-requires
 put-bytes-requires c κs =
     let number = c.before.before in
     let s = number.before.before.before.before in
     omega (
       arith,
       s.requires,
-      number.put-number.ensures.next,
+      number.put_number-next.ensures.next,
       short s.args.site (omega arith),
       length-append s.args.name.now (10 ∷ []),
     )
 
-pub write-site-spec : {M : Type 1} → statement M
-write-site-spec =
+pub write_site_spec : {M : Type 1} → statement M
+write_site_spec =
     tie.close
     (tie.spec
     (λ c κs. search rules)
@@ -54,6 +54,6 @@ write-site-spec =
     (λ c. search rules)
     put-bytes-requires
     (λ c. written c.before)
-    (λ c. let w = c.before.before in sym (length-take-le w.put-bytes.result w.put-bytes.new.0 (written w)))
+    (λ c. let w = c.before.before in sym (length-take-le w.put_bytes-length.result w.put_bytes-length.new.buf (written w)))
     (λ c κs. search rules)
     (λ c. search rules))

@@ -13,22 +13,22 @@ use Rattle.order.proofs.write_sites.Tie as tie
 part-short : (s : List ℕ) (r : ℕ × ℕ) → length (part s r) ≤ length s
 part-short s r = omega (arith, length-take (r.1 - r.0) (drop r.0 s), length-drop r.0 s)
 
-abbrev invariant-loop : tie.invariant-loop
+abbrev invariant-loop : tie.invariant-loop-i
 invariant-loop sheet start end list count i₀ i = i ≤ SITES
 
-abbrev decreases-loop : tie.decreases-loop
+abbrev decreases-loop : tie.decreases-loop-i
 decreases-loop sheet start end list count i₀ i = SITES - i
 
-write-site-requires : tie.Need-write-site-requires invariant-loop decreases-loop
+write-site-requires : tie.Need-write_site-requires invariant-loop decreases-loop
 write-site-requires c κs =
-    let s = c.before.before.before.before.before.before.before.before.before.before in
+    let s = c.before.before.before.before.before.before.before.before.before.before.before.before.before in
     let a = s.args in
-    let i = get_or a.list.now c.before.before.before.before.before.before.before.before.loop.i 0 - 1 in
+    let i = get_or a.list.now c.before.before.before.before.before.before.before.before.before.before.before.loop-i.i 0 - 1 in
     let short = part-short a.sheet.now (get_or a.start.now i 0, get_or a.end.now i 0) in
-    rw c.part.ensures.bytes (omega (arith, short, s.requires))
+    rw c.part-name.ensures.bytes (omega (arith, short, s.requires))
 
-pub write-sites-spec : {M : Type 1} → statement M
-write-sites-spec =
+pub write_sites_spec : {M : Type 1} → statement M
+write_sites_spec =
     tie.close
     (tie.spec
     invariant-loop

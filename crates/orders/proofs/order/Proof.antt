@@ -6,22 +6,22 @@ use borrow.Author.Rules.{rules}
 use Rattle.orders.proofs.order.Statement.{statement}
 use Rattle.orders.proofs.order.Tie as tie
 
-order-network-requires : tie.Need-order-network-requires
+order-network-requires : tie.Need-order_network-requires
 order-network-requires c κs =
-    let r = c.before.before.before.read.ensures in
+    let r = c.before.before.before.read-reading.ensures in
     rw (← r) at
     (accepted_is_listed c.before.before.before.before.before.before.args.sheet.now
-    (sym (ap (λ x. x.answer) r) ∙ c.before.enum_told.given.1))
+    (sym (ap (λ x. x.answer) r) ∙ c.before.before.in-Accepted.is))
 
-returns : tie.Need-returns
+returns : tie.Need-returns-in-Refused
 returns c =
-    let s = c.before.before.before.before.before.before.args in
-    let r = c.before.before.before.read.ensures in
-    let e = refused_is_told s.sheet.now s.list.now _ _ (sym (ap (λ x. x.answer) r) ∙ c.before.answer.given.1) in
+    let s = c.before.before.before.before.args in
+    let r = c.before.read-reading.ensures in
+    let e = refused_is_told s.sheet.now s.list.now _ _ (sym (ap (λ x. x.answer) r) ∙ c.in-Refused.is) in
     (sym (ap (λ p. p.outcome) e), sym (ap (λ p. p.list) e))
 
-pub order-spec : {M : Type 1} → statement M
-order-spec =
+pub order_spec : {M : Type 1} → statement M
+order_spec =
     tie.close
     (tie.spec
     (λ c κs. search rules)

@@ -10,33 +10,33 @@ use Rattle.orders.specs.Stored.{list_too_short, list_long_enough}
 use Rattle.orders.proofs.store.Statement.{statement}
 use Rattle.orders.proofs.store.Tie as tie
 
-abbrev invariant-loop : tie.invariant-loop
+abbrev invariant-loop : tie.invariant-loop-i
 invariant-loop order list₀ i₀ i-end list i = (i ≤ length order) × (length list ≡ length list₀) × (list ≡ filled (look order) i list₀)
 
-abbrev decreases-loop : tie.decreases-loop
+abbrev decreases-loop : tie.decreases-loop-i
 decreases-loop order list₀ i₀ i-end list i = length order - i
 
-returns : tie.Need-returns invariant-loop decreases-loop
+returns : tie.Need-returns-then-list-order invariant-loop decreases-loop
 returns c =
     let a = c.before.args in
-    let e = list_too_short a.order.now a.list.now c.if1.true in
+    let e = list_too_short a.order.now a.list.now c.if-list-order.true in
     (sym (ap (λ o. o.outcome) e), sym (ap (λ o. o.list) e))
 
-loop-again : tie.Need-loop-preserved invariant-loop decreases-loop
+loop-again : tie.Need-loop-i-preserved invariant-loop decreases-loop
 loop-again c =
     let top = c.before.before in
     let a = top.before.before.args in (
       omega arith,
-      simp length-set top.loop.invariant.1,
-      filled_next (look a.order.now) top.loop.i a.list.now (omega arith) top.loop.invariant.2 refl,
+      simp length-set top.loop-i.invariant.1,
+      filled_next (look a.order.now) top.loop-i.i a.list.now (omega arith) top.loop-i.invariant.2 refl,
     )
 
-returns-2 : tie.Need-returns-2 invariant-loop decreases-loop
+returns-2 : tie.Need-returns invariant-loop decreases-loop
 returns-2 c =
     let a = c.before.before.before.args in
-    let all : c.before.loop.i ≡ length a.order.now = omega arith in
+    let all : c.before.loop-i.i ≡ length a.order.now = omega arith in
     let e = list_long_enough a.order.now a.list.now (omega arith) in
-    (sym (ap (λ o. o.outcome) e), c.before.loop.invariant.2 ∙ ap (λ i. filled (look a.order.now) i a.list.now) all ∙ sym (ap (λ o. o.list) e))
+    (sym (ap (λ o. o.outcome) e), c.before.loop-i.invariant.2 ∙ ap (λ i. filled (look a.order.now) i a.list.now) all ∙ sym (ap (λ o. o.list) e))
 
 pub store_spec : {M : Type 1} → statement M
 store_spec =

@@ -6,24 +6,24 @@ use lib.ListN.{length}
 use Rattle.replay.proofs.write_answers.Statement.{statement}
 use Rattle.replay.proofs.write_answers.Tie as tie
 
-abbrev invariant-loop : tie.invariant-loop
+abbrev invariant-loop : tie.invariant-loop-from
 invariant-loop answers count end from₀ from = (from ≤ end) × (end ≤ length answers)
 
-abbrev decreases-loop : tie.decreases-loop
+abbrev decreases-loop : tie.decreases-loop-from
 decreases-loop answers count end from₀ from = end - from
 
-pub write-answers-spec : {M : Type 1} → statement M
-write-answers-spec =
+pub write_answers_spec : {M : Type 1} → statement M
+write_answers_spec =
     tie.close
     (tie.spec
     invariant-loop
     decreases-loop
     (λ c κs. search rules)
-    (λ c. omega (arith, c.lesser.ensures))
+    (λ c. omega (arith, c.lesser-end.ensures))
     (λ c. omega arith)
     (λ c κs. search rules)
-    (λ c κs. omega (arith, c.lesser2.ensures))
+    (λ c κs. omega (arith, c.lesser-to.ensures))
     (λ c. search rules)
-    (λ c. omega (arith, c.before.before.lesser2.ensures))
-    (λ c. omega (arith, c.before.before.lesser2.ensures))
+    (λ c. omega (arith, c.before.before.lesser-to.ensures))
+    (λ c. omega (arith, c.before.before.lesser-to.ensures))
     (λ c. search rules))

@@ -13,10 +13,10 @@ use Rattle.text_writers.specs.Writing.{same_size}
 use Rattle.replay.proofs.write_some.Statement.{statement}
 use Rattle.replay.proofs.write_some.Tie as tie
 
-abbrev invariant-loop : tie.invariant-loop
+abbrev invariant-loop : tie.invariant-loop-i
 invariant-loop answers from to text₀ length₀ i₀ text many i = (from ≤ i) × (i ≤ to) × (length text ≡ REPORT) × (many + 21 * from ≤ 21 * i)
 
-abbrev decreases-loop : tie.decreases-loop
+abbrev decreases-loop : tie.decreases-loop-i
 decreases-loop answers from to text₀ length₀ i₀ text many i = to - i
 
 -- a number and its end
@@ -24,37 +24,37 @@ short : (k : ℕ) → k < 2 ^ 64 → length (decimal k ++ (10 ∷ [])) ≤ 21
 short k h = omega (arith, length-append (decimal k) (10 ∷ []), decimal-length k h)
 
 -- what is written of an answer
-answer : (c : tie.In-loop invariant-loop decreases-loop) → let top = c.before in
-    length (decimal (get_or top.before.before.before.args.answers.now top.loop.i 0) ++ (10 ∷ [])) ≤ 21
-answer c = let top = c.before in short _ (omega (arith, top.before.before.shared-slice-known.given top.loop.i))
+answer : (c : tie.In-loop-i invariant-loop decreases-loop) → let top = c.before in
+    length (decimal (get_or top.before.before.before.args.answers.now top.loop-i.i 0) ++ (10 ∷ [])) ≤ 21
+answer c = let top = c.before in short _ (omega (arith, top.before.before.shared_slice_known-1.given top.loop-i.i))
 
-put-number-requires : tie.Need-put-number-requires invariant-loop decreases-loop
+put-number-requires : tie.Need-put_number-length-requires invariant-loop decreases-loop
 put-number-requires c κs =
     let top = c.before.before.before in
     let s = top.before.before.before in
-    omega (arith, s.requires, top.loop.invariant, answer c.before.before)
+    omega (arith, s.requires, top.loop-i.invariant, answer c.before.before)
 
-loop-again : tie.Need-loop-preserved invariant-loop decreases-loop
+loop-again : tie.Need-loop-i-preserved invariant-loop decreases-loop
 loop-again c =
     let put = c.before in
     let in-loop = put.before.before.before in
     let top = in-loop.before in (
       omega arith,
       omega arith,
-      same_size put.put-number.ensures ∙ top.loop.invariant.2,
-      omega (arith, put.put-number.ensures.next, top.loop.invariant, answer in-loop),
+      same_size put.put_number-length.ensures ∙ top.loop-i.invariant.2,
+      omega (arith, put.put_number-length.ensures.next, top.loop-i.invariant, answer in-loop),
     )
 
-array-share-prefix-text : tie.Need-array-share-prefix-text invariant-loop decreases-loop
-array-share-prefix-text c = omega (arith, c.before.loop.invariant, c.before.before.before.before.requires)
+array-share-prefix-text : tie.Need-slice_bounds-text-end invariant-loop decreases-loop
+array-share-prefix-text c = omega (arith, c.before.loop-i.invariant, c.before.before.before.before.requires)
 
-slice-aggregate-write : tie.Need-slice-aggregate-write invariant-loop decreases-loop
+slice-aggregate-write : tie.Need-slice_bounds-write-end invariant-loop decreases-loop
 slice-aggregate-write c =
     let top = c.before.before in
-    sym (length-take-le _ _ (omega (arith, top.loop.invariant, top.before.before.before.requires)))
+    sym (length-take-le _ _ (omega (arith, top.loop-i.invariant, top.before.before.before.requires)))
 
-pub write-some-spec : {M : Type 1} → statement M
-write-some-spec =
+pub write_some_spec : {M : Type 1} → statement M
+write_some_spec =
     tie.close
     (tie.spec
     invariant-loop

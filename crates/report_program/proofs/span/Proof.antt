@@ -6,60 +6,60 @@ use borrow.Author.Rules.{rules}
 use Rattle.report_program.proofs.span.Statement.{statement}
 use Rattle.report_program.proofs.span.Tie as tie
 
-slice-aggregate-read : tie.Need-slice-aggregate-read
+slice-aggregate-read : tie.Need-slice_bounds-read-end
 slice-aggregate-read c = search rules
 
-read-requires : tie.Need-read-requires
+read-requires : tie.Need-read-input-requires
 read-requires c κs = search rules
 
-returns : tie.Need-returns
+returns : tie.Need-returns-then-not-input
 returns c = search rules
 
-large-buffer-requires : tie.Need-large-buffer-requires
+large-buffer-requires : tie.Need-large_buffer-printed-requires
 large-buffer-requires c κs = search rules
 
-array-share-prefix-sheet : tie.Need-array-share-prefix-sheet
+array-share-prefix-sheet : tie.Need-slice_bounds-sheet-end
 array-share-prefix-sheet c = search rules
 
-slice-aggregate-span : tie.Need-slice-aggregate-span
+slice-aggregate-span : tie.Need-slice_bounds-span-end
 slice-aggregate-span c = search rules
 
-slice-aggregate-span-2 : tie.Need-slice-aggregate-span-2
+slice-aggregate-span-2 : tie.Need-slice_bounds-span-end-2
 slice-aggregate-span-2 c = search rules
 
-span-requires : tie.Need-span-requires
+span-requires : tie.Need-span-outcome-requires
 span-requires c κs = search rules
 
-enum-known-outcome : tie.Need-enum-known-outcome
+enum-known-outcome : tie.Need-enum_known-outcome
 enum-known-outcome c = search rules
 
-array-share-prefix-printed : tie.Need-array-share-prefix-printed
+array-share-prefix-printed : tie.Need-slice_bounds-printed-end
 array-share-prefix-printed c =
-    let p = c.before.before.before.before.span.ensures in
-    rw p.1 (a_span_is_within_the_buffer _ _ _ (sym p.0 ∙ c.before.outcome.given.1))
+    let p = c.before.before.span-outcome.ensures in
+    rw p.1 (a_span_is_within_the_buffer _ _ _ (sym p.0 ∙ c.in-Report.is))
 
-slice-aggregate-write : tie.Need-slice-aggregate-write
+slice-aggregate-write : tie.Need-slice_bounds-write-end
 slice-aggregate-write c =
-    let p = c.before.before.before.before.before.span.ensures in
-    sym (length-take-le _ _ (rw p.1 (a_span_is_within_the_buffer _ _ _ (sym p.0 ∙ c.before.before.outcome.given.1))))
+    let p = c.before.before.before.span-outcome.ensures in
+    sym (length-take-le _ _ (rw p.1 (a_span_is_within_the_buffer _ _ _ (sym p.0 ∙ c.before.in-Report.is))))
 
 write-requires : tie.Need-write-requires
 write-requires c κs = search rules
 
-enum-known-outcome-2 : tie.Need-enum-known-outcome-2
+enum-known-outcome-2 : tie.Need-enum_known-outcome-in-Refused-1
 enum-known-outcome-2 c = search rules
 
 refuse-requires : tie.Need-refuse-requires
 refuse-requires c κs = search rules
 
-returns-2 : tie.Need-returns-2
+returns-2 : tie.Need-returns-in-Report
 returns-2 c = search rules
 
-returns-3 : tie.Need-returns-3
+returns-3 : tie.Need-returns-in-Refused
 returns-3 c = search rules
 
-pub span-spec : {M : Type 1} → statement M
-span-spec =
+pub span_spec : {M : Type 1} → statement M
+span_spec =
     tie.close
     (tie.spec
     slice-aggregate-read

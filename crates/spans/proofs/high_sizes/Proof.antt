@@ -6,7 +6,7 @@ use Rattle.spans.proofs.high_sizes.Statement.{statement}
 use Rattle.spans.proofs.high_sizes.Tie as tie
 
 returns : tie.Need-returns
-returns c = ap (λ (x : Reading). x.network.capacity) c.before.before.read_high.ensures
+returns c = ap (λ (x : Reading). x.network.capacity) c.before.before.read_high-reading.ensures
 
-pub high-sizes-spec : {M : Type 1} → statement M
-high-sizes-spec = tie.close (tie.spec (λ c κs. search rules) returns)
+pub high_sizes_spec : {M : Type 1} → statement M
+high_sizes_spec = tie.close (tie.spec (λ c κs. search rules) returns)

@@ -8,26 +8,26 @@ use Rattle.spans.specs.Ready.{Listed, accepted_is_listed, refused_is_told, room_
 use Rattle.spans.proofs.span.Statement.{statement}
 use Rattle.spans.proofs.span.Tie as tie
 
-returns : tie.Need-returns
+returns : tie.Need-returns-in-Refused
 returns c =
-    let a = c.before.before.before.before.before.before.args in
-    let r = c.before.before.before.read_low.ensures in
-    let e = refused_is_told a.sheet.now a.report.now _ _ (sym (ap (λ x. x.answer) r) ∙ c.before.answer.given.1) in
+    let a = c.before.before.before.before.args in
+    let r = c.before.read_low-reading.ensures in
+    let e = refused_is_told a.sheet.now a.report.now _ _ (sym (ap (λ x. x.answer) r) ∙ c.in-Refused.is) in
     (sym (ap (λ p. p.outcome) e), sym (ap (λ p. p.buffer) e))
 
-span-parts-requires : tie.Need-span-parts-requires
+span-parts-requires : tie.Need-span_parts-requires
 span-parts-requires c κs =
-    let read = c.before.before.before.before.before.before.before.before.before.before.before.before.before.before.before in
-    let sheet = read.before.before.before.before.before.before.args.sheet.now in
-    let low = read.before.before.before.read_low in
-    let high = read.high-sizes.ensures in
-    let told = sym (ap (λ x. x.answer) low.ensures) ∙ read.before.enum_told.given.1 in
+    let read = c.before.before.before.before.before.before.before.before.before.before.before.before.before.before in
+    let sheet = read.before.before.before.before.before.args.sheet.now in
+    let low = read.before.before.read_low-reading in
+    let high = read.high_sizes-high.ensures in
+    let told = sym (ap (λ x. x.answer) low.ensures) ∙ read.before.in_default.is in
     let listed : Listed sheet low.result.network (reading (read_as ranges_high sheet)).network = rw (← low.ensures) at (accepted_is_listed sheet told) in
     let room = room_for_the_links listed in
     rw high (the_lists_are_taken_apart listed, room.0, room.1, room.2, room.3, room.4)
 
-pub span-spec : {M : Type 1} → statement M
-span-spec =
+pub span_spec : {M : Type 1} → statement M
+span_spec =
     tie.close
     (tie.spec
     (λ c κs. search rules)

@@ -17,48 +17,48 @@ front-has-places : (l : List ℕ) (m : ℕ) → length (take m l) ≡ m → m �
 front-has-places l m e = omega (arith, length-take m l)
 
 -- the front of each list that is lent, worked out, and its total
-least-front : (c : tie.After-trim) → let a = c.before.before.before.before.before.before.before.before.before.before.before.before.args in
-    take (length a.one.now) c.trim.new.1.1.1.1.1.1.0 ≡ capacities a.n a.one.now a.two.now a.marks.now a.low.now
-least-front c = let s = c.before.before.before.before.before.before.before.before.before.before.before.before in the_front_is_worked_out (the_low_tree s.requires) c.before.before.chart-of.ensures _ _ c.trim.ensures.1
+least-front : (c : tie.After-trim-lower) → let a = c.before.before.before.before.before.before.before.before.before.before.before.before.args in
+    take (length a.one.now) c.trim-lower.new.sizes ≡ capacities a.n a.one.now a.two.now a.marks.now a.low.now
+least-front c = let s = c.before.before.before.before.before.before.before.before.before.before.before.before in the_front_is_worked_out (the_low_tree s.requires) c.before.before.chart_of-chart.ensures _ _ c.trim-lower.ensures.1
 
-least-total : (c : tie.After-trim) → let a = c.before.before.before.before.before.before.before.before.before.before.before.before.args in
-    c.trim.result ≡ total_by a.n a.one.now a.two.now a.marks.now a.low.now
-least-total c = let s = c.before.before.before.before.before.before.before.before.before.before.before.before in c.trim.ensures.0 ∙ the_sum_is_the_largest_total (the_low_tree s.requires) c.before.before.chart-of.ensures
+least-total : (c : tie.After-trim-lower) → let a = c.before.before.before.before.before.before.before.before.before.before.before.before.args in
+    c.trim-lower.result ≡ total_by a.n a.one.now a.two.now a.marks.now a.low.now
+least-total c = let s = c.before.before.before.before.before.before.before.before.before.before.before.before in c.trim-lower.ensures.0 ∙ the_sum_is_the_largest_total (the_low_tree s.requires) c.before.before.chart_of-chart.ensures
 
-greatest-front : (c : tie.After-trim2) → let a = c.before.before.before.before.before.before.before.before.before.before.before.before.before.before.before.args in
-    take (length a.one.now) c.trim2.new.1.1.1.1.1.1.0 ≡ capacities a.n a.one.now a.two.now a.marks.now a.high.now
-greatest-front c = let s = c.before.before.before.before.before.before.before.before.before.before.before.before.before.before.before in the_front_is_worked_out (the_high_tree s.requires) c.before.before.before.before.before.chart-of.ensures _ _ c.trim2.ensures.1
+greatest-front : (c : tie.After-trim-upper) → let a = c.before.before.before.before.before.before.before.before.before.before.before.before.before.before.before.args in
+    take (length a.one.now) c.trim-upper.new.sizes ≡ capacities a.n a.one.now a.two.now a.marks.now a.high.now
+greatest-front c = let s = c.before.before.before.before.before.before.before.before.before.before.before.before.before.before.before in the_front_is_worked_out (the_high_tree s.requires) c.before.before.before.before.before.chart_of-chart.ensures _ _ c.trim-upper.ensures.1
 
-greatest-total : (c : tie.After-trim2) → let a = c.before.before.before.before.before.before.before.before.before.before.before.before.before.before.before.args in
-    c.trim2.result ≡ total_by a.n a.one.now a.two.now a.marks.now a.high.now
-greatest-total c = let s = c.before.before.before.before.before.before.before.before.before.before.before.before.before.before.before in c.trim2.ensures.0 ∙ the_sum_is_the_largest_total (the_high_tree s.requires) c.before.before.before.before.before.chart-of.ensures
+greatest-total : (c : tie.After-trim-upper) → let a = c.before.before.before.before.before.before.before.before.before.before.before.before.before.before.before.args in
+    c.trim-upper.result ≡ total_by a.n a.one.now a.two.now a.marks.now a.high.now
+greatest-total c = let s = c.before.before.before.before.before.before.before.before.before.before.before.before.before.before.before in c.trim-upper.ensures.0 ∙ the_sum_is_the_largest_total (the_high_tree s.requires) c.before.before.before.before.before.chart_of-chart.ensures
 
-trim-requires : tie.Need-trim-requires
+trim-requires : tie.Need-trim-lower-requires
 trim-requires c κs =
     let s = c.before.before.before.before.before.before.before.before.before.before.before in
-    let made = c.before.chart-of.ensures in
+    let made = c.before.chart_of-chart.ensures in
     ((the_low_tree s.requires).within, made.ordered, made.chained, few_firsts s.requires)
 
-trim-requires-2 : tie.Need-trim-requires-2
+trim-requires-2 : tie.Need-trim-upper-requires
 trim-requires-2 c κs =
     let s = c.before.before.before.before.before.before.before.before.before.before.before.before.before.before in
-    let made = c.before.before.before.before.chart-of.ensures in
+    let made = c.before.before.before.before.chart_of-chart.ensures in
     ((the_high_tree s.requires).within, made.ordered, made.chained, few_firsts s.requires)
 
-array-share-prefix-least : tie.Need-array-share-prefix-least
+array-share-prefix-least : tie.Need-slice_bounds-least-end
 array-share-prefix-least c =
     let s = c.before.before.before.before.before.before.before.before.before.before.before.before.before.before.before.before in
     front-has-places _ (length s.args.one.now) (ap length (least-front c.before.before.before.before) ∙ (capacities_keep_the_promise (the_low_tree s.requires)).each)
 
-slice-aggregate-deliver : tie.Need-slice-aggregate-deliver
+slice-aggregate-deliver : tie.Need-slice_bounds-deliver-end
 slice-aggregate-deliver c = let s = c.before.before.before.before.before.before.before.before.before.before.before.before.before.before.before.before.before in sym (ap length (least-front c.before.before.before.before.before) ∙ (capacities_keep_the_promise (the_low_tree s.requires)).each)
 
-array-share-prefix-greatest : tie.Need-array-share-prefix-greatest
+array-share-prefix-greatest : tie.Need-slice_bounds-greatest-end
 array-share-prefix-greatest c =
     let s = c.before.before.before.before.before.before.before.before.before.before.before.before.before.before.before.before.before in
     front-has-places _ (length s.args.one.now) (ap length (greatest-front c.before.before) ∙ (capacities_keep_the_promise (the_high_tree s.requires)).each)
 
-slice-aggregate-deliver-2 : tie.Need-slice-aggregate-deliver-2
+slice-aggregate-deliver-2 : tie.Need-slice_bounds-deliver-end-2
 slice-aggregate-deliver-2 c = let s = c.before.before.before.before.before.before.before.before.before.before.before.before.before.before.before.before.before.before in sym (ap length (greatest-front c.before.before.before) ∙ (capacities_keep_the_promise (the_high_tree s.requires)).each)
 
 deliver-requires : tie.Need-deliver-requires
@@ -83,8 +83,8 @@ returns c =
     let e = the_span_is_delivered s.requires _ _ _ _ (least-front low) (greatest-front high) (least-total low) (greatest-total high) s.args.report.now in
     (made.ensures.0 ∙ ap (λ p. p.outcome) e, made.ensures.1 ∙ ap (λ p. p.buffer) e)
 
-pub span-lists-spec : {M : Type 1} → statement M
-span-lists-spec =
+pub span_lists_spec : {M : Type 1} → statement M
+span_lists_spec =
     tie.close
     (tie.spec
     (λ c κs. let s = c.before.before.before.before.before.before.before.before.before in the_low_tree s.requires)

@@ -5,19 +5,19 @@ use borrow.Author.Rules.{rules}
 use Rattle.spans.proofs.span_parts.Statement.{statement}
 use Rattle.spans.proofs.span_parts.Tie as tie
 
-pub span-parts-spec : {M : Type 1} → statement M
-span-parts-spec =
+pub span_parts_spec : {M : Type 1} → statement M
+span_parts_spec =
     tie.close
     (tie.spec
-    (λ c. let s = c.before.before.before.before.before.before.before.before.before.before in
+    (λ c. let s = c.before.before.before.before.before.before.before.before.before in
     sym (length-take-le s.args.m s.args.one.now s.requires.1))
-    (λ c. let s = c.before.before.before.before.before.before.before.before.before.before.before in
+    (λ c. let s = c.before.before.before.before.before.before.before.before.before in
     sym (length-take-le s.args.m s.args.two.now s.requires.2))
-    (λ c. let s = c.before.before.before.before.before.before.before.before.before.before.before.before in
+    (λ c. let s = c.before.before.before.before.before.before.before.before.before in
     sym (length-take-le s.args.n s.args.mark.now s.requires.3))
-    (λ c. let s = c.before.before.before.before.before.before.before.before.before.before.before.before.before in
+    (λ c. let s = c.before.before.before.before.before.before.before.before.before in
     sym (length-take-le s.args.m s.args.low.now s.requires.4))
-    (λ c. let s = c.before.before.before.before.before.before.before.before.before.before.before.before.before.before in
+    (λ c. let s = c.before.before.before.before.before.before.before.before.before in
     sym (length-take-le s.args.m s.args.high.now s.requires.5))
     (λ c κs. search rules)
     (λ c. search rules)

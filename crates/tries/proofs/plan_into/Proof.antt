@@ -7,27 +7,27 @@ use Rattle.tries.proofs.plan_into.Statement.{statement}
 use Rattle.tries.proofs.plan_into.Tie as tie
 
 -- src/main.rt:60:19
-large-buffer-requires : tie.Need-large-buffer-requires
+large-buffer-requires : tie.Need-large_buffer-buf-requires
 large-buffer-requires c κs = search rules
 
 -- src/main.rt:61:22
-array-borrow-prefix-buf : tie.Need-array-borrow-prefix-buf
+array-borrow-prefix-buf : tie.Need-slice_bounds-buf-end
 array-borrow-prefix-buf c = search rules
 
 -- src/main.rt:61:22
-slice-aggregate-tell-plan : tie.Need-slice-aggregate-tell-plan
-slice-aggregate-tell-plan c = sym (length-take-le _ _ (omega (arith, c.before.large-buffer.ensures)))
+slice-aggregate-tell-plan : tie.Need-slice_bounds-tell_plan-end
+slice-aggregate-tell-plan c = sym (length-take-le _ _ (omega (arith, c.before.large_buffer-buf.ensures)))
 
 -- src/main.rt:61:5
-tell-plan-requires : tie.Need-tell-plan-requires
+tell-plan-requires : tie.Need-tell_plan-requires
 tell-plan-requires c κs = search rules
 
 -- src/main.rt:57:1
 returns : tie.Need-returns
 returns c = search rules
 
-pub plan-into-spec : {M : Type 1} → statement M
-plan-into-spec =
+pub plan_into_spec : {M : Type 1} → statement M
+plan_into_spec =
     tie.close
     (tie.spec
     large-buffer-requires

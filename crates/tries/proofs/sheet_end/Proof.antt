@@ -5,42 +5,42 @@ use lib.ListN.{length}
 use Rattle.tries.proofs.sheet_end.Statement.{statement}
 use Rattle.tries.proofs.sheet_end.Tie as tie
 
-abbrev invariant-loop : tie.invariant-loop
+abbrev invariant-loop : tie.invariant-loop-at
 invariant-loop text from at₀ at = (from ≤ at) × (at ≤ length text)
 
-abbrev decreases-loop : tie.decreases-loop
+abbrev decreases-loop : tie.decreases-loop-at
 decreases-loop text from at₀ at = length text - at
 
 -- src/main.rt:14:5
-loop-holds : tie.Need-loop-init invariant-loop decreases-loop
+loop-holds : tie.Need-loop-at-init invariant-loop decreases-loop
 loop-holds c = (omega arith, omega arith)
 
 -- src/main.rt:15:12
-shared-slice-read-if1 : tie.Need-shared-slice-read-if1 invariant-loop decreases-loop
+shared-slice-read-if1 : tie.Need-bounds-text-at invariant-loop decreases-loop
 shared-slice-read-if1 c = omega arith
 
 -- src/main.rt:16:13
-returns : tie.Need-returns invariant-loop decreases-loop
+returns : tie.Need-returns-then-text-at-eq0 invariant-loop decreases-loop
 returns c = (omega arith, omega arith)
 
 -- src/main.rt:18:9
-add_at : tie.Need-overflow-add-at invariant-loop decreases-loop
+add_at : tie.Need-overflow_add-at invariant-loop decreases-loop
 add_at c = omega arith
 
 -- src/main.rt:14:5
-loop-less : tie.Need-loop-smaller invariant-loop decreases-loop
+loop-less : tie.Need-loop-at-smaller invariant-loop decreases-loop
 loop-less c = omega arith
 
 -- src/main.rt:14:5
-loop-again : tie.Need-loop-preserved invariant-loop decreases-loop
+loop-again : tie.Need-loop-at-preserved invariant-loop decreases-loop
 loop-again c = (omega arith, omega arith)
 
 -- src/main.rt:9:1
-returns-2 : tie.Need-returns-2 invariant-loop decreases-loop
+returns-2 : tie.Need-returns invariant-loop decreases-loop
 returns-2 c = (omega arith, omega arith)
 
-pub sheet-end-spec : {M : Type 1} → statement M
-sheet-end-spec =
+pub sheet_end_spec : {M : Type 1} → statement M
+sheet_end_spec =
     tie.close
     (tie.spec
     invariant-loop

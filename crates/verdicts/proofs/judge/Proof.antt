@@ -6,21 +6,21 @@ use Rattle.verdicts.specs.OverNetwork.{refused_is_told}
 use Rattle.verdicts.proofs.judge.Statement.{statement}
 use Rattle.verdicts.proofs.judge.Tie as tie
 
-judge-network-requires : tie.Need-judge-network-requires
+judge-network-requires : tie.Need-judge_network-requires
 judge-network-requires c κs =
     let read = c.before.before in
-    rw (← read.read.ensures) at
-    (accepted_is_listed c.before.before.before.before.before.args.sheet.now (sym (ap (λ x. x.answer) read.read.ensures)
-    ∙ c.enum_told.given.1))
+    rw (← read.read-reading.ensures) at
+    (accepted_is_listed c.before.before.before.before.before.args.sheet.now (sym (ap (λ x. x.answer) read.read-reading.ensures)
+    ∙ c.before.in-Accepted.is))
 
-returns : tie.Need-returns
+returns : tie.Need-returns-in-Refused
 returns c =
-    let a = c.before.before.before.before.before.before.args in
-    sym (refused_is_told a.sheet.now a.plan.now _ _ (sym (ap (λ x. x.answer) c.before.before.before.read.ensures)
-    ∙ c.before.answer.given.1))
+    let a = c.before.before.before.before.args in
+    sym (refused_is_told a.sheet.now a.plan.now _ _ (sym (ap (λ x. x.answer) c.before.read-reading.ensures)
+    ∙ c.in-Refused.is))
 
-pub judge-spec : {M : Type 1} → statement M
-judge-spec =
+pub judge_spec : {M : Type 1} → statement M
+judge_spec =
     tie.close
     (tie.spec
     (λ c κs. search rules)

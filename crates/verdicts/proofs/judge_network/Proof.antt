@@ -7,34 +7,34 @@ use Rattle.verdicts.specs.OverNetwork.{too_many_bytes, too_many_lines, judged_by
 use Rattle.verdicts.proofs.judge_network.Statement.{statement}
 use Rattle.verdicts.proofs.judge_network.Tie as tie
 
-returns : tie.Need-returns
-returns c = let s = c.before.before.before in sym (too_many_bytes s.requires s.args.plan.now c.if1.true)
+returns : tie.Need-returns-then-plan-gt-PLANBYTES
+returns c = let s = c.before.before.before in sym (too_many_bytes s.requires s.args.plan.now c.if-plan-gt-PLANBYTES.true)
 
-returns-2 : tie.Need-returns-2
+returns-2 : tie.Need-returns-then-count_lines-gt-PLANLINES
 returns-2 c =
     let counted = c.before in
     let s = c.before.before.before.before.before in
-    sym (too_many_lines s.requires s.args.plan.now counted.before.if1.false (rw counted.count-lines.ensures at c.if2.true))
+    sym (too_many_lines s.requires s.args.plan.now counted.before.if-plan-gt-PLANBYTES.false (rw counted.count_lines.ensures at c.if-count_lines-gt-PLANLINES.true))
 
-judge-parts-requires : tie.Need-judge-parts-requires
+judge-parts-requires : tie.Need-judge_parts-requires
 judge-parts-requires c κs =
-    let s = c.before.before.before.before.before.before.before.before.before.before.before.before.before.before.before.before in
-    let else2 = c.before.before.before.before.before.before.before.before.before.before.before in
+    let s = c.before.before.before.before.before.before.before.before.before.before.before.before.before.before.before in
+    let else2 = c.before.before.before.before.before.before.before.before.before.before in
     let room = room_for_the_links s.requires in
     let tree = rw (← (the_marks_are_taken_apart s.requires)) at (the_network_is_a_marked_tree (the_lists_are_taken_apart s.requires)) in
-    (tree, the_names_are_distinct s.requires, rw else2.before.count-lines.ensures at else2.if2.false, room.0, room.1, room.2, room.3)
+    (tree, the_names_are_distinct s.requires, rw else2.before.count_lines.ensures at else2.if-count_lines-gt-PLANLINES.false, room.0, room.1, room.2, room.3)
 
-returns-3 : tie.Need-returns-3
+returns-3 : tie.Need-returns
 returns-3 c =
-    let s = c.before.before.before.before.before.before.before.before.before.before.before.before.before.before.before.before.before in
-    let else2 = c.before.before.before.before.before.before.before.before.before.before.before.before in
+    let s = c.before.before.before.before.before.before.before.before.before.before.before.before.before.before.before.before in
+    let else2 = c.before.before.before.before.before.before.before.before.before.before.before in
     let counted = else2.before in
-    c.judge-parts.ensures
+    c.judge_parts.ensures
     ∙ the_verdict_is_the_networks s.requires s.args.plan.now
-    ∙ sym (judged_by_its_lines s.requires s.args.plan.now counted.before.if1.false (rw counted.count-lines.ensures at else2.if2.false))
+    ∙ sym (judged_by_its_lines s.requires s.args.plan.now counted.before.if-plan-gt-PLANBYTES.false (rw counted.count_lines.ensures at else2.if-count_lines-gt-PLANLINES.false))
 
-pub judge-network-spec : {M : Type 1} → statement M
-judge-network-spec =
+pub judge_network_spec : {M : Type 1} → statement M
+judge_network_spec =
     tie.close
     (tie.spec
     returns

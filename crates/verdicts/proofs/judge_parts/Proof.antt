@@ -5,15 +5,15 @@ use borrow.Author.Rules.{rules}
 use Rattle.verdicts.proofs.judge_parts.Statement.{statement}
 use Rattle.verdicts.proofs.judge_parts.Tie as tie
 
-pub judge-parts-spec : {M : Type 1} → statement M
-judge-parts-spec =
+pub judge_parts_spec : {M : Type 1} → statement M
+judge_parts_spec =
     tie.close
     (tie.spec
-    (λ c. let s = c.before.before.before.before.before.before.before in sym (length-take-le s.args.m s.args.one.now s.requires.3))
-    (λ c. let s = c.before.before.before.before.before.before.before.before in sym (length-take-le s.args.m s.args.two.now s.requires.4))
-    (λ c. let s = c.before.before.before.before.before.before.before.before.before in sym (length-take-le s.args.n s.args.mark.now
+    (λ c. let s = c.before.before.before.before.before.before in sym (length-take-le s.args.m s.args.one.now s.requires.3))
+    (λ c. let s = c.before.before.before.before.before.before in sym (length-take-le s.args.m s.args.two.now s.requires.4))
+    (λ c. let s = c.before.before.before.before.before.before in sym (length-take-le s.args.n s.args.mark.now
     s.requires.6))
-    (λ c. let s = c.before.before.before.before.before.before.before.before.before.before in sym (length-take-le s.args.m
+    (λ c. let s = c.before.before.before.before.before.before in sym (length-take-le s.args.m
     s.args.capacity.now s.requires.5))
     (λ c κs. search rules)
     (λ c. search rules))

@@ -25,13 +25,13 @@ use Rattle.verdicts.specs.Laws.{a_fault_is_the_verdict, an_overload_is_the_verdi
 use Rattle.verdicts.proofs.judge_tree.Statement.{statement}
 use Rattle.verdicts.proofs.judge_tree.Tie as tie
 
-ends-of-requires : tie.Need-ends-of-requires
+ends-of-requires : tie.Need-ends_of-ends-requires
 ends-of-requires c κs =
     let tree = c.before.before.before.before.before.before.before.requires.0 in
     (omega (arith, tree.within.few), tree.marked, offer-placed tree.within)
 
 -- without marks each end has one link
-account-requires : tie.Need-account-requires
+account-requires : tie.Need-account-accounted-requires
 account-requires c κs =
     let s = c.before.before.before.before.before.before.before.before.before.before.before.before.before in
     let a = s.args in
@@ -39,60 +39,60 @@ account-requires c κs =
     let w = s.requires.0.within in
     let tree : TreeOf SITES a.n a.one.now a.two.now =
     record { tree = w.tree; few = w.few; firsts = w.firsts; seconds = w.seconds } in (
-      record { tree = tree; table = c.before.before.before.paths.ensures },
-      c.before.before.before.before.before.before.index.ensures,
+      record { tree = tree; table = c.before.before.before.paths-rows.ensures },
+      c.before.before.before.before.before.before.index-table.ensures,
       s.requires.2,
-      λ e. subst (Outer (links a.one.now a.two.now) a.n) (sym c.before.before.before.before.before.ends_of.ensures)
+      λ e. subst (Outer (links a.one.now a.two.now) a.n) (sym c.before.before.before.before.before.ends_of-ends.ensures)
           (unmarked_ends_are_outer (links a.one.now a.two.now) a.n a.marks.now
-          (told marks.unmarked.result marks.unmarked.ensures e)),
+          (told marks.unmarked-outer.result marks.unmarked-outer.ensures e)),
     )
 
 -- what the lines come to, with the ends of the tree
-comes : (c : tie.After-account)
+comes : (c : tie.After-account-accounted)
     → let a = c.before.before.before.before.before.before.before.before.before.before.before.before.before.before.args in let ls = links
     a.one.now a.two.now in
     Comes ls (account 1 [] (requests true a.sheet.now (ranges a.starts.now a.stops.now 0 a.n) ls (look (ends ls a.n a.marks.now))
-    a.plan.now)) c.account.result
+    a.plan.now)) c.account-accounted.result
 comes c =
     let a = c.before.before.before.before.before.before.before.before.before.before.before.before.before.before.args in
     let ls = links a.one.now a.two.now in
     subst (λ t. Comes ls (account 1 [] (requests true a.sheet.now (ranges a.starts.now a.stops.now 0 a.n) ls t a.plan.now))
-    c.account.result) c.before.before.before.before.before.before.ends_of.ensures c.account.ensures
+    c.account-accounted.result) c.before.before.before.before.before.before.ends_of-ends.ensures c.account-accounted.ensures
 
 -- a capacity for each link
-long : (c : tie.After-account) → let a = c.before.before.before.before.before.before.before.before.before.before.before.before.before.before.args in length a.capacity.now ≡ length (links a.one.now a.two.now)
+long : (c : tie.After-account-accounted) → let a = c.before.before.before.before.before.before.before.before.before.before.before.before.before.before.args in length a.capacity.now ≡ length (links a.one.now a.two.now)
 long c =
     let s = c.before.before.before.before.before.before.before.before.before.before.before.before.before.before in
     let w = s.requires.0.within in
     omega (arith, w.firsts, w.seconds, w.capacities, length-links s.args.one.now s.args.two.now (omega (arith, w.firsts, w.seconds)))
 
-returns : tie.Need-returns
-returns c = a_fault_is_the_verdict _ _ _ _ c.before.account.result _ (comes c.before) c.if1.true
+returns : tie.Need-returns-then-accounted-ne0
+returns c = a_fault_is_the_verdict _ _ _ _ c.before.account-accounted.result _ (comes c.before) c.if-accounted-ne0.true
 
 overloaded-requires : tie.Need-overloaded-requires
 overloaded-requires c κs =
-    let w = c.before.before.before.before.before.before.before.before.before.before.before.before.before.before.before.before.before.requires.0.within in
+    let w = c.before.before.before.before.before.before.before.before.before.before.before.before.before.before.before.before.requires.0.within in
     record { few = omega (arith, w.few, w.capacities); limited = w.limited }
 
-returns-2 : tie.Need-returns-2
+returns-2 : tie.Need-returns-then-overloaded
 returns-2 c =
-    let made = c.before.before.before.before.before in
-    an_overload_is_the_verdict _ _ _ _ made.account.result (long made) c.before.before.before.before.if1.false _ (comes made)
-    (told c.before.overloaded.result c.before.overloaded.ensures c.if2.true)
+    let made = c.before.before.before.before in
+    an_overload_is_the_verdict _ _ _ _ made.account-accounted.result (long made) c.before.before.before.if-accounted-ne0.false _ (comes made)
+    (told c.before.overloaded.result c.before.overloaded.ensures c.if-overloaded.true)
 
-largest-total-requires : tie.Need-largest-total-requires
-largest-total-requires c κs = c.before.before.before.before.before.before.before.before.before.before.before.before.before.before.before.before.before.before.before.requires.0
+largest-total-requires : tie.Need-largest_total-most-requires
+largest-total-requires c κs = c.before.before.before.before.before.before.before.before.before.before.before.before.before.before.before.before.before.before.requires.0
 
-returns-3 : tie.Need-returns-3
+returns-3 : tie.Need-returns
 returns-3 c =
-    let made = c.before.before.before.before.before.before in
+    let made = c.before.before.before.before.before in
     let over = c.before.before in
-    ap (λ most. Judged made.account.result.total (eqb made.account.result.total most)) c.largest-total.ensures
-    ∙ the_total_is_the_verdict _ _ _ _ made.account.result (long made) c.before.before.before.before.before.if1.false _ (comes made)
-    (denied over.overloaded.result over.overloaded.ensures c.before.if2.false)
+    ap (λ most. Judged made.account-accounted.result.total (eqb made.account-accounted.result.total most)) c.largest_total-most.ensures
+    ∙ the_total_is_the_verdict _ _ _ _ made.account-accounted.result (long made) c.before.before.before.before.if-accounted-ne0.false _ (comes made)
+    (denied over.overloaded.result over.overloaded.ensures c.before.if-overloaded.false)
 
-pub judge-tree-spec : {M : Type 1} → statement M
-judge-tree-spec =
+pub judge_tree_spec : {M : Type 1} → statement M
+judge_tree_spec =
     tie.close
     (tie.spec
     (λ c κs. search rules)
