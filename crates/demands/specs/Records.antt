@@ -128,9 +128,9 @@ module _ (p : Plan) (ks : List ℕ) (long : 2 ≤ length p.word) (word : Plain p
   pub first-line : get_or (records (report_of p)) 0 [] ≡ head_fields p
   first-line = ap (λ y. get_or y 0 []) report-back
 
-  cut_line : (k : List ℕ) (a : ℕ) → headed k (cut_lines p a) ≡ cond (same (bytes "X") k) (cut_lines p a) []
+  cut_line_lem : (k : List ℕ) (a : ℕ) → headed k (cut_lines p a) ≡ cond (same (bytes "X") k) (cut_lines p a) []
   unfolding headed
-  cut_line k a = pick_cases (λ r. headed k r ≡ cond (same (bytes "X") k) r []) (look p.ends a) 1 (cut_fields p a ∷ []) []
+  cut_line_lem k a = pick_cases (λ r. headed k r ≡ cond (same (bytes "X") k) r []) (look p.ends a) 1 (cut_fields p a ∷ []) []
       (λ e. refl) (λ d. nothing-kept (same (bytes "X") k))
 
   -- the lines headed k: those of the letter k
@@ -148,7 +148,7 @@ module _ (p : Plan) (ks : List ℕ) (long : 2 ≤ length p.word) (word : Plain p
         headed-append k (odd_rows ks),
         headed_parts k (λ j. link_fields p j ∷ []) (same (bytes "L") k) (λ j. refl) (upfrom 0 (length p.ones)),
         headed_parts k (λ x. site_fields p x ∷ []) (same (bytes "N") k) (λ x. refl) (sites p.size),
-        headed_parts k (cut_lines p) (same (bytes "X") k) (cut_line k) (sites p.size),
+        headed_parts k (cut_lines p) (same (bytes "X") k) (cut_line_lem k) (sites p.size),
         headed_parts k (λ k. odd_fields k ∷ []) (same (bytes "Q") k) (λ k. refl) ks,
         headed_parts k (λ e. pair_fields p e ∷ []) (same (bytes "P") k) (λ e. refl) p.pairs,
       )

@@ -10,7 +10,7 @@ use Rattle.book.proofs.write_page.Statement.{statement}
 use Rattle.book.proofs.write_page.Tie as tie
 
 -- the length told is at most the buffer's
-within : (c : tie.In-Page) → c.in-Page.length ≤ length c.before.before.page-outcome.new.1.1.0
+within : (c : tie.In-Page) → c.in-Page.length ≤ length c.before.before.page-outcome.new.buffer
 within c =
     let a = c.before.before.before.before.before.args in
     let page = c.before.before.page-outcome in
@@ -32,7 +32,7 @@ write_page_spec =
     (λ c. search rules)
     within
     (λ c. let told = c.before in
-    sym (length-take-le told.in-Page.length told.before.before.page-outcome.new.1.1.0 (within told)))
+    sym (length-take-le told.in-Page.length told.before.before.page-outcome.new.buffer.1.0 (within told)))
     (λ c κs. search rules)
     (λ c. search rules)
     (λ c κs. search rules)

@@ -9,7 +9,7 @@ write-sites-requires : tie.Need-write_sites-requires
 write-sites-requires c κs =
     let asked = c.before.before.before.before.before.before.before in
     let read = asked.before.before.before.before.before.before.before.before.read-input in
-    omega (arith, length-take read.result.count read.new.0, read.ensures)
+    omega (arith, length-take read.result.count read.new.buf, read.ensures)
 
 pub main_spec : {M : Type 1} → statement M
 main_spec =
