@@ -5,31 +5,31 @@ use borrow.Author.Rules.{rules}
 use Rattle.packing.proofs.pack.Statement.{statement}
 use Rattle.packing.proofs.pack.Tie as tie
 
-enum-known-outcome : tie.Need-enum-known-outcome
+enum-known-outcome : tie.Need-enum_known-outcome
 enum-known-outcome c = search rules
 
-enum-known-outcome-2 : tie.Need-enum-known-outcome-2
+enum-known-outcome-2 : tie.Need-enum_known-outcome-in-Refused-1
 enum-known-outcome-2 c = search rules
 
-mul-result : tie.Need-overflow-mul-result
+mul-result : tie.Need-overflow_mul-result
 mul-result c = search rules
 
-mul-result-2 : tie.Need-overflow-mul-result-2
+mul-result-2 : tie.Need-overflow_mul-result-in-Refused
 mul-result-2 c = search rules
 
-add-result : tie.Need-overflow-add-result
+add-result : tie.Need-overflow_add-result
 add-result c = search rules
 
-returns : tie.Need-returns
+returns : tie.Need-returns-in-Report
 unfolding packed
-returns c = sym (ap packed c.before.outcome.given.1)
+returns c = sym (ap packed c.in-Report.is)
 
-returns-2 : tie.Need-returns-2
+returns-2 : tie.Need-returns-in-Refused
 unfolding packed
-returns-2 c = sym (ap packed c.before.outcome2.given.1)
+returns-2 c = sym (ap packed c.in-Refused.is)
 
-pub pack-spec : {M : Type 1} → statement M
-pack-spec =
+pub pack_spec : {M : Type 1} → statement M
+pack_spec =
     tie.close
     (tie.spec
     enum-known-outcome

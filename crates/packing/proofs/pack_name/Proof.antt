@@ -5,13 +5,13 @@ use Rattle.packing.specs.Packed.{packed_name}
 use Rattle.packing.proofs.pack_name.Statement.{statement}
 use Rattle.packing.proofs.pack_name.Tie as tie
 
-returns : tie.Need-returns
+returns : tie.Need-returns-then-range
 unfolding packed_name
-returns c = rw (le-leb _ _ c.if1.true)
+returns c = rw (le-leb _ _ c.if-range.true)
 
-returns-2 : tie.Need-returns-2
+returns-2 : tie.Need-returns
 unfolding packed_name
-returns-2 c = rw (lt-leb _ _ c.before.if1.false)
+returns-2 c = rw (lt-leb _ _ c.before.if-range.false)
 
-pub pack-name-spec : {M : Type 1} → statement M
-pack-name-spec = tie.close (tie.spec returns (λ c. search rules) (λ c. search rules) (λ c. search rules) returns-2)
+pub pack_name_spec : {M : Type 1} → statement M
+pack_name_spec = tie.close (tie.spec returns (λ c. search rules) (λ c. search rules) (λ c. search rules) returns-2)

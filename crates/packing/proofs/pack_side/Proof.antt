@@ -5,16 +5,16 @@ use Rattle.packing.specs.PackedSides.{packed_side}
 use Rattle.packing.proofs.pack_side.Statement.{statement}
 use Rattle.packing.proofs.pack_side.Tie as tie
 
-returns : tie.Need-returns
+returns : tie.Need-returns-in-Answered
 unfolding packed_side
-returns c = sym (ap packed_side c.before.outcome.given.1)
+returns c = sym (ap packed_side c.in-Answered.is)
 
-returns-2 : tie.Need-returns-2
+returns-2 : tie.Need-returns-in-Refused
 unfolding packed_side
-returns-2 c = sym (ap packed_side c.before.outcome2.given.1)
+returns-2 c = sym (ap packed_side c.in-Refused.is)
 
-pub pack-side-spec : {M : Type 1} → statement M
-pack-side-spec =
+pub pack_side_spec : {M : Type 1} → statement M
+pack_side_spec =
     tie.close
     (tie.spec
     (λ c. search rules)

@@ -6,50 +6,50 @@ use borrow.Author.Rules.{rules}
 use Rattle.packing.proofs.pack_verdict.Statement.{statement}
 use Rattle.packing.proofs.pack_verdict.Tie as tie
 
-enum-known-outcome : tie.Need-enum-known-outcome
+enum-known-outcome : tie.Need-enum_known-outcome
 enum-known-outcome c = search rules
 
-mul-result : tie.Need-overflow-mul-result
+mul-result : tie.Need-overflow_mul-result
 mul-result c = search rules
 
-add-result : tie.Need-overflow-add-result
+add-result : tie.Need-overflow_add-result
 add-result c = search rules
 
-returns : tie.Need-returns
+returns : tie.Need-returns-then-largest
 unfolding packed_verdict
-returns c = rw (c.before.before.outcome.given.1, c.if1.true)
+returns c = rw (c.before.in-Judged.is, c.if-largest.true)
 
-mul-result-2 : tie.Need-overflow-mul-result-2
+mul-result-2 : tie.Need-overflow_mul-result-in-Judged
 mul-result-2 c = search rules
 
-enum-known-outcome-2 : tie.Need-enum-known-outcome-2
+enum-known-outcome-2 : tie.Need-enum_known-outcome-in-Refused-1
 enum-known-outcome-2 c = search rules
 
-mul-result-3 : tie.Need-overflow-mul-result-3
+mul-result-3 : tie.Need-overflow_mul-result-in-Refused
 mul-result-3 c = search rules
 
-mul-result-4 : tie.Need-overflow-mul-result-4
+mul-result-4 : tie.Need-overflow_mul-result-in-Refused-2
 mul-result-4 c = search rules
 
-add-result-2 : tie.Need-overflow-add-result-2
+add-result-2 : tie.Need-overflow_add-result-in-Refused
 add-result-2 c = search rules
 
-mul-result-5 : tie.Need-overflow-mul-result-5
+mul-result-5 : tie.Need-overflow_mul-result-in-Refused-3
 mul-result-5 c = search rules
 
-add-result-3 : tie.Need-overflow-add-result-3
+add-result-3 : tie.Need-overflow_add-result-in-Refused-2
 add-result-3 c = search rules
 
-returns-2 : tie.Need-returns-2
+returns-2 : tie.Need-returns-else-largest
 unfolding packed_verdict
-returns-2 c = rw (c.before.before.outcome.given.1, c.if1.false) (omega arith)
+returns-2 c = rw (c.before.in-Judged.is, c.if-largest.false) (omega arith)
 
-returns-3 : tie.Need-returns-3
+returns-3 : tie.Need-returns-in-Refused
 unfolding packed_verdict
-returns-3 c = sym (ap packed_verdict c.before.outcome2.given.1)
+returns-3 c = sym (ap packed_verdict c.in-Refused.is)
 
-pub pack-verdict-spec : {M : Type 1} → statement M
-pack-verdict-spec =
+pub pack_verdict_spec : {M : Type 1} → statement M
+pack_verdict_spec =
     tie.close
     (tie.spec
     enum-known-outcome

@@ -11,13 +11,13 @@ use Rattle.region_report.specs.Laws.{pieces, line_is_short}
 use Rattle.region_report.proofs.size_line.Statement.{statement}
 use Rattle.region_report.proofs.size_line.Tie as tie
 
-put-bytes-requires : tie.Need-put-bytes-requires
+put-bytes-requires : tie.Need-put_bytes-name-requires
 put-bytes-requires c κs =
     let letter = c.before.before.before in
     let s = letter.before.before.before.before.before in
-    omega (arith, s.requires, letter.put-letter.ensures.next, length-append s.args.first.now (9 ∷ []))
+    omega (arith, s.requires, letter.put_letter-letter.ensures.next, length-append s.args.first.now (9 ∷ []))
 
-put-bytes-requires-2 : tie.Need-put-bytes-requires-2
+put-bytes-requires-2 : tie.Need-put_bytes-next-requires
 put-bytes-requires-2 c κs =
     let first = c.before.before.before in
     let letter = first.before.before.before.before in
@@ -25,13 +25,13 @@ put-bytes-requires-2 c κs =
     omega (
       arith,
       s.requires,
-      letter.put-letter.ensures.next,
-      first.put-bytes.ensures.next,
+      letter.put_letter-letter.ensures.next,
+      first.put_bytes-name.ensures.next,
       length-append s.args.first.now (9 ∷ []),
       length-append s.args.second.now (9 ∷ []),
     )
 
-put-number-requires : tie.Need-put-number-requires
+put-number-requires : tie.Need-put_number-requires
 put-number-requires c κs =
     let second = c.before.before.before in
     let first = second.before.before.before.before in
@@ -40,9 +40,9 @@ put-number-requires c κs =
     omega (
       arith,
       s.requires,
-      letter.put-letter.ensures.next,
-      first.put-bytes.ensures.next,
-      second.put-bytes2.ensures.next,
+      letter.put_letter-letter.ensures.next,
+      first.put_bytes-name.ensures.next,
+      second.put_bytes-next.ensures.next,
       length-append s.args.first.now (9 ∷ []),
       length-append s.args.second.now (9 ∷ []),
       length-append (decimal s.args.size) (10 ∷ []),
@@ -57,7 +57,7 @@ returns c =
     let letter = first.before.before.before.before in
     let s = letter.before.before.before.before.before in
     let a = s.args in
-    let e = then letter.put-letter.ensures (then first.put-bytes.ensures (then second.put-bytes2.ensures number.put-number.ensures)) in (
+    let e = then letter.put_letter-letter.ensures (then first.put_bytes-name.ensures (then second.put_bytes-next.ensures number.put_number.ensures)) in (
       rw (pieces a.first.now a.second.now a.size) at e,
       omega (
         arith,
@@ -67,8 +67,8 @@ returns c =
       ),
     )
 
-pub size-line-spec : {M : Type 1} → statement M
-size-line-spec =
+pub size_line_spec : {M : Type 1} → statement M
+size_line_spec =
     tie.close
     (tie.spec
     (λ c κs. omega (arith, c.before.before.before.before.requires))

@@ -8,18 +8,18 @@ use Rattle.region_report.specs.OneRegionLaws.{a-word-and-a-number, a_number_is_s
 use Rattle.region_report.proofs.write_answer.Statement.{statement}
 use Rattle.region_report.proofs.write_answer.Tie as tie
 
-put-number-requires : tie.Need-put-number-requires
+put-number-requires : tie.Need-put_number-at-requires
 put-number-requires c κs =
     let word = c.before.before.before in
-    let a = word.before.before.before.before.before.args in
-    omega (arith, word.put-bytes.ensures.next, a_number_is_short a.sum (omega arith))
+    let a = word.before.before.before.before.before.before.args in
+    omega (arith, word.put_bytes-word.ensures.next, a_number_is_short a.sum (omega arith))
 
-write-links-requires : tie.Need-write-links-requires
+write-links-requires : tie.Need-write_links-requires
 write-links-requires c κs =
     let number = c.before.before.before in
     let word = number.before.before.before.before in
-    let a = word.before.before.before.before.before.args in
-    omega (arith, word.put-bytes.ensures.next, number.put-number.ensures.next, a_number_is_short a.sum (omega arith))
+    let a = word.before.before.before.before.before.before.args in
+    omega (arith, word.put_bytes-word.ensures.next, number.put_number-at.ensures.next, a_number_is_short a.sum (omega arith))
 
 returns : tie.Need-returns
 unfolding answer_text
@@ -27,15 +27,14 @@ returns c =
     let done = c.before.before in
     let number = done.before.before.before.before in
     let word = number.before.before.before.before in
-    let a = word.before.before.before.before.before.args in
-    let heading = rw (a-word-and-a-number (bytes "region") a.sum) at (then word.put-bytes.ensures number.put-number.ensures) in
-    (then heading done.write-links.ensures.0, done.write-links.ensures.1)
+    let a = word.before.before.before.before.before.before.args in
+    let heading = rw (a-word-and-a-number (bytes "region") a.sum) at (then word.put_bytes-word.ensures number.put_number-at.ensures) in
+    (then heading done.write_links.ensures.0, done.write_links.ensures.1)
 
-pub write-answer-spec : {M : Type 1} → statement M
-write-answer-spec =
+pub write_answer_spec : {M : Type 1} → statement M
+write_answer_spec =
     tie.close
     (tie.spec
-    (λ c. search rules)
     (λ c κs. search rules)
     put-number-requires
     write-links-requires

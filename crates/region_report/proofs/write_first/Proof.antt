@@ -9,27 +9,26 @@ use Rattle.region_report.specs.OneRegionLaws.{a-word-and-a-number, a_number_is_s
 use Rattle.region_report.proofs.write_first.Statement.{statement}
 use Rattle.region_report.proofs.write_first.Tie as tie
 
-put-number-requires : tie.Need-put-number-requires
+put-number-requires : tie.Need-put_number-requires
 put-number-requires c κs =
     let word = c.before.before.before in
-    omega (arith, word.put-bytes.ensures.next, a_number_is_short word.before.before.before.before.args.size (omega arith))
+    omega (arith, word.put_bytes-word.ensures.next, a_number_is_short word.before.before.before.before.before.args.size (omega arith))
 
 returns : tie.Need-returns
 unfolding first_text
 returns c =
-    let number = c.before.before.put-number.ensures in
+    let number = c.before.before.put_number.ensures in
     let word = c.before.before.before.before.before.before in
-    let a = word.before.before.before.before.args in (
-      rw (a-word-and-a-number (bytes "first") a.size) at (then word.put-bytes.ensures number),
-      omega (arith, word.put-bytes.ensures.next, number.next, a_number_is_short a.size (omega arith)),
+    let a = word.before.before.before.before.before.args in (
+      rw (a-word-and-a-number (bytes "first") a.size) at (then word.put_bytes-word.ensures number),
+      omega (arith, word.put_bytes-word.ensures.next, number.next, a_number_is_short a.size (omega arith)),
     )
 
-pub write-first-spec : {M : Type 1} → statement M
-write-first-spec =
+pub write_first_spec : {M : Type 1} → statement M
+write_first_spec =
     tie.close
     (tie.spec
-    (λ c. search rules)
     (λ c κs. search rules)
     put-number-requires
-    (λ c. same_size c.before.before.put-number.ensures ∙ same_size c.before.before.before.before.before.before.put-bytes.ensures)
+    (λ c. same_size c.before.before.put_number.ensures ∙ same_size c.before.before.before.before.before.before.put_bytes-word.ensures)
     returns)

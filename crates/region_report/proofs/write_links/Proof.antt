@@ -9,29 +9,29 @@ use Rattle.region_report.specs.Laws.{no_lines_of_a_refused_sheet}
 use Rattle.region_report.proofs.write_links.Statement.{statement}
 use Rattle.region_report.proofs.write_links.Tie as tie
 
-lines-network-requires : tie.Need-lines-network-requires
+lines-network-requires : tie.Need-lines_network-requires
 lines-network-requires c κs =
-    let told = c.before in
-    let read = told.before.before in
+    let told = c.before.before in
+    let read = told.before in
     let s = read.before.before.before in (
-      rw (← read.read.ensures) at
-          (accepted_is_listed s.args.sheet.now (sym (ap (λ x. x.answer) read.read.ensures) ∙ told.enum-told2.given.1)),
+      rw (← read.read-reading.ensures) at
+          (accepted_is_listed s.args.sheet.now (sym (ap (λ x. x.answer) read.read-reading.ensures) ∙ told.in-Accepted.is)),
       s.requires,
     )
 
-returns : tie.Need-returns
+returns : tie.Need-returns-in-Refused
 returns c =
-    let read = c.before.before in
+    let read = c.before in
     let s = read.before.before.before in
     let a = s.args in (
       rw (no_lines_of_a_refused_sheet a.sheet.now a.sizes.now
-          (refusal_is_read a.sheet.now (sym (ap (λ x. x.answer) read.read.ensures) ∙ c.enum_told.given.1)))
+          (refusal_is_read a.sheet.now (sym (ap (λ x. x.answer) read.read-reading.ensures) ∙ c.in-Refused.is)))
           (nothing a.buf.now a.at),
       omega (arith, s.requires),
     )
 
-pub write-links-spec : {M : Type 1} → statement M
-write-links-spec =
+pub write_links_spec : {M : Type 1} → statement M
+write_links_spec =
     tie.close
     (tie.spec
     (λ c κs. search rules)

@@ -6,23 +6,23 @@ use Rattle.sides.specs.OverNetwork.{refused_is_told}
 use Rattle.sides.proofs.answer.Statement.{statement}
 use Rattle.sides.proofs.answer.Tie as tie
 
-answer-network-requires : tie.Need-answer-network-requires
+answer-network-requires : tie.Need-answer_network-requires
 answer-network-requires c κs =
     let read = c.before.before.before in
-    rw (← read.read.ensures) at
+    rw (← read.read-reading.ensures) at
     (accepted_is_listed read.before.before.before.before.before.args.sheet.now
-    (sym (ap (λ x. x.answer) read.read.ensures) ∙ c.before.enum_told.given.1))
+    (sym (ap (λ x. x.answer) read.read-reading.ensures) ∙ c.before.before.in-Accepted.is))
 
-returns : tie.Need-returns
+returns : tie.Need-returns-in-Refused
 returns c =
-    let read = c.before.before.before in
+    let read = c.before in
     let a = read.before.before.before.before.before.args in
     let e = refused_is_told a.sheet.now a.name.now a.name2.now a.number a.sizes.now _ _
-    (sym (ap (λ x. x.answer) read.read.ensures) ∙ c.before.told.given.1) in
+    (sym (ap (λ x. x.answer) read.read-reading.ensures) ∙ c.in-Refused.is) in
     (sym (ap (λ p. p.outcome) e), sym (ap (λ p. p.list) e))
 
-pub answer-spec : {M : Type 1} → statement M
-answer-spec =
+pub answer_spec : {M : Type 1} → statement M
+answer_spec =
     tie.close
     (tie.spec
     (λ c κs. search rules)

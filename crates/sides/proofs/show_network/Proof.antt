@@ -7,30 +7,30 @@ use Rattle.sides.specs.declared.First.TheVariants.{Shown}
 use Rattle.sides.proofs.show_network.Statement.{statement}
 use Rattle.sides.proofs.show_network.Tie as tie
 
-link-in-requires : tie.Need-link-in-requires
+link-in-requires : tie.Need-link_in-link-requires
 link-in-requires c κs =
-    let s = c.before.before.before.before.before.before.before.before.before.before.before.before in
+    let s = c.before.before.before.before.before.before.before.before.before.before.before in
     let room = room_for_the_links s.requires in
     (a_tree_is_sited (the_lists_are_a_tree s.requires), the_names_are_distinct s.requires, room.0, room.1, room.3)
 
-returns : tie.Need-returns
+returns : tie.Need-returns-then-link-m
 returns c =
-    let s = c.before.before.before.before.before.before.before.before.before.before.before.before.before.before in
-    sym (no_link_shows_nothing s.requires s.args.name.now s.args.name2.now _ c.before.link-in.ensures c.if1.true)
+    let s = c.before.before.before.before.before.before.before.before.before.before.before.before.before in
+    sym (no_link_shows_nothing s.requires s.args.name.now s.args.name2.now _ c.before.link_in-link.ensures c.if-link-m.true)
 
-size-in-requires : tie.Need-size-in-requires
+size-in-requires : tie.Need-size_in-size-requires
 size-in-requires c κs =
-    let else1 = c.before.before.before.before.before.before.before.before.before in
-    let s = else1.before.before.before.before.before.before.before.before.before.before.before.before.before.before in
+    let else1 = c.before.before.before.before.before.before.before.before in
+    let s = else1.before.before.before.before.before.before.before.before.before.before.before.before.before in
     let room = room_for_the_links s.requires in
-    (the_lists_are_a_tree s.requires, else1.if1.false, room.0, room.1, room.2, room.3)
+    (the_lists_are_a_tree s.requires, else1.if-link-m.false, room.0, room.1, room.2, room.3)
 
-returns-2 : tie.Need-returns-2
+returns-2 : tie.Need-returns
 returns-2 c =
-    let else1 = c.before.before.before.before.before.before.before.before.before.before in
-    let s = else1.before.before.before.before.before.before.before.before.before.before.before.before.before.before in
-    ap Shown c.size_in.ensures
-    ∙ sym (a_link_shows_its_size s.requires s.args.name.now s.args.name2.now _ else1.before.link-in.ensures else1.if1.false)
+    let else1 = c.before.before.before.before.before.before.before.before.before in
+    let s = else1.before.before.before.before.before.before.before.before.before.before.before.before.before in
+    ap Shown c.size_in-size.ensures
+    ∙ sym (a_link_shows_its_size s.requires s.args.name.now s.args.name2.now _ else1.before.link_in-link.ensures else1.if-link-m.false)
 
-pub show-network-spec : {M : Type 1} → statement M
-show-network-spec = tie.close (tie.spec link-in-requires returns size-in-requires returns-2)
+pub show_network_spec : {M : Type 1} → statement M
+show_network_spec = tie.close (tie.spec link-in-requires returns size-in-requires returns-2)
