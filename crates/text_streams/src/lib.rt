@@ -2,6 +2,8 @@
 // begins with `standard` or `file`.
 #![tactic(auto)]
 
+ghost use Rattle.std.specs.Prelude.{◌≡◌, ◌<◌, length, take, IsTrue, false};
+ghost use Rattle.std.specs.Io.KnownBytes.{Appends, Consumes, IsAtEnd};
 ghost use Rattle.text_streams.specs.Counts.{IsPrefixLen};
 
 use std::env::{Env, FillError};
@@ -41,7 +43,10 @@ fn read_once<R: Read, E: Write>(
     what: &str,
     buf: &mut [u8],
 ) -> Input
-    ensures { IsPrefixLen result.count buf.new }
+    ensures count { IsPrefixLen result.count buf.new }
+    ensures bytes { Consumes (R.remaining from.old) (R.remaining from.new) (take result.count buf.new) }
+    ensures failed { result.whole ≡ false → result.count ≡ 0 }
+    ensures end { IsTrue result.whole → result.count ≡ 0 → 0 < length buf.new → IsAtEnd (R.remaining from.new) }
 {
     match from.read(buf) {
         Ok(count) => Input { count, whole: true },
@@ -63,7 +68,9 @@ fn read_from<R: Read, E: Write>(
     what: &str,
     buf: &mut [u8],
 ) -> Input
-    ensures { IsPrefixLen result.count buf.new }
+    ensures count { IsPrefixLen result.count buf.new }
+    ensures bytes { Consumes (R.remaining from.old) (R.remaining from.new) (take result.count buf.new) }
+    ensures end { IsTrue result.whole → result.count < length buf.new → IsAtEnd (R.remaining from.new) }
 {
     let mut count = 0;
     while count < buf.len() {
@@ -85,7 +92,9 @@ fn read_from<R: Read, E: Write>(
 
 // Reads standard input until the buffer is full or the input ends; where a read fails, says so.
 pub fn read<R: Read, E: Write>(input: &mut R, err: &mut E, buf: &mut [u8]) -> Input
-    ensures { IsPrefixLen result.count buf.new }
+    ensures count { IsPrefixLen result.count buf.new }
+    ensures bytes { Consumes (R.remaining input.old) (R.remaining input.new) (take result.count buf.new) }
+    ensures end { IsTrue result.whole → result.count < length buf.new → IsAtEnd (R.remaining input.new) }
 {
     read_from(input, err, "standard ", "input", buf)
 }
@@ -155,7 +164,9 @@ pub fn read_argument<R: Env, E: Write>(
 }
 
 // Writes a text to standard output and tells whether all of it went; where not, says so.
-pub fn write<W: Write, E: Write>(out: &mut W, err: &mut E, text: &[u8]) -> bool {
+pub fn write<W: Write, E: Write>(out: &mut W, err: &mut E, text: &[u8]) -> bool
+    ensures { IsTrue result → Appends (W.contents out.old) (W.contents out.new) text.now }
+{
     match out.write_all(text) {
         Ok(()) => true,
         Err(why) => {
