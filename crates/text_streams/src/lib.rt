@@ -2,14 +2,16 @@
 // begins with `standard` or `file`.
 #![tactic(auto)]
 
-ghost use Rattle.std.specs.Prelude.{◌≡◌, ◌<◌, length, take, IsTrue, false};
+ghost use Rattle.std.specs.Prelude.{◌≡◌, ◌<◌, length, take, IsTrue, false, if◌then◌else◌};
 ghost use Rattle.std.specs.Io.KnownBytes.{Appends, Consumes, IsAtEnd};
+ghost use Rattle.std.specs.Process.{exit_status};
 ghost use Rattle.text_streams.specs.Counts.{IsPrefixLen};
 
 use std::env::{Env, FillError};
 use std::fmt::InlineText;
 use std::fs;
 use std::io::{Error, Read, Write};
+use std::process::ExitCode;
 use std::rt::Files;
 
 // What standard input or a file came to: so many bytes, and whether each read went well.
@@ -173,5 +175,21 @@ pub fn write<W: Write, E: Write>(out: &mut W, err: &mut E, text: &[u8]) -> bool
             fail(err, "standard ", "output", why);
             false
         }
+    }
+}
+
+// Whether the program was started with so many arguments.
+pub fn is_given<R: Env>(rt: &R, argument: usize) -> bool {
+    !matches!(rt.arg(argument, &mut []), Err(FillError::NotPresent))
+}
+
+// What a program ends with: 0 where all of its input was read and all of its output written, else 1.
+pub fn status(whole: bool) -> ExitCode
+    ensures { exit_status result ≡ (if whole then 0 else 1) }
+{
+    if whole {
+        ExitCode::SUCCESS
+    } else {
+        ExitCode::FAILURE
     }
 }
