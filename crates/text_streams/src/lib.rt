@@ -10,7 +10,7 @@ ghost use Rattle.text_streams.specs.Counts.{IsPrefixLen};
 use std::env::{Env, FillError};
 use std::fmt::InlineText;
 use std::fs;
-use std::io::{Error, Read, Write};
+use std::io::{Error, ErrorKind, Read, Write};
 use std::process::ExitCode;
 use std::rt::Files;
 
@@ -165,14 +165,16 @@ pub fn read_argument<R: Env, E: Write>(
     none_of(buf)
 }
 
-// Writes a text to standard output and tells whether all of it went; where not, says so.
+// Writes a text to standard output and tells whether all of it went; where not, says so, unless it is a pipe that nobody reads any more.
 pub fn write<W: Write, E: Write>(out: &mut W, err: &mut E, text: &[u8]) -> bool
     ensures { IsTrue result → Appends (W.contents out.old) (W.contents out.new) text.now }
 {
     match out.write_all(text) {
         Ok(()) => true,
         Err(why) => {
-            fail(err, "standard ", "output", why);
+            if why.kind() != ErrorKind::BrokenPipe {
+                fail(err, "standard ", "output", why);
+            }
             false
         }
     }
