@@ -11,7 +11,7 @@ use native.Mathlib.Omega.{arith}
 use lib.ListN.{length, replicate, length-map}
 use Rattle.model.specs.Limits.{SITES}
 use Rattle.lists.specs.Numbers.{is, differ, sum, look, upfrom}
-use Rattle.model.specs.Flows.{Links, Site, one, two}
+use Rattle.model.specs.Flows.{one, two}
 use Rattle.model.specs.Whole.{EndSets, set_size, set_count}
 use Rattle.lists.specs.Sums.{pick_same, pick_other, is_same, is-other, same?, cases, less_one, sum-eq}
 use Rattle.lists.specs.Places.{length-upfrom, look_values}
@@ -20,7 +20,7 @@ use Rattle.tree.specs.Offer.{links}
 use Rattle.tree.specs.Links.{length-links, links-one, links-two}
 use Rattle.tree_links.specs.Chains.{Placed}
 use Rattle.cuts_groups.specs.Groups.{labelled, leaves, leaving}
-use Rattle.cuts_groups.specs.Places.{places, of_terminal, look-places, past_places, places_is, places_same, places_upto, places-zero}
+use Rattle.cuts_groups.specs.Places.{places, of_terminal, look-places, past_places, places_is, places_upto, places-zero}
 use Rattle.cuts_groups.specs.Steps.{members, claim, owners_to, cuts_by, sets_of}
 use Rattle.cuts_groups.proofs.ByTally.{owners-none, owners_more, owners-same, of_terminals, labelled_past}
 

@@ -1,5 +1,5 @@
 // The line reader (document 01, "The network sheet"): it stands over a lent sheet at an offset and hands out the line there as that very
-// part of the sheet. The work is done by covered functions on slice and offset; the methods are thin and proved by hand.
+// part of the sheet. The work is done by functions on slice and offset; the methods are thin.
 #![tactic(auto)]
 
 ghost use Rattle.std.specs.Prelude.{false, ◌≡◌, ◌+◌, ◌≤◌, length, drop};

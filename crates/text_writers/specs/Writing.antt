@@ -78,6 +78,7 @@ sets_again (x ∷ p) l at zero (suc k) h =
 sets_again (x ∷ p) l at (suc i) (suc k) h =
     let e : at + suc i ≡ suc at + i = omega arith in
     rw e (sets_again p (set l at x) (suc at) i k (omega arith))
+sets_again p l at (suc i) zero h = elim h [ ]
 
 -- the first k bytes of a part and its last k are all of it, where it has no more than twice as many
 sets_halves : (p l : List ℕ) (at i k : ℕ) → i + k ≡ length p → i ≤ k → sets (sets l at (take k p)) (at + i) (take k (drop i p)) ≡ sets l at p

@@ -21,6 +21,7 @@ module _ {A : Type 0} where
   pub in_left : (x : A) (l m : List A) → In x l → In x (l ++ m)
   in_left x (a ∷ l) m (inl e) = inl e
   in_left x (a ∷ l) m (inr h) = inr (in_left x l m h)
+  in_left x [] m x'' = elim x'' [ ]
 
   pub in_right : (x : A) (l m : List A) → In x m → In x (l ++ m)
   in_right x [] m h = h
@@ -35,21 +36,25 @@ module _ {A B : Type 0} where
   pub in_map : (f : A → B) (l : List A) (x : A) (y : B) → y ≡ f x → In x l → In y (map f l)
   in_map f (a ∷ l) x y e (inl h) = inl (e ∙ ap f h)
   in_map f (a ∷ l) x y e (inr h) = inr (in_map f l x y e h)
+  in_map f [] x y e x4 = elim x4 [ ]
 
   pub map_in : (f : A → B) (l : List A) (y : B) → In y (map f l) → (x : A) × In x l × (y ≡ f x)
   map_in f (a ∷ l) y (inl e) = (a, inl refl, e)
   map_in f (a ∷ l) y (inr h) = let r = map_in f l y h in (r.0, inr r.1, r.2)
+  map_in f [] y x' = elim x' [ ]
 
   pub in_flat : (f : A → List B) (l : List A) (a : A) (y : B) → In a l → In y (f a) → In y (flat_map f l)
   unfolding flat_map
   in_flat f (b ∷ l) a y (inl e) h = in_left y (f b) (flat_map f l) (rw e at h)
   in_flat f (b ∷ l) a y (inr i) h = in_right y (f b) (flat_map f l) (in_flat f l a y i h)
+  in_flat f [] a y x'' h = elim x'' [ ]
 
   pub flat_in : (f : A → List B) (l : List A) (y : B) → In y (flat_map f l) → (a : A) × In a l × In y (f a)
   unfolding flat_map
   flat_in f (b ∷ l) y h = either (in_append y (f b) (flat_map f l) h)
       (λ i. (b, inl refl, i))
       (λ i. let r = flat_in f l y i in (r.0, inr r.1, r.2))
+  flat_in f [] y h = elim h [ ]
 
 -- ---- order
 
@@ -88,6 +93,7 @@ pub from_in : (b n x : ℕ) → In x (upfrom b n) → (b ≤ x) × (x < b + n)
 unfolding upfrom
 from_in b (suc n) x (inl e) = omega arith
 from_in b (suc n) x (inr h) = let r = from_in (suc b) n x h in omega arith
+from_in b zero x x3 = elim x3 [ ]
 
 pub ascends_from : (b n : ℕ) → Ascends ◌<◌ (upfrom b n)
 unfolding upfrom
@@ -113,6 +119,7 @@ module _ {A : Type 0} where
       let q = map_in (λ w. r.0 ∷ w) (words d k) w r.2 in
       let ih = words_in d k q.0 q.1 in
       rw q.2 (ap suc ih.0, λ x i. either i (λ e. rw e r.1) (ih.1 x))
+  words_in d zero w (inr x'') = elim x'' [ ]
 
   pub ascends_words : (R : A → A → Type 0) (d : List A) → Ascends R d → (k : ℕ) → Ascends (Before R) (words d k)
   unfolding words
@@ -144,12 +151,15 @@ module _ {A : Type 0} (R : A → A → Type 0) where
       let ih = combos_in l k r.0 p.1 r.1 in
       rw r.2 (ap suc ih.0, λ x j. either j (λ e. inl e) (λ j. inr (ih.1 x j)), (λ y j. p.0 y (ih.1 y j), ih.2)))
       (λ i. let ih = combos_in l (suc k) c p.1 i in (ih.0, λ x j. inr (ih.1 x j), ih.2))
+  combos_in l zero c p (inr x3) = elim x3 [ ]
+  combos_in [] (suc k) c p h = elim h [ ]
 
   combos-above : (a : A) (b l : List A) (k : ℕ) → ((y : A) → In y l → R a y) → (c : List A) → In c (combos l (suc k)) → Before R (a ∷ b) c
   unfolding combos
   combos-above a b (x ∷ l) k h c i = either (in_append c (map (λ c. x ∷ c) (combos l k)) (combos l (suc k)) i)
       (λ i. let r = map_in (λ c. x ∷ c) (combos l k) c i in rw r.2 (inl (h x (inl refl))))
       (λ i. combos-above a b l k (λ y j. h y (inr j)) c i)
+  combos-above a b [] k h c i = elim i [ ]
 
   pub ascends_combos : (l : List A) (k : ℕ) → Ascends R l → Ascends (Before R) (combos l k)
   unfolding combos
@@ -192,6 +202,7 @@ module _ {A : Type 0} where
   pub get_d_in : (l : List A) (d x : A) → In x l → (j : ℕ) × (j < length l) × (x ≡ get_or l j d)
   get_d_in (a ∷ l) d x (inl e) = (0, omega arith, e)
   get_d_in (a ∷ l) d x (inr h) = let r = get_d_in l d x h in (suc r.0, omega (arith, r.1), r.2)
+  get_d_in [] d x x3 = elim x3 [ ]
 
   -- of two places the first holds the earlier
   pub places : (R : A → A → Type 0) (l : List A) (d : A) → Ascends R l → (i j : ℕ) → i < j → j < length l → R (get_or l i d) (get_or l j d)

@@ -60,6 +60,7 @@ unfolding joins_all joined
 all-joined ls (y ∷ xs) e x i =
     let p = product_one (joined ls 1 y) (joins_all ls xs) (is_le (label ls 1) (label ls y)) e in
     either i (λ z. rw z (sym (is_one p.0))) (all-joined ls xs p.1 x)
+all-joined ls [] e x i = elim i [ ]
 
 joined-all : (ls : Links) (xs : List ℕ) → ((x : ℕ) → In x xs → label ls x ≡ label ls 1) → joins_all ls xs ≡ 1
 unfolding joins_all joined

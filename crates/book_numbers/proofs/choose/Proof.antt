@@ -12,83 +12,83 @@ use Rattle.book_numbers.specs.Laws.{positive, held_none, choose_round, choose_do
 use Rattle.book_numbers.proofs.choose.Statement.{statement}
 use Rattle.book_numbers.proofs.choose.Tie as tie
 
-abbrev invariant-loop : tie.invariant-loop
+abbrev invariant-loop : tie.invariant-loop-i
 invariant-loop n m count one two i₀ c₀ i c =
     (i ≤ count)
     × (held c ++ chosen (drop i (links (take count one) (take count two))) m ≡ chosen (links (take count one) (take count two)) m) × (c.count ≤ i) × Roomy c
 
-abbrev decreases-loop : tie.decreases-loop
+abbrev decreases-loop : tie.decreases-loop-i
 decreases-loop n m count one two i₀ c₀ i c = count - i
 
-all-links-requires : tie.Need-all-links-requires invariant-loop decreases-loop
+all-links-requires : tie.Need-all_links-all-requires invariant-loop decreases-loop
 all-links-requires c κs = search rules
 
-none-requires : tie.Need-none-requires invariant-loop decreases-loop
+none-requires : tie.Need-none-c-requires invariant-loop decreases-loop
 none-requires c κs = search rules
 
-loop-holds : tie.Need-loop-init invariant-loop decreases-loop
+loop-holds : tie.Need-loop-i-init invariant-loop decreases-loop
 loop-holds c =
-    let e = c.none.ensures in
-    (omega arith, rw (held_none c.none.result e.0), omega (arith, e.0), e.1)
+    let e = c.none-c.ensures in
+    (omega arith, rw (held_none c.none-c.result e.0), omega (arith, e.0), e.1)
 
-sub-power : tie.Need-overflow-sub-power invariant-loop decreases-loop
+sub-power : tie.Need-overflow_sub-count invariant-loop decreases-loop
 sub-power c = omega arith
 
-sub-power-2 : tie.Need-overflow-sub-power-2 invariant-loop decreases-loop
+sub-power-2 : tie.Need-overflow_sub-count-in-loop-i invariant-loop decreases-loop
 sub-power-2 c = omega arith
 
-power-requires : tie.Need-power-requires invariant-loop decreases-loop
+power-requires : tie.Need-power-w-requires invariant-loop decreases-loop
 power-requires c κs = omega arith
 
-mul-keep : tie.Need-overflow-mul-keep invariant-loop decreases-loop
+mul-keep : tie.Need-offset_bounds-one-i invariant-loop decreases-loop
 mul-keep c = omega arith
 
-array-read-keep : tie.Need-array-read-keep invariant-loop decreases-loop
+array-read-keep : tie.Need-bounds-one-i invariant-loop decreases-loop
 array-read-keep c = omega arith
 
-mul-keep-2 : tie.Need-overflow-mul-keep-2 invariant-loop decreases-loop
+mul-keep-2 : tie.Need-offset_bounds-two-i invariant-loop decreases-loop
 mul-keep-2 c = omega arith
 
-array-read-keep-2 : tie.Need-array-read-keep-2 invariant-loop decreases-loop
+array-read-keep-2 : tie.Need-bounds-two-i invariant-loop decreases-loop
 array-read-keep-2 c = omega arith
 
-keep-requires : tie.Need-keep-requires invariant-loop decreases-loop
+keep-requires : tie.Need-keep-c-requires invariant-loop decreases-loop
 keep-requires c κs =
-    let i = c.before.before.loop.invariant in
-    (omega (arith, c.before.before.before.before.before.before.all-links.ensures.1), positive 2 _ _ (omega arith) c.power.ensures, i.3)
+    let i = c.before.before.loop-i.invariant in
+    (omega (arith, c.before.before.before.before.before.before.all_links-all.ensures.1), positive 2 _ _ (omega arith) c.power-w.ensures, i.3)
 
-add-i : tie.Need-overflow-add-i invariant-loop decreases-loop
+add-i : tie.Need-overflow_add-i invariant-loop decreases-loop
 add-i c = omega arith
 
-loop-less : tie.Need-loop-smaller invariant-loop decreases-loop
+loop-less : tie.Need-loop-i-smaller invariant-loop decreases-loop
 loop-less c = omega arith
 
-loop-again : tie.Need-loop-preserved invariant-loop decreases-loop
+loop-again : tie.Need-loop-i-preserved invariant-loop decreases-loop
 loop-again c =
     let top = c.before.before.before in
-    let all = top.before.before.before.before.all-links in
+    let all = top.before.before.before.before.all_links-all in
     let l = all.result in
     let room = all.ensures.2 in
-    let k = c.keep.ensures in
+    let k = c.keep-c.ensures in
     let m = top.before.before.before.before.before.args.m in (
       omega arith,
-      rw k.0 (choose_round l.one l.two l.count (omega (arith, all.ensures.1)) (omega (arith, all.ensures.1)) (held top.loop.c) m
-          top.loop.i c.before.power.result (omega arith) c.before.power.ensures top.loop.invariant.1),
-      omega (arith, k.1, top.loop.invariant.2),
+      rw k.0 (choose_round l.one l.two l.count (omega (arith, all.ensures.1)) (omega (arith, all.ensures.1)) (held top.loop-i.c) m
+          top.loop-i.i c.before.power-w.result (omega arith) c.before.power-w.ensures top.loop-i.invariant.1),
+      omega (arith, k.1, top.loop-i.invariant.2),
       k.2,
     )
 
 returns : tie.Need-returns invariant-loop decreases-loop
 returns c =
     let top = c.before in
-    let all = top.before.before.before.before.all-links in
+    let all = top.before.before.before.before.all_links-all in
     let l = all.result in
     let room = all.ensures.2 in
     let m = top.before.before.before.before.before.args.m in (
-      choose_done l.one l.two l.count (omega (arith, all.ensures.1)) (omega (arith, all.ensures.1)) (held top.loop.c) m
-          top.loop.i (omega arith) top.loop.invariant.1 ∙ ap (λ l. chosen l m) all.ensures.0,
-      omega (arith, all.ensures.1, top.loop.invariant.2),
-      top.loop.invariant.3,
+      choose_done l.one l.two l.count (omega (arith, all.ensures.1)) (omega (arith, all.ensures.1)) (held top.loop-i.c) m
+          top.loop-i.i (omega arith) top.loop-i.invariant.1 ∙ ap (λ l. chosen l m) all.ensures.0,
+      omega (arith, all.ensures.1, top.loop-i.invariant.2),
+      top.loop-i.invariant.3,
     )
 
 pub choose_spec : {M : Type 1} → statement M

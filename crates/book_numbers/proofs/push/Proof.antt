@@ -5,19 +5,19 @@ use Rattle.book_numbers.specs.Laws.{one_more}
 use Rattle.book_numbers.proofs.push.Statement.{statement}
 use Rattle.book_numbers.proofs.push.Tie as tie
 
-mul-one : tie.Need-overflow-mul-one
+mul-one : tie.Need-offset_bounds-one-at
 mul-one c = search rules
 
-array-write-one : tie.Need-array-write-one
+array-write-one : tie.Need-bounds-one-at
 array-write-one c = search rules
 
-mul-two : tie.Need-overflow-mul-two
+mul-two : tie.Need-offset_bounds-two-at
 mul-two c = search rules
 
-array-write-two : tie.Need-array-write-two
+array-write-two : tie.Need-bounds-two-at
 array-write-two c = search rules
 
-add-t7 : tie.Need-overflow-add-t7
+add-t7 : tie.Need-overflow_add-result
 add-t7 c = search rules
 
 returns : tie.Need-returns

@@ -19,31 +19,31 @@ use Rattle.book_totals.specs.Laws.{at_ends_by_sites}
 use Rattle.book_totals.proofs.at_ends.Statement.{statement}
 use Rattle.book_totals.proofs.at_ends.Tie as tie
 
-abbrev invariant-loop : tie.invariant-loop
+abbrev invariant-loop : tie.invariant-loop-i
 invariant-loop n one two marks sizes last before ends total₀ i₀ total i =
     (i ≤ n) × (total ≡ sum i (λ k. is (look ends (1 + k)) 1 * sum_at (links one two) (1 + k) (look sizes)))
 
-abbrev decreases-loop : tie.decreases-loop
+abbrev decreases-loop : tie.decreases-loop-i
 decreases-loop n one two marks sizes last before ends total₀ i₀ total i = n - i
 
-chain-requires : tie.Need-chain-requires invariant-loop decreases-loop
+chain-requires : tie.Need-chain-chains-requires invariant-loop decreases-loop
 chain-requires c κs = offer-placed c.before.before.before.before.requires.within
 
-ends-requires : tie.Need-ends-requires invariant-loop decreases-loop
+ends-requires : tie.Need-ends-ends-requires invariant-loop decreases-loop
 ends-requires c κs =
     let made = c.before.before.before.before in
     let s = made.before.before.before.before.before in
-    (omega (arith, s.requires.within.few), s.requires.marked, made.chain.ensures)
+    (omega (arith, s.requires.within.few), s.requires.marked, made.chain-chains.ensures)
 
-loop-holds : tie.Need-loop-init invariant-loop decreases-loop
+loop-holds : tie.Need-loop-i-init invariant-loop decreases-loop
 unfolding sum
 loop-holds c = (omega arith, refl)
 
-at-end-requires : tie.Need-at-end-requires invariant-loop decreases-loop
+at-end-requires : tie.Need-at_end-total-requires invariant-loop decreases-loop
 at-end-requires c κs =
     let s = c.before.before.before.before.before.before.before.before.before.before.before.before.before.before.before in
     let made = c.before.before.before.before.before.before.before.before.before.before in
-    (omega (arith, s.requires.within.few), made.chain.ensures, offer_limited s.requires.within)
+    (omega (arith, s.requires.within.few), made.chain-chains.ensures, offer_limited s.requires.within)
 
 -- what a site counts stays small
 small : {n : ℕ} {one two marks sizes : List ℕ} → MarkedTree largest n one two marks sizes → (x v : ℕ)
@@ -68,49 +68,49 @@ sums_small f k zero h = omega arith
 sums_small f k (suc i) h = omega (arith, sums_small f k i h, h i)
 
 -- what one more site counts
-counted : (c : tie.After-at-end invariant-loop decreases-loop) → let t = c.before.before.before.before.before in
+counted : (c : tie.After-at_end-total invariant-loop decreases-loop) → let t = c.before.before.before.before.before in
     let a = t.before.before.before.before.before.before.before.before.before.before.before.args in
-    c.at-end.result ≡ is (look t.before.ends.result (1 + t.loop.i)) 1
-    * sum_at (links a.one.now a.two.now) (1 + t.loop.i) (look a.sizes.now)
+    c.at_end-total.result ≡ is (look t.before.ends-ends.result (1 + t.loop-i.i)) 1
+    * sum_at (links a.one.now a.two.now) (1 + t.loop-i.i) (look a.sizes.now)
 counted c =
     let t = c.before.before.before.before.before in
     let a = t.before.before.before.before.before.before.before.before.before.before.before.args in
-    let turned : t.loop.i + 1 ≡ 1 + t.loop.i = omega arith in
-    c.at-end.ensures
-    ∙ ap (λ v. is (look t.before.ends.result v) 1 * sum_at (links a.one.now a.two.now) v (look a.sizes.now)) turned
+    let turned : t.loop-i.i + 1 ≡ 1 + t.loop-i.i = omega arith in
+    c.at_end-total.ensures
+    ∙ ap (λ v. is (look t.before.ends-ends.result v) 1 * sum_at (links a.one.now a.two.now) v (look a.sizes.now)) turned
 
-add_total : tie.Need-overflow-add-total invariant-loop decreases-loop
+add_total : tie.Need-overflow_add-total invariant-loop decreases-loop
 add_total c =
     let t = c.before.before.before.before.before in
     let s = t.before.before.before.before.before.before.before.before.before.before.before in
     omega (
       arith,
       s.requires.within.few,
-      t.loop.invariant.1,
+      t.loop-i.invariant.1,
       counted c,
-      small s.requires (look t.before.ends.result (1 + t.loop.i)) (1 + t.loop.i),
-      sums_small (λ k. is (look t.before.ends.result (1 + k)) 1
-          * sum_at (links s.args.one.now s.args.two.now) (1 + k) (look s.args.sizes.now)) (LINKS * SIZE) t.loop.i
-          (λ k. small s.requires (look t.before.ends.result (1 + k)) (1 + k)),
+      small s.requires (look t.before.ends-ends.result (1 + t.loop-i.i)) (1 + t.loop-i.i),
+      sums_small (λ k. is (look t.before.ends-ends.result (1 + k)) 1
+          * sum_at (links s.args.one.now s.args.two.now) (1 + k) (look s.args.sizes.now)) (LINKS * SIZE) t.loop-i.i
+          (λ k. small s.requires (look t.before.ends-ends.result (1 + k)) (1 + k)),
     )
 
-loop-again : tie.Need-loop-preserved invariant-loop decreases-loop
+loop-again : tie.Need-loop-i-preserved invariant-loop decreases-loop
 loop-again c =
     let t = c.before.before.before.before.before in
-    (omega arith, sum-next _ t.loop.i t.loop.invariant.1 (counted c))
+    (omega arith, sum-next _ t.loop-i.i t.loop-i.invariant.1 (counted c))
 
 returns : tie.Need-returns invariant-loop decreases-loop
 returns c =
     let t = c.before in
     let a = t.before.before.before.before.before.before.before.before.before.before.before.args in
-    let all : t.loop.i ≡ a.n = omega arith in
-    t.loop.invariant.1
-    ∙ ap (λ i. sum i (λ k. is (look t.before.ends.result (1 + k)) 1
+    let all : t.loop-i.i ≡ a.n = omega arith in
+    t.loop-i.invariant.1
+    ∙ ap (λ i. sum i (λ k. is (look t.before.ends-ends.result (1 + k)) 1
     * sum_at (links a.one.now a.two.now) (1 + k) (look a.sizes.now))) all
-    ∙ at_ends_by_sites (links a.one.now a.two.now) a.n (look t.before.ends.result) _ (look a.sizes.now) t.before.ends.ensures
+    ∙ at_ends_by_sites (links a.one.now a.two.now) a.n (look t.before.ends-ends.result) _ (look a.sizes.now) t.before.ends-ends.ensures
 
-pub at-ends-spec : {M : Type 1} → statement M
-at-ends-spec =
+pub at_ends_spec : {M : Type 1} → statement M
+at_ends_spec =
     tie.close
     (tie.spec
     invariant-loop

@@ -11,17 +11,17 @@ returns c =
     let made = c.before.before.before.before.before.before in
     let s = made.before.before.before.before.before.before in
     let a = s.args in
-    c.cuts-by.ensures
+    c.cuts_by.ensures
     ∙ cuts_by_tally (links a.one.now a.two.now) a.n (look a.capacity.now) (look a.balanced.now) s.requires.0 a.ends.now
-    made.of-links.ensures
+    made.of_links-labels.ensures
 
-pub cuts-of-spec : {M : Type 1} → statement M
-cuts-of-spec =
+pub cuts_of_spec : {M : Type 1} → statement M
+cuts_of_spec =
     tie.close
     (tie.spec
     (λ c κs. let p = c.before.before.before.before.before.requires in (p.1, p.2, p.3, refl))
     (λ c κs.
     let made = c.before.before.before.before.before in
     let p = made.before.before.before.before.before.before.requires in
-    (p.0, made.of-links.ensures.small, p.4))
+    (p.0, made.of_links-labels.ensures.small, p.4))
     returns)

@@ -10,36 +10,36 @@ use Rattle.cuts_groups.proofs.Words.{words-none, words-next}
 use Rattle.cuts_groups.proofs.sets.Statement.{statement}
 use Rattle.cuts_groups.proofs.sets.Tie as tie
 
-abbrev invariant-loop : tie.invariant-loop
+abbrev invariant-loop : tie.invariant-loop-i
 invariant-loop n labels words₀ i₀ words i = (i ≤ n) × (length words ≡ SETS) × ((l k : ℕ) → in_words words l k ≡ labelled i labels l k)
 
-abbrev decreases-loop : tie.decreases-loop
+abbrev decreases-loop : tie.decreases-loop-i
 decreases-loop n labels words₀ i₀ words i = n - i
 
-loop-holds : tie.Need-loop-init invariant-loop decreases-loop
+loop-holds : tie.Need-loop-i-init invariant-loop decreases-loop
 loop-holds c = rw c.requires.2 (omega arith, refl, words-none c.args.labels.now)
 
 -- the label of the site that is looked at has a place
-placed : (c : tie.In-loop invariant-loop decreases-loop) → look c.before.before.args.labels.now (c.before.loop.i + 1) ≤ SITES
-placed c = c.before.before.requires.1 (c.before.loop.i + 1)
+placed : (c : tie.In-loop-i invariant-loop decreases-loop) → look c.before.before.args.labels.now (c.before.loop-i.i + 1) ≤ SITES
+placed c = c.before.before.requires.1 (c.before.loop-i.i + 1)
 
-loop-again : tie.Need-loop-preserved invariant-loop decreases-loop
+loop-again : tie.Need-loop-i-preserved invariant-loop decreases-loop
 loop-again c =
-    let top = c.before.before.before in
-    let long = top.loop.invariant.1 in (
+    let top = c.before.before.before.before.before in
+    let long = top.loop-i.invariant.1 in (
       omega arith,
       simp length-set long,
-      λ l k. words-next top.loop.words top.before.args.labels.now top.loop.i (omega arith)
-          (placed c.before.before) long l k (top.loop.invariant.2 l k),
+      λ l k. words-next top.loop-i.words top.before.args.labels.now top.loop-i.i (omega arith)
+          (placed c.before.before.before.before) long l k (top.loop-i.invariant.2 l k),
     )
 
 returns : tie.Need-returns invariant-loop decreases-loop
 returns c =
-    let all : c.before.loop.i ≡ c.before.before.args.n = omega arith in
-    rw all at c.before.loop.invariant.2
+    let all : c.before.loop-i.i ≡ c.before.before.args.n = omega arith in
+    rw all at c.before.loop-i.invariant.2
 
-pub sets-spec : {M : Type 1} → statement M
-sets-spec =
+pub sets_spec : {M : Type 1} → statement M
+sets_spec =
     tie.close
     (tie.spec
     invariant-loop
@@ -48,13 +48,13 @@ sets-spec =
     (λ c. omega arith)
     (λ c. omega arith)
     (λ c. omega arith)
-    (λ c. omega (arith, placed c.before))
-    (λ c. omega (arith, placed c.before))
-    (λ c. omega (arith, placed c.before))
-    (λ c. omega arith)
-    (λ c. omega (arith, placed c.before))
-    (λ c. omega (arith, placed c.before))
     (λ c. omega (arith, placed c.before.before))
+    (λ c. omega (arith, placed c.before.before))
+    (λ c. omega (arith, placed c.before.before))
+    (λ c. omega arith)
+    (λ c. omega (arith, placed c.before.before))
+    (λ c. omega (arith, placed c.before.before.before))
+    (λ c. omega (arith, placed c.before.before.before.before))
     (λ c. omega arith)
     (λ c. omega arith)
     loop-again

@@ -12,39 +12,39 @@ use Rattle.cuts_groups.proofs.Sums.{leaves-le}
 use Rattle.cuts_groups.proofs.sums_leaving.Statement.{statement}
 use Rattle.cuts_groups.proofs.sums_leaving.Tie as tie
 
-abbrev invariant-loop : tie.invariant-loop
+abbrev invariant-loop : tie.invariant-loop-j
 invariant-loop one two capacity labels sums₀ j₀ j-end sums j =
     (j ≤ length one) × (length sums ≡ PLACES)
     × ((l : ℕ) → (look sums l ≤ j * SIZE) × (look sums l ≡ sum j (λ i. leaves labels (look one i) (look two i) l * look capacity i)))
 
-abbrev decreases-loop : tie.decreases-loop
+abbrev decreases-loop : tie.decreases-loop-j
 decreases-loop one two capacity labels sums₀ j₀ j-end sums j = length one - j
 
-loop-holds : tie.Need-loop-init invariant-loop decreases-loop
+loop-holds : tie.Need-loop-j-init invariant-loop decreases-loop
 unfolding sum
 loop-holds c = rw c.before.before.before.requires.3 (omega arith, refl, λ l. (omega (arith, look-zeros PLACES l), look-zeros PLACES l))
 
-addable : tie.Need-add-at-labels-requires invariant-loop decreases-loop
+addable : tie.Need-add_at_labels-requires invariant-loop decreases-loop
 addable c κs =
     let top = c.before.before.before.before.before in
     let p = top.before.before.before.before.requires in
-    let j = top.loop.j in
+    let j = top.loop-j.j in
     let e = p.0.sites j (omega arith) in
     record {
-      places = top.loop.invariant.1;
+      places = top.loop-j.invariant.1;
       ends = e;
       labelled = p.2;
       small = p.1.small j (omega arith);
-      room = λ l. omega (arith, (top.loop.invariant.2 l).0, p.0.few);
+      room = λ l. omega (arith, (top.loop-j.invariant.2 l).0, p.0.few);
     }
 
-loop-again : tie.Need-loop-preserved invariant-loop decreases-loop
+loop-again : tie.Need-loop-j-preserved invariant-loop decreases-loop
 loop-again c =
     let top = c.before.before.before.before.before.before in
     let s = top.before.before.before.before in
     let a = s.args in
-    let j = top.loop.j in
-    let added = c.add-at-labels.ensures in
+    let j = top.loop-j.j in
+    let added = c.add_at_labels.ensures in
     let d = look a.capacity.now j in (
       omega arith,
       added.0,
@@ -52,23 +52,23 @@ loop-again c =
         omega (
           arith,
           added.1 l,
-          (top.loop.invariant.2 l).0,
+          (top.loop-j.invariant.2 l).0,
           leaves-le a.labels.now (look a.one.now j) (look a.two.now j) d l,
           s.requires.1.small j (omega arith),
         ),
         added.1 l ∙ sum-next (λ i. leaves a.labels.now (look a.one.now i) (look a.two.now i) l * look a.capacity.now i) j
-            (top.loop.invariant.2 l).1 refl,
+            (top.loop-j.invariant.2 l).1 refl,
       ),
     )
 
 returns : tie.Need-returns invariant-loop decreases-loop
 unfolding leaving
 returns c =
-    let all : c.before.loop.j ≡ length c.before.before.before.before.before.args.one.now = omega arith in
-    λ l. rw all at (c.before.loop.invariant.2 l).1
+    let all : c.before.loop-j.j ≡ length c.before.before.before.before.before.args.one.now = omega arith in
+    λ l. rw all at (c.before.loop-j.invariant.2 l).1
 
-pub sums-leaving-spec : {M : Type 1} → statement M
-sums-leaving-spec =
+pub sums_leaving_spec : {M : Type 1} → statement M
+sums_leaving_spec =
     tie.close
     (tie.spec
     invariant-loop

@@ -14,23 +14,23 @@ use Rattle.cuts_groups.proofs.take_cut.Tie as tie
 returns : tie.Need-returns
 unfolding members
 returns c =
-    let s = c.before.before.before.before.before in
+    let s = c.before.before.before.before.before.before in
     let a = s.args in
-    let cut = c.before.before.before.cut_of.result in
-    let is_cut = c.before.before.before.cut_of.ensures in
+    let cut = c.before.before.before.cut_of-cut.result in
+    let is_cut = c.before.before.before.cut_of-cut.ensures in
     let places = in_words a.words.now (look a.labels.now a.a) in (
-      c.before.put-owner.ensures ∙ claims_same a.owner.now (member cut) places a.a is_cut,
+      c.before.put_owner.ensures ∙ claims_same a.owner.now (member cut) places a.a is_cut,
       c.count.ensures
           ∙ sum-eq SITES (member cut) places (λ i h. is_cut i),
     )
 
-pub take-cut-spec : {M : Type 1} → statement M
-take-cut-spec =
+pub take_cut_spec : {M : Type 1} → statement M
+take_cut_spec =
     tie.close
     (tie.spec
     (λ c. omega arith)
     (λ c. omega arith)
-    (λ c κs. c.before.requires.2)
-    (λ c κs. c.before.before.before.requires.0)
+    (λ c κs. c.before.before.requires.2)
+    (λ c κs. c.before.before.before.before.requires.0)
     (λ c κs. tt)
     returns)

@@ -18,19 +18,19 @@ use Rattle.log_ends.proofs.another.Tie as tie
 none : (t : ℕ → ℕ) (a b w : ℕ) → ((t w ≡ 1) × (w ≢ a) × (w ≢ b) → ⊥) → eqb (another t a b w) 1 ≡ false
 none t a b w d = ne_eqb (another t a b w) 1 (λ z. d (another-is t a b w (λ y. omega arith)))
 
-returns : tie.Need-returns
-returns c = let a = c.before.args in sym (none (look a.ends.now) a.a a.b a.site (λ o. o.1 c.if1.true))
+returns : tie.Need-returns-then-site-a
+returns c = let a = c.before.args in sym (none (look a.ends.now) a.a a.b a.site (λ o. o.1 c.if-site-a.true))
 
-returns-2 : tie.Need-returns-2
-returns-2 c = let a = c.before.before.args in sym (none (look a.ends.now) a.a a.b a.site (λ o. o.2 c.if2.true))
+returns-2 : tie.Need-returns-then-site-b
+returns-2 c = let a = c.before.before.args in sym (none (look a.ends.now) a.a a.b a.site (λ o. o.2 c.if-site-b.true))
 
-returns-3 : tie.Need-returns-3
+returns-3 : tie.Need-returns
 returns-3 c =
-    let a = c.before.before.before.args in
+    let a = c.before.before.before.before.args in
     let t = look a.ends.now in
     same? (t a.site) 1
-    (λ e. rw (eq-eqb (t a.site) 1 e, another-one t a.a a.b a.site e c.before.before.if1.false c.before.if2.false))
+    (λ e. rw (eq-eqb (t a.site) 1 e, another-one t a.a a.b a.site e c.before.before.before.if-site-a.false c.before.before.if-site-b.false))
     (λ d. rw (ne_eqb (t a.site) 1 d) (sym (none t a.a a.b a.site (λ o. d o.0))))
 
-pub another-spec : {M : Type 1} → statement M
-another-spec = tie.close (tie.spec returns returns-2 (λ c. search rules) returns-3)
+pub another_spec : {M : Type 1} → statement M
+another_spec = tie.close (tie.spec returns returns-2 (λ c. search rules) returns-3)

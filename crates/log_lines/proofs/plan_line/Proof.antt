@@ -8,5 +8,5 @@ returns : tie.Need-returns
 unfolding plan_line
 returns c = c.line_as.ensures
 
-pub plan-line-spec : {M : Type 1} → statement M
-plan-line-spec = tie.close (tie.spec (λ c κs. search rules) (λ c κs. search rules) returns)
+pub plan_line_spec : {M : Type 1} → statement M
+plan_line_spec = tie.close (tie.spec (λ c κs. search rules) (λ c κs. search rules) returns)

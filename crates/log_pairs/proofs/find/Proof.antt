@@ -5,7 +5,7 @@ use mathlib.Core.List.{List}
 use Prim.Native.Nat.{ℕ, ◌+◌, ◌-◌, ◌≤◌, ◌<◌, min}
 use native.Mathlib.Decide.{dec_lt}
 use native.Mathlib.Omega.{arith}
-use Rattle.model.specs.Limits.{PLACES, SITES}
+use Rattle.model.specs.Limits.{SITES}
 use Rattle.lists.specs.Numbers.{is, look, sum}
 use Rattle.lists.specs.Sums.{cases, is_same, sum_ge}
 use Rattle.log_pairs.specs.Arrays.{packed, BLOCK, FirstFrom, FirstPlace}
@@ -30,34 +30,34 @@ not-in-block f key at i none from to e =
     let there : at + k ≡ i = omega arith in
     omega (arith, sum_ge BLOCK k (λ k. is (look f (at + k)) key) (omega arith), is_same (ap (look f) there ∙ e))
 
-abbrev invariant-loop : tie.invariant-loop
+abbrev invariant-loop : tie.invariant-loop-at
 invariant-loop a b count pairs key at₀ at = (at ≤ count) × ((i : ℕ) → i < at → look pairs i ≢ key)
 
-abbrev decreases-loop : tie.decreases-loop
+abbrev decreases-loop : tie.decreases-loop-at
 decreases-loop a b count pairs key at₀ at = count - at
 
-returns : tie.Need-returns invariant-loop decreases-loop
+returns : tie.Need-returns-then-in_block-ne0 invariant-loop decreases-loop
 returns c =
     let top = c.before.before.before.before in
-    let key = top.before.packed.ensures in
-    by_number top.before.before.requires.1 (λ i l. rw key at (top.loop.invariant.1 i l)) (rw key at c.first-from.ensures)
+    let key = top.before.packed-key.ensures in
+    by_number top.before.before.requires.1 (λ i l. rw key at (top.loop-at.invariant.1 i l)) (rw key at c.first_from.ensures)
 
-loop-again : tie.Need-loop-preserved invariant-loop decreases-loop
+loop-again : tie.Need-loop-at-preserved invariant-loop decreases-loop
 loop-again c =
     let block = c.before in
     let top = block.before.before in
     let f = top.before.before.args.pairs.now in (
       omega arith,
-      λ i l. cases (dec_lt i top.loop.at)
-          (λ m. top.loop.invariant.1 i m)
-          (λ m. not-in-block f top.before.packed.result top.loop.at i (sym block.in_block.ensures ∙ c.if1.false) (omega arith) l),
+      λ i l. cases (dec_lt i top.loop-at.at)
+          (λ m. top.loop-at.invariant.1 i m)
+          (λ m. not-in-block f top.before.packed-key.result top.loop-at.at i (sym block.in_block.ensures ∙ c.if-in_block-ne0.false) (omega arith) l),
     )
 
-returns-2 : tie.Need-returns-2 invariant-loop decreases-loop
+returns-2 : tie.Need-returns invariant-loop decreases-loop
 returns-2 c =
     let top = c.before.before in
-    let key = top.before.packed.ensures in
-    by_number top.before.before.requires.1 (λ i l. rw key at (top.loop.invariant.1 i l)) (rw key at c.first-from2.ensures)
+    let key = top.before.packed-key.ensures in
+    by_number top.before.before.requires.1 (λ i l. rw key at (top.loop-at.invariant.1 i l)) (rw key at c.first_from-2.ensures)
 
 pub find_spec : {M : Type 1} → statement M
 find_spec =

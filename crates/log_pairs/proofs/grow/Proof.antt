@@ -5,13 +5,13 @@ use Rattle.log_pairs.specs.Rows.{held_grown, held_new}
 use Rattle.log_pairs.proofs.grow.Statement.{statement}
 use Rattle.log_pairs.proofs.grow.Tie as tie
 
-returns : tie.Need-returns
-returns c = held_grown c.before.before.requires c.before.if1.true
+returns : tie.Need-returns-then-k-count
+returns c = held_grown c.before.before.before.requires c.before.before.if-k-count.true
 
-returns-2 : tie.Need-returns-2
+returns-2 : tie.Need-returns
 returns-2 c =
-    let s = c.before.before in
-    rw c.packed.ensures (held_new s.requires (omega (arith, s.requires.place.within)))
+    let s = c.before.before.before.before in
+    rw c.before.before.packed.ensures (held_new s.requires (omega (arith, s.requires.place.within)))
 
 pub grow_spec : {M : Type 1} → statement M
 grow_spec =

@@ -12,33 +12,33 @@ use Rattle.log_paths.proofs.Words.{Patch, patch_start, patch_next, patch_extende
 use Rattle.log_paths.proofs.extend.Statement.{statement}
 use Rattle.log_paths.proofs.extend.Tie as tie
 
-abbrev invariant-loop : tie.invariant-loop
+abbrev invariant-loop : tie.invariant-loop-q
 invariant-loop rows₀ near far j q₀ rows q = (q ≤ WORDS) × Patch (λ i. bit_xor (look rows₀ (near * WORDS + i)) (single i j)) (far * WORDS) q rows₀ rows
 
-abbrev decreases-loop : tie.decreases-loop
+abbrev decreases-loop : tie.decreases-loop-q
 decreases-loop rows₀ near far j q₀ rows q = WORDS - q
 
-loop-again : tie.Need-loop-preserved invariant-loop decreases-loop
+loop-again : tie.Need-loop-q-preserved invariant-loop decreases-loop
 loop-again c =
-    let t = c.before.before.before in
+    let t = c.before.before.before.before in
     let s = t.before in
     let a = s.args in
-    let p = t.loop.invariant.1 in
-    let place = a.near * WORDS + t.loop.q in
-    let same : look t.loop.rows place ≡ look a.rows.now place = cases (dec_lt a.near a.far)
+    let p = t.loop-q.invariant.1 in
+    let place = a.near * WORDS + t.loop-q.q in
+    let same : look t.loop-q.rows place ≡ look a.rows.now place = cases (dec_lt a.near a.far)
     (λ z. p.low place (omega arith))
     (λ z. let d = s.requires.3 in p.high place (omega arith)) in
-    (omega arith, patch_next p (omega (arith, s.requires.0)) (ap₂ bit_xor same c.single-word.ensures))
+    (omega arith, patch_next p (omega (arith, s.requires.0)) (ap₂ bit_xor same c.single_word.ensures))
 
 returns : tie.Need-returns invariant-loop decreases-loop
 returns c =
     let t = c.before in
     let a = t.before.args in
-    let e : t.loop.q ≡ WORDS = omega arith in
-    patch_extended a.near a.far a.j a.rows.now t.loop.rows (rw e at t.loop.invariant.1)
+    let e : t.loop-q.q ≡ WORDS = omega arith in
+    patch_extended a.near a.far a.j a.rows.now t.loop-q.rows (rw e at t.loop-q.invariant.1)
 
-pub extend-spec : {M : Type 1} → statement M
-extend-spec =
+pub extend_spec : {M : Type 1} → statement M
+extend_spec =
     tie.close
     (tie.spec
     invariant-loop

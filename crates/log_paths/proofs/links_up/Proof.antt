@@ -12,13 +12,13 @@ use Rattle.log_paths.specs.Rows.{LinksUp}
 use Rattle.log_paths.proofs.links_up.Statement.{statement}
 use Rattle.log_paths.proofs.links_up.Tie as tie
 
-abbrev invariant-loop : tie.invariant-loop
+abbrev invariant-loop : tie.invariant-loop-j
 invariant-loop links child up₀ j₀ up j = (j ≤ links) × (length up ≡ PLACES) × LinksUp j child up
 
-abbrev decreases-loop : tie.decreases-loop
+abbrev decreases-loop : tie.decreases-loop-j
 decreases-loop links child up₀ j₀ up j = links - j
 
-loop-holds : tie.Need-loop-init invariant-loop decreases-loop
+loop-holds : tie.Need-loop-j-init invariant-loop decreases-loop
 loop-holds c = (
   omega arith,
   refl,
@@ -26,28 +26,28 @@ loop-holds c = (
 )
 
 -- the child of link j is low
-low : (c : tie.In-loop invariant-loop decreases-loop) → look c.before.before.args.child.now c.before.loop.j ≤ SITES
-low c = c.before.before.requires.1 c.before.loop.j (omega arith)
+low : (c : tie.In-loop-j invariant-loop decreases-loop) → look c.before.before.args.child.now c.before.loop-j.j ≤ SITES
+low c = c.before.before.requires.1 c.before.loop-j.j (omega arith)
 
-loop-again : tie.Need-loop-preserved invariant-loop decreases-loop
+loop-again : tie.Need-loop-j-preserved invariant-loop decreases-loop
 loop-again c =
-    let t = c.before.before in
+    let t = c.before.before.before in
     let s = t.before in
     let child = s.args.child.now in
-    let up = t.loop.up in
-    let j = t.loop.j in
+    let up = t.loop-j.up in
+    let j = t.loop-j.j in
     let here = look child j in
-    let w = t.loop.invariant.2 in
+    let w = t.loop-j.invariant.2 in
     let low = s.requires.1 j (omega arith) in (
       omega arith,
-      length-set up here j ∙ t.loop.invariant.1,
+      length-set up here j ∙ t.loop-j.invariant.1,
       record {
         each = λ i l. same? i j
-            (λ e. rw e (get_or-set_same up here j 0 (omega (arith, t.loop.invariant.1))))
+            (λ e. rw e (get_or-set_same up here j 0 (omega (arith, t.loop-j.invariant.1))))
             (λ d. get_or-set_other up here (look child i) j 0 (λ e. d (s.requires.2 i j (omega arith) (omega arith) e)) ∙ w.each i (omega arith));
         others = λ x d. get_or-set_other up here x j 0 (λ e. d j (omega arith) (sym e)) ∙ w.others x (λ i l. d i (omega arith));
         low = λ x. same? x here
-            (λ e. rw (e, get_or-set_same up here j 0 (omega (arith, t.loop.invariant.1))) (omega arith))
+            (λ e. rw (e, get_or-set_same up here j 0 (omega (arith, t.loop-j.invariant.1))) (omega arith))
             (λ d. rw (get_or-set_other up here x j 0 d) (omega (arith, w.low x)));
       },
     )
@@ -55,11 +55,11 @@ loop-again c =
 returns : tie.Need-returns invariant-loop decreases-loop
 returns c =
     let t = c.before in
-    let all : t.loop.j ≡ t.before.args.links = omega arith in
-    rw all at t.loop.invariant.2
+    let all : t.loop-j.j ≡ t.before.args.links = omega arith in
+    rw all at t.loop-j.invariant.2
 
-pub links-up-spec : {M : Type 1} → statement M
-links-up-spec =
+pub links_up_spec : {M : Type 1} → statement M
+links_up_spec =
     tie.close
     (tie.spec
     invariant-loop
@@ -67,10 +67,10 @@ links-up-spec =
     loop-holds
     (λ c. omega arith)
     (λ c. omega arith)
-    (λ c. omega (arith, low c.before))
-    (λ c. omega (arith, low c.before))
-    (λ c. omega (arith, low c.before))
-    (λ c. omega (arith, low c.before))
+    (λ c. omega (arith, low c.before.before))
+    (λ c. omega (arith, low c.before.before))
+    (λ c. omega (arith, low c.before.before))
+    (λ c. omega (arith, low c.before.before))
     (λ c. omega arith)
     (λ c. omega arith)
     loop-again

@@ -12,26 +12,26 @@ use Rattle.log_paths.proofs.paths.Statement.{statement}
 use Rattle.log_paths.proofs.paths.Tie as tie
 
 -- the first n sites of the answer are the elimination order
-ordered : (c : tie.After-eliminate) → let a = c.before.before.before.before.before.args in
-    take a.n c.eliminate.result.sites ≡ elimination (links a.one.now a.two.now) a.n
+ordered : (c : tie.After-eliminate-tree) → let a = c.before.before.before.before.before.args in
+    take a.n c.eliminate-tree.result.sites ≡ elimination (links a.one.now a.two.now) a.n
 ordered c =
     let s = c.before.before.before.before.before in
     let a = s.args in
-    ap (λ r. take a.n r.sites) c.eliminate.ensures
+    ap (λ r. take a.n r.sites) c.eliminate-tree.ensures
     ∙ eliminated_in_order a.n a.one.now a.two.now a.marks.now a.capacity.now
     (a_tree_within_the_limits_is_accepted largest _ _ _ _ _ s.requires)
 
-parents-of-requires : tie.Need-parents-of-requires
+parents-of-requires : tie.Need-parents_of-parents-requires
 parents-of-requires c κs = (c.before.before.before.before.before.before.before.requires.within, ordered c.before.before)
 
-links-up-requires : tie.Need-links-up-requires
+links-up-requires : tie.Need-links_up-up-requires
 links-up-requires c κs =
     let told = c.before.before.before in
     let first = told.before.before.before in
     let w = first.before.before.before.before.before.requires.within in (
       omega (arith, w.few, w.firsts),
-      child-low first.eliminate.result.sites w (ordered first) told.parents-of.ensures,
-      children-apart first.eliminate.result.sites w (ordered first) told.parents-of.ensures,
+      child-low first.eliminate-tree.result.sites w (ordered first) told.parents_of-parents.ensures,
+      children-apart first.eliminate-tree.result.sites w (ordered first) told.parents_of-parents.ensures,
     )
 
 outward-requires : tie.Need-outward-requires
@@ -39,15 +39,15 @@ outward-requires c κs =
     let told = c.before.before.before.before.before.before.before in
     let first = told.before.before.before in
     let w = first.before.before.before.before.before.requires.within in
-    outward_order first.eliminate.result.sites w (ordered first) told.parents-of.ensures c.before.before.before.links-up.ensures
+    outward_order first.eliminate-tree.result.sites w (ordered first) told.parents_of-parents.ensures c.before.before.before.links_up-up.ensures
 
 returns : tie.Need-returns
 returns c =
     let told = c.before.before.before.before.before.before.before.before in
     let first = told.before.before.before in
     let w = first.before.before.before.before.before.requires.within in
-    let up = c.before.before.before.before.links-up in
-    table first.eliminate.result.sites w (ordered first) told.parents-of.ensures up.ensures c.outward.ensures
+    let up = c.before.before.before.before.links_up-up in
+    table first.eliminate-tree.result.sites w (ordered first) told.parents_of-parents.ensures up.ensures c.outward.ensures
 
-pub paths-spec : {M : Type 1} → statement M
-paths-spec = tie.close (tie.spec (λ c κs. search rules) parents-of-requires links-up-requires outward-requires returns)
+pub paths_spec : {M : Type 1} → statement M
+paths_spec = tie.close (tie.spec (λ c κs. search rules) parents-of-requires links-up-requires outward-requires returns)

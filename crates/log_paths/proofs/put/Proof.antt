@@ -7,9 +7,9 @@ use Rattle.log_paths.proofs.put.Tie as tie
 
 returns : tie.Need-returns
 returns c =
-    let s = c.before.before in
+    let s = c.before.before.before in
     let a = s.args in
-    rw c.single-word.ensures (put-row a.rows.now a.site a.j (omega (arith, s.requires.0)) s.requires.2 s.requires.3)
+    rw c.single_word.ensures (put-row a.rows.now a.site a.j (omega (arith, s.requires.0)) s.requires.2 s.requires.3)
 
 pub put_spec : {M : Type 1} → statement M
 put_spec =

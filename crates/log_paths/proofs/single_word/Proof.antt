@@ -10,15 +10,15 @@ use Rattle.log_paths.specs.Rows.{single}
 use Rattle.log_paths.proofs.single_word.Statement.{statement}
 use Rattle.log_paths.proofs.single_word.Tie as tie
 
-returns : tie.Need-returns
+returns : tie.Need-returns-then-j-q
 unfolding single
 returns c =
     let j = c.before.args.j in
-    shl_exact 1 (j % 64) 64 (omega arith) (omega arith) ∙ one-mul (2 ^ (j % 64)) ∙ sym (pick_same c.if1.true _ _)
+    shl_exact 1 (j % 64) 64 (omega arith) (omega arith) ∙ one-mul (2 ^ (j % 64)) ∙ sym (pick_same c.if-j-q.true _ _)
 
-returns-2 : tie.Need-returns-2
+returns-2 : tie.Need-returns
 unfolding single
-returns-2 c = sym (pick_other c.if1.false _ _)
+returns-2 c = sym (pick_other c.if-j-q.false _ _)
 
-pub single-word-spec : {M : Type 1} → statement M
-single-word-spec = tie.close (tie.spec (λ c. search rules) returns returns-2)
+pub single_word_spec : {M : Type 1} → statement M
+single_word_spec = tie.close (tie.spec (λ c. search rules) returns returns-2)

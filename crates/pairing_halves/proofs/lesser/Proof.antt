@@ -3,11 +3,11 @@ use native.Mathlib.Omega.{arith}
 use Rattle.pairing_halves.proofs.lesser.Statement.{statement}
 use Rattle.pairing_halves.proofs.lesser.Tie as tie
 
-first : tie.Need-returns
-first c = omega (arith, c.if1.true)
+first : tie.Need-returns-then-a-b
+first c = omega (arith, c.if-a-b.true)
 
-second : tie.Need-returns-2
-second c = omega (arith, c.if1.false)
+second : tie.Need-returns-else-a-b
+second c = omega (arith, c.if-a-b.false)
 
-pub lesser-spec : {M : Type 1} → statement M
-lesser-spec = tie.close (tie.spec first second)
+pub lesser_spec : {M : Type 1} → statement M
+lesser_spec = tie.close (tie.spec first second)

@@ -8,54 +8,54 @@ use Rattle.pairing_halves.proofs.Matching.{Half, match-starts, match-ends, match
 use Rattle.pairing_halves.proofs.match_lists.Statement.{statement}
 use Rattle.pairing_halves.proofs.match_lists.Tie as tie
 
-abbrev invariant-loop : tie.invariant-loop
+abbrev invariant-loop : tie.invariant-loop-down
 invariant-loop ups from downs pairs₀ top up₀ down₀ end₀ pairs up down end =
     Half (listed ups from top.ups) (rest downs down₀ top.downs) ups from top.ups downs top.downs pairs₀ top.pairs pairs up down end
 
-abbrev decreases-loop : tie.decreases-loop
+abbrev decreases-loop : tie.decreases-loop-down
 decreases-loop ups from downs pairs₀ top up₀ down₀ end₀ pairs up down end = halves (rest downs down top.downs)
 
 -- the two entries lie within their lists, and there is room for the pair
-fronts : tie.Need-pair-fronts-requires invariant-loop decreases-loop
+fronts : tie.Need-pair_fronts-amount-requires invariant-loop decreases-loop
 fronts c κs =
     let t = c.before in
-    let s = t.before.before.before.loop.invariant in
-    (match_fronts s t.if1.true, match_room s t.if1.true t.before.before.before.before.before.before.before.requires.room)
+    let s = t.before.before.before.loop-down.invariant in
+    (match_fronts s t.loop-down-test.true, match_room s t.loop-down-test.true t.before.before.before.before.before.before.before.requires.room)
 
 -- the turn's test, seen from where the pair is made
-abbrev begun : tie.After-pair-fronts invariant-loop decreases-loop → tie.Then1 invariant-loop decreases-loop
+abbrev begun : tie.After-pair_fronts-amount invariant-loop decreases-loop → tie.In-loop-down invariant-loop decreases-loop
 begun c = c.before.before
 
 -- what is spent is at most what each entry has left
-spent : (c : tie.After-pair-fronts invariant-loop decreases-loop) → let t = (begun c).before.before.before.loop in
+spent : (c : tie.After-pair_fronts-amount invariant-loop decreases-loop) → let t = (begun c).before.before.before.loop-down in
     let a = (begun c).before.before.before.before.before.before.before.args in
     Fronts a.ups.now t.up a.downs.now t.down
-    × (t.up.gone + c.pair-fronts.result ≤ look a.ups.now (t.up.at + 1))
-    × (t.down.gone + c.pair-fronts.result ≤ look a.downs.now (t.down.at + 1))
+    × (t.up.gone + c.pair_fronts-amount.result ≤ look a.ups.now (t.up.at + 1))
+    × (t.down.gone + c.pair_fronts-amount.result ≤ look a.downs.now (t.down.at + 1))
 spent c =
-    let f = match_fronts (begun c).before.before.before.loop.invariant (begun c).if1.true in
-    (f, omega (arith, c.pair-fronts.ensures.0, f.up-partly), omega (arith, c.pair-fronts.ensures.0, f.down-partly))
+    let f = match_fronts (begun c).before.before.before.loop-down.invariant (begun c).loop-down-test.true in
+    (f, omega (arith, c.pair_fronts-amount.ensures.0, f.up-partly), omega (arith, c.pair_fronts-amount.ensures.0, f.down-partly))
 
-falls : tie.Need-loop-smaller invariant-loop decreases-loop
+falls : tie.Need-loop-down-smaller invariant-loop decreases-loop
 falls c =
     let m = c.before.before.before.before in
-    rw (c.spend2.ensures, m.pair-fronts.ensures.0) (match_falls (begun m).before.before.before.loop.invariant (begun m).if1.true)
+    rw (c.spend-down.ensures, m.pair_fronts-amount.ensures.0) (match_falls (begun m).before.before.before.loop-down.invariant (begun m).loop-down-test.true)
 
-next : tie.Need-loop-preserved invariant-loop decreases-loop
+next : tie.Need-loop-down-preserved invariant-loop decreases-loop
 next c =
     let m = c.before.before.before.before in
-    rw (c.before.spend.ensures, c.spend2.ensures, m.pair-fronts.ensures.0)
-    (match-next (begun m).before.before.before.loop.invariant (begun m).if1.true (rw m.pair-fronts.ensures.0 at m.pair-fronts.ensures.1))
+    rw (c.before.spend-up.ensures, c.spend-down.ensures, m.pair_fronts-amount.ensures.0)
+    (match-next (begun m).before.before.before.loop-down.invariant (begun m).loop-down-test.true (rw m.pair_fronts-amount.ensures.0 at m.pair_fronts-amount.ensures.1))
 
-ends : tie.Need-overflow-add-end invariant-loop decreases-loop
+ends : tie.Need-overflow_add-end invariant-loop decreases-loop
 ends c =
     let t = begun c.before.before.before.before in
-    let s = t.before.before.before.loop.inv in
+    let s = t.before.before.before.loop-down.invariant in
     let a = t.before.before.before.before.before.before.before in
-    omega (arith, match_room s t.if1.taken a.pre.room, s.pairs.below.as_long, a.good.1.1.1.1.0)
+    omega (arith, match_room s t.loop-down-test.true a.requires.room, s.pairs.below.as_long, a.well_formed.1.1.1.1.0)
 
-pub match-lists-spec : {M : Type 1} → statement M
-match-lists-spec =
+pub match_lists_spec : {M : Type 1} → statement M
+match_lists_spec =
     tie.close
     (tie.spec
     invariant-loop
@@ -67,6 +67,6 @@ match-lists-spec =
     ends
     falls
     next
-    (λ c. c.before.before.before.loop.invariant.pairs.below.as_long)
-    (λ c. let s = c.before.before.before.loop.invariant in let e = match-ends s c.if1.false in
+    (λ c. c.before.before.before.loop-down.invariant.pairs.below.as_long)
+    (λ c. let s = c.before.before.before.loop-down.invariant in let e = match-ends s c.loop-down-test.false in
     record { pairs = e.0; begins = s.begins; lies = s.ups; left = e.1 }))

@@ -7,11 +7,11 @@ use Rattle.pairing_halves.proofs.pair_fronts.Tie as tie
 paired : tie.Need-returns
 paired c =
     let m = c.before.before.before.before.before.before in
-    let added = c.before.before.push-pair.ensures in
-    (m.lesser.ensures ∙ rw (m.before.before.left.ensures, m.before.left2.ensures), rw added.below.ends at added)
+    let added = c.before.before.push_pair.ensures in
+    (m.lesser-amount.ensures ∙ rw (m.before.before.left.ensures, m.before.left-2.ensures), rw added.below.ends at added)
 
-pub pair-fronts-spec : {M : Type 1} → statement M
-pair-fronts-spec =
+pub pair_fronts_spec : {M : Type 1} → statement M
+pair_fronts_spec =
     tie.close
     (tie.spec
     (λ c κs. search rules)

@@ -11,11 +11,11 @@ use Rattle.pairing_halves.specs.Splits.{put_some}
 use Rattle.pairing_halves.proofs.push.Statement.{statement}
 use Rattle.pairing_halves.proofs.push.Tie as tie
 
-none : tie.Need-returns
+none : tie.Need-returns-then-amount-eq0
 unfolding flat put
-none c = let a = c.before.args in rw c.if1.true (added-nothing a.list.now a.end)
+none c = let a = c.before.args in rw c.if-amount-eq0.true (added-nothing a.list.now a.end)
 
-some : tie.Need-returns-2
+some : tie.Need-returns
 unfolding flat
 some c =
     let a = c.before.args in

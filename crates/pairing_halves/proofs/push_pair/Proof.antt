@@ -16,8 +16,8 @@ three c =
     let two : a.end + 2 ≡ suc (suc a.end) = omega arith in
     rw (add-one a.end, two) (added_numbers a.list.now a.end (a.first ∷ a.second ∷ a.amount ∷ []) (omega arith))
 
-pub push-pair-spec : {M : Type 1} → statement M
-push-pair-spec =
+pub push_pair_spec : {M : Type 1} → statement M
+push_pair_spec =
     tie.close
     (tie.spec
     (λ c. search rules)

@@ -5,4 +5,4 @@ use Rattle.region_links.proofs.counted.Statement.{statement}
 use Rattle.region_links.proofs.counted.Tie as tie
 
 pub counted_spec : {M : Type 1} → statement M
-counted_spec = tie.close (tie.spec (λ c. sym (differ_same c.if1.true)) (λ c. sym (differ-other c.if1.false)))
+counted_spec = tie.close (tie.spec (λ c. sym (differ_same c.if-partner-eq0.true)) (λ c. sym (differ-other c.if-partner-eq0.false)))

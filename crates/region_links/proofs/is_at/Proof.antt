@@ -3,11 +3,11 @@ use Rattle.region_links.specs.Laws.{at_the_first, at_the_second}
 use Rattle.region_links.proofs.is_at.Statement.{statement}
 use Rattle.region_links.proofs.is_at.Tie as tie
 
-returns : tie.Need-returns
-returns c = let a = c.before.args in at_the_first a.first a.second a.v c.if1.true
+returns : tie.Need-returns-then-first-v
+returns c = let a = c.before.args in at_the_first a.first a.second a.v c.if-first-v.true
 
-returns-2 : tie.Need-returns-2
-returns-2 c = let a = c.before.args in at_the_second a.first a.second a.v c.if1.false
+returns-2 : tie.Need-returns
+returns-2 c = let a = c.before.args in at_the_second a.first a.second a.v c.if-first-v.false
 
-pub is-at-spec : {M : Type 1} → statement M
-is-at-spec = tie.close (tie.spec returns returns-2)
+pub is_at_spec : {M : Type 1} → statement M
+is_at_spec = tie.close (tie.spec returns returns-2)

@@ -12,45 +12,45 @@ use Rattle.region_links.specs.Partners.{both_in}
 use Rattle.region_links.proofs.shared_first.Statement.{statement}
 use Rattle.region_links.proofs.shared_first.Tie as tie
 
-abbrev invariant-loop : tie.invariant-loop
+abbrev invariant-loop : tie.invariant-loop-j
 invariant-loop one two partners j₀ j-end j =
     (j ≤ length one)
     × (first_from (both_in (look partners) (links one two)) 0 (length one) ≡ first_from (both_in (look partners) (links one two)) j (length one - j))
 
-abbrev decreases-loop : tie.decreases-loop
+abbrev decreases-loop : tie.decreases-loop-j
 decreases-loop one two partners j₀ j-end j = length one - j
 
 both-requires : tie.Need-both-requires invariant-loop decreases-loop
-both-requires c κs = c.before.before.before.before.before.before.requires.sites c.before.before.before.loop.j (omega arith)
+both-requires c κs = c.before.before.before.before.before.before.requires.sites c.before.before.before.loop-j.j (omega arith)
 
-returns : tie.Need-returns invariant-loop decreases-loop
+returns : tie.Need-returns-then-both invariant-loop decreases-loop
 returns c =
     let t = c.before.before.before.before.before in
     let s = c.before.before.before.before.before.before.before.before in
     let a = s.args in
-    it_is_here (both_in (look a.partners.now) (links a.one.now a.two.now)) (length a.one.now) t.loop.j (omega arith) t.loop.invariant.1
-    (sym (both_at (look a.partners.now) a.one.now a.two.now t.loop.j (omega arith) (omega (arith, s.requires.seconds)))
-    ∙ eqb-true _ 1 (sym c.before.both.ensures ∙ c.if1.true))
+    it_is_here (both_in (look a.partners.now) (links a.one.now a.two.now)) (length a.one.now) t.loop-j.j (omega arith) t.loop-j.invariant.1
+    (sym (both_at (look a.partners.now) a.one.now a.two.now t.loop-j.j (omega arith) (omega (arith, s.requires.seconds)))
+    ∙ eqb-true _ 1 (sym c.before.both.ensures ∙ c.if-both.true))
 
-loop-again : tie.Need-loop-preserved invariant-loop decreases-loop
+loop-again : tie.Need-loop-j-preserved invariant-loop decreases-loop
 loop-again c =
     let t = c.before.before.before.before.before in
     let s = c.before.before.before.before.before.before.before.before in
     let a = s.args in (
       omega arith,
-      it_is_behind (both_in (look a.partners.now) (links a.one.now a.two.now)) (length a.one.now) t.loop.j (omega arith) t.loop.invariant.1
-          (λ o. eqb-false _ 1 (sym c.before.both.ensures ∙ c.if1.false)
-          (both_at (look a.partners.now) a.one.now a.two.now t.loop.j (omega arith) (omega (arith, s.requires.seconds)) ∙ o)),
+      it_is_behind (both_in (look a.partners.now) (links a.one.now a.two.now)) (length a.one.now) t.loop-j.j (omega arith) t.loop-j.invariant.1
+          (λ o. eqb-false _ 1 (sym c.before.both.ensures ∙ c.if-both.false)
+          (both_at (look a.partners.now) a.one.now a.two.now t.loop-j.j (omega arith) (omega (arith, s.requires.seconds)) ∙ o)),
     )
 
-returns-2 : tie.Need-returns-2 invariant-loop decreases-loop
+returns-2 : tie.Need-returns invariant-loop decreases-loop
 returns-2 c =
     let t = c.before in
     let a = t.before.before.before.args in
-    it_is_nowhere (both_in (look a.partners.now) (links a.one.now a.two.now)) (length a.one.now) t.loop.j (omega arith) t.loop.invariant.1
+    it_is_nowhere (both_in (look a.partners.now) (links a.one.now a.two.now)) (length a.one.now) t.loop-j.j (omega arith) t.loop-j.invariant.1
 
-pub shared-first-spec : {M : Type 1} → statement M
-shared-first-spec =
+pub shared_first_spec : {M : Type 1} → statement M
+shared_first_spec =
     tie.close
     (tie.spec
     invariant-loop

@@ -9,10 +9,10 @@ use Rattle.tree_links.specs.Chains.{offer-placed}
 use Rattle.region_sizes.proofs.chart_of.Statement.{statement}
 use Rattle.region_sizes.proofs.chart_of.Tie as tie
 
-ends-requires : tie.Need-ends-requires
+ends-requires : tie.Need-ends-ends-requires
 ends-requires c κs =
     let s = c.before.before.before.before.before.before.before.before.before.before.before in
-    (omega (arith, s.requires.within.few), s.requires.marked, c.before.before.before.before.before.chain.ensures)
+    (omega (arith, s.requires.within.few), s.requires.marked, c.before.before.before.before.before.chain-chains.ensures)
 
 returns : tie.Need-returns
 returns c =
@@ -20,13 +20,13 @@ returns c =
     let a = s.args in
     let accepted = a_tree_within_the_limits_is_accepted largest a.n a.one.now a.two.now a.marks.now a.capacity.now s.requires in
     record {
-      ordered = ap (λ r. take a.n r.sites) c.before.before.before.before.before.before.before.eliminate.ensures
+      ordered = ap (λ r. take a.n r.sites) c.before.before.before.before.before.before.before.eliminate-tree.ensures
           ∙ eliminated_in_order a.n a.one.now a.two.now a.marks.now a.capacity.now accepted;
-      ended = c.ends.ensures;
-      chained = c.before.before.before.before.before.before.chain.ensures;
+      ended = c.ends-ends.ensures;
+      chained = c.before.before.before.before.before.before.chain-chains.ensures;
     }
 
-pub chart-of-spec : {M : Type 1} → statement M
-chart-of-spec =
+pub chart_of_spec : {M : Type 1} → statement M
+chart_of_spec =
     tie.close
     (tie.spec (λ c κs. search rules) (λ c κs. let s = c.before.before.before.before.before in offer-placed s.requires.within) ends-requires returns)

@@ -15,26 +15,26 @@ use Rattle.region_sizes.proofs.give_by.Statement.{statement}
 use Rattle.region_sizes.proofs.give_by.Tie as tie
 
 -- the shared link has the lesser of the two numbers
-front : (c : tie.After-resized) → let a = c.before.before.before.before.before.before.before.before.args in
-    take (length a.capacity.now) c.resized.result
+front : (c : tie.After-resized-list) → let a = c.before.before.before.before.before.before.before.before.args in
+    take (length a.capacity.now) c.resized-list.result
     ≡ set a.capacity.now a.link (min (first_size (region_by a.n a.one.now a.two.now a.marks.now a.capacity.now) a.link) a.other)
 front c =
     let s = c.before.before.before.before.before.before.before.before in
     let a = s.args in
-    c.resized.ensures ∙ ap (set a.capacity.now a.link) (c.before.lesser.ensures ∙ ap (λ x. min x a.other) s.requires.3)
+    c.resized-list.ensures ∙ ap (set a.capacity.now a.link) (c.before.lesser.ensures ∙ ap (λ x. min x a.other) s.requires.3)
 
-resized-requires : tie.Need-resized-requires
+resized-requires : tie.Need-resized-list-requires
 resized-requires c κs =
     let s = c.before.before.before.before.before.before.before in
     let t = s.requires.0.within in
     (omega (arith, t.few, t.capacities), omega (arith, t.firsts, t.capacities, s.requires.2))
 
-array-share-prefix-list : tie.Need-array-share-prefix-list
+array-share-prefix-list : tie.Need-slice_bounds-list-end
 array-share-prefix-list c =
     let s = c.before.before.before.before.before.before.before.before in
     omega (arith, s.requires.0.within.few, s.requires.0.within.capacities)
 
-slice-aggregate-trim : tie.Need-slice-aggregate-trim
+slice-aggregate-trim : tie.Need-slice_bounds-trim-end
 slice-aggregate-trim c = let a = c.before.before.before.before.before.before.before.before.before.args in sym (ap length (front c.before) ∙ length-set a.capacity.now a.link _)
 
 trim-requires : tie.Need-trim-requires
@@ -52,11 +52,11 @@ returns c =
     let s = c.before.before.before.before.before.before.before.before.before.before.before.before.before in
     let a = s.args in
     let told = c.before.before.trim.ensures in
-    let g = what_is_given s.requires.0 a.link a.other s.requires.2 (look a.chart.ends) _ _ s.requires.1.ended c.before.before.before.before.before.before.before.far-site.ensures (front c.before.before.before.before.before) in
+    let g = what_is_given s.requires.0 a.link a.other s.requires.2 (look a.chart.ends) _ _ s.requires.1.ended c.before.before.before.before.before.before.before.far_site-far.ensures (front c.before.before.before.before.before) in
     (told.0 ∙ g.0, told.1 ∙ ap (λ l. l ++ drop (length a.one.now) a.sizes.now) g.1)
 
-pub give-by-spec : {M : Type 1} → statement M
-give-by-spec =
+pub give_by_spec : {M : Type 1} → statement M
+give_by_spec =
     tie.close
     (tie.spec
     (λ c κs. let s = c.before.before.before.before.before in (a_tree_is_sited s.requires.0, s.requires.2))

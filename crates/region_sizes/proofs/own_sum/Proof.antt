@@ -20,18 +20,18 @@ use Rattle.region_sizes.specs.Laws.{own_sum_by_sites}
 use Rattle.region_sizes.proofs.own_sum.Statement.{statement}
 use Rattle.region_sizes.proofs.own_sum.Tie as tie
 
-abbrev invariant-loop : tie.invariant-loop
+abbrev invariant-loop : tie.invariant-loop-i
 invariant-loop n far ends last before one two sizes total₀ i₀ total i =
     (i ≤ n) × (total ≡ sum i (λ k. is (own (look ends) far (1 + k)) 1 * sum_at (links one two) (1 + k) (look sizes)))
 
-abbrev decreases-loop : tie.decreases-loop
+abbrev decreases-loop : tie.decreases-loop-i
 decreases-loop n far ends last before one two sizes total₀ i₀ total i = n - i
 
-loop-holds : tie.Need-loop-init invariant-loop decreases-loop
+loop-holds : tie.Need-loop-i-init invariant-loop decreases-loop
 unfolding sum
 loop-holds c = (omega arith, refl)
 
-own-at-requires : tie.Need-own-at-requires invariant-loop decreases-loop
+own-at-requires : tie.Need-own_at-total-requires invariant-loop decreases-loop
 own-at-requires c κs = let s = c.before.before.before.before.before in (omega (arith, s.requires.0.few), s.requires.1, offer_limited s.requires.0)
 
 -- what a site counts stays small
@@ -57,18 +57,18 @@ sums_small f k zero h = omega arith
 sums_small f k (suc i) h = omega (arith, sums_small f k i h, h i)
 
 -- what one more site counts
-counted : (c : tie.After-own-at invariant-loop decreases-loop) → let t = c.before.before in
+counted : (c : tie.After-own_at-total invariant-loop decreases-loop) → let t = c.before.before in
     let a = c.before.before.before.before.before.before.args in
-    c.own_at.result ≡ is (own (look a.ends.now) a.far (1 + t.loop.i)) 1
-    * sum_at (links a.one.now a.two.now) (1 + t.loop.i) (look a.sizes.now)
+    c.own_at-total.result ≡ is (own (look a.ends.now) a.far (1 + t.loop-i.i)) 1
+    * sum_at (links a.one.now a.two.now) (1 + t.loop-i.i) (look a.sizes.now)
 counted c =
     let t = c.before.before in
     let a = c.before.before.before.before.before.before.args in
-    let turned : t.loop.i + 1 ≡ 1 + t.loop.i = omega arith in
-    c.own_at.ensures
+    let turned : t.loop-i.i + 1 ≡ 1 + t.loop-i.i = omega arith in
+    c.own_at-total.ensures
     ∙ ap (λ v. is (own (look a.ends.now) a.far v) 1 * sum_at (links a.one.now a.two.now) v (look a.sizes.now)) turned
 
-add_total : tie.Need-overflow-add-total invariant-loop decreases-loop
+add_total : tie.Need-overflow_add-total invariant-loop decreases-loop
 add_total c =
     let t = c.before.before in
     let s = c.before.before.before.before.before.before in
@@ -76,31 +76,31 @@ add_total c =
     omega (
       arith,
       s.requires.0.few,
-      t.loop.invariant.1,
+      t.loop-i.invariant.1,
       counted c,
-      small s.requires.0 (own (look a.ends.now) a.far (1 + t.loop.i)) (1 + t.loop.i),
+      small s.requires.0 (own (look a.ends.now) a.far (1 + t.loop-i.i)) (1 + t.loop-i.i),
       sums_small (λ k. is (own (look a.ends.now) a.far (1 + k)) 1
-          * sum_at (links a.one.now a.two.now) (1 + k) (look a.sizes.now)) (LINKS * SIZE) t.loop.i
+          * sum_at (links a.one.now a.two.now) (1 + k) (look a.sizes.now)) (LINKS * SIZE) t.loop-i.i
           (λ k. small s.requires.0 (own (look a.ends.now) a.far (1 + k)) (1 + k)),
     )
 
-loop-again : tie.Need-loop-preserved invariant-loop decreases-loop
+loop-again : tie.Need-loop-i-preserved invariant-loop decreases-loop
 loop-again c =
     let t = c.before.before in
-    (omega arith, sum-next _ t.loop.i t.loop.invariant.1 (counted c))
+    (omega arith, sum-next _ t.loop-i.i t.loop-i.invariant.1 (counted c))
 
 returns : tie.Need-returns invariant-loop decreases-loop
 returns c =
     let t = c.before in
     let a = c.before.before.before.before.before.args in
-    let all : t.loop.i ≡ a.n = omega arith in
-    t.loop.invariant.1
+    let all : t.loop-i.i ≡ a.n = omega arith in
+    t.loop-i.invariant.1
     ∙ ap (λ i. sum i (λ k. is (own (look a.ends.now) a.far (1 + k)) 1
     * sum_at (links a.one.now a.two.now) (1 + k) (look a.sizes.now))) all
     ∙ own_sum_by_sites a.n (links a.one.now a.two.now) (look a.ends.now) a.far a.sizes.now
 
-pub own-sum-spec : {M : Type 1} → statement M
-own-sum-spec =
+pub own_sum_spec : {M : Type 1} → statement M
+own_sum_spec =
     tie.close
     (tie.spec
     invariant-loop

@@ -12,5 +12,5 @@ returns c =
     ap (λ l. look l s.args.link) c.before.balance.ensures
     ∙ a_trimmed_size_stands_there s.requires.0 (look s.args.chart.ends) _ s.args.link s.requires.3
 
-pub size-by-spec : {M : Type 1} → statement M
-size-by-spec = tie.close (tie.spec (λ c. search rules) (λ c κs. search rules) (λ c. search rules) (λ c. search rules) returns)
+pub size_by_spec : {M : Type 1} → statement M
+size_by_spec = tie.close (tie.spec (λ c. search rules) (λ c κs. search rules) (λ c. search rules) (λ c. search rules) returns)

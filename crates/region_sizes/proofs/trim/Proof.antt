@@ -15,36 +15,36 @@ use Rattle.region_sizes.specs.Laws.{trimmed_for_each_link, trimmed-is-within, th
 use Rattle.region_sizes.proofs.trim.Statement.{statement}
 use Rattle.region_sizes.proofs.trim.Tie as tie
 
-slice-aggregate-own-sum : tie.Need-slice-aggregate-own-sum
+slice-aggregate-own-sum : tie.Need-slice_bounds-own_sum-end-2
 slice-aggregate-own-sum c =
-    let s = c.before.before.before.before.before.before.before.before.before.before.before.before.before.before.before.before.before.before.before.before in
+    let s = c.before.before.before.before.before.before.before.before.before.before.before.before.before.before.before.before.before.before.before in
     let terminal = look s.args.chart.ends in
-    sym (ap length (the_front_is_trimmed s.requires.0 terminal _ _ c.before.before.before.before.before.before.balance.ensures) ∙ trimmed_for_each_link s.requires.0 terminal)
+    sym (ap length (the_front_is_trimmed s.requires.0 terminal _ _ c.before.before.before.before.before.balance.ensures) ∙ trimmed_for_each_link s.requires.0 terminal)
 
-own-sum-requires : tie.Need-own-sum-requires
+own-sum-requires : tie.Need-own_sum-requires
 own-sum-requires c κs =
-    let s = c.before.before.before.before.before.before.before.before.before.before.before.before.before.before.before.before.before.before.before.before in
+    let s = c.before.before.before.before.before.before.before.before.before.before.before.before.before.before.before.before.before.before.before in
     let a = s.args in
     let terminal = look a.chart.ends in (
-      subst (TreeWithin largest a.n a.one.now a.two.now) (sym (the_front_is_trimmed s.requires.0 terminal _ _ c.before.before.before.before.before.before.balance.ensures))
+      subst (TreeWithin largest a.n a.one.now a.two.now) (sym (the_front_is_trimmed s.requires.0 terminal _ _ c.before.before.before.before.before.balance.ensures))
           (trimmed-is-within s.requires.0 terminal),
       s.requires.2,
     )
 
 returns : tie.Need-returns
 returns c =
-    let s = c.before.before.before.before.before.before.before.before.before.before.before.before.before.before.before.before.before.before.before.before.before in
+    let s = c.before.before.before.before.before.before.before.before.before.before.before.before.before.before.before.before.before.before.before.before in
     let a = s.args in
     let ls = links a.one.now a.two.now in
     let terminal = look a.chart.ends in
-    let done = c.before.before.before.before.before.before.before.balance.ensures in
+    let done = c.before.before.before.before.before.before.balance.ensures in
     let all : length a.capacity.now ≡ length a.one.now = omega (arith, s.requires.0.firsts, s.requires.0.capacities) in (
-      c.own-sum.ensures ∙ ap (λ l. at_terminals ls a.n (own terminal a.far) (look l)) (the_front_is_trimmed s.requires.0 terminal _ _ done),
+      c.own_sum.ensures ∙ ap (λ l. at_terminals ls a.n (own terminal a.far) (look l)) (the_front_is_trimmed s.requires.0 terminal _ _ done),
       done ∙ ap (λ k. balanced ls a.n terminal a.capacity.now ++ drop k a.sizes.now) all,
     )
 
-pub trim-spec : {M : Type 1} → statement M
-trim-spec =
+pub trim_spec : {M : Type 1} → statement M
+trim_spec =
     tie.close
     (tie.spec
     (λ c κs. search rules)

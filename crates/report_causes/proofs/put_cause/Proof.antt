@@ -8,125 +8,74 @@ use borrow.Author.Rules.{rules}
 use Rattle.report_causes.proofs.put_cause.Statement.{statement}
 use Rattle.report_causes.proofs.put_cause.Tie as tie
 
-slice-aggregate-put-bytes : tie.Need-slice-aggregate-put-bytes
-slice-aggregate-put-bytes c = search rules
-
-put-bytes-requires : tie.Need-put-bytes-requires
+put-bytes-requires : tie.Need-put_bytes-requires
 unfolding cause pick ℕ_discrete
-put-bytes-requires c κs = rw (c.before.before.match.keys1, the_bytes_are_told) at c.before.before.before.before.requires
+put-bytes-requires c κs = rw (c.before.before.before.in-1.is, the_bytes_are_told) at c.before.before.before.before.before.requires
 
-slice-aggregate-put-bytes-2 : tie.Need-slice-aggregate-put-bytes-2
-slice-aggregate-put-bytes-2 c = search rules
-
-put-bytes-requires-2 : tie.Need-put-bytes-requires-2
+put-bytes-requires-2 : tie.Need-put_bytes-requires-in-2
 unfolding cause pick ℕ_discrete
-put-bytes-requires-2 c κs = rw c.before.before.match.keys2 at c.before.before.before.before.requires
+put-bytes-requires-2 c κs = rw c.before.before.before.in-2.is at c.before.before.before.before.before.requires
 
-slice-aggregate-put-limit : tie.Need-slice-aggregate-put-limit
-slice-aggregate-put-limit c = search rules
-
-put-limit-requires : tie.Need-put-limit-requires
+put-limit-requires : tie.Need-put_limit-requires
 unfolding cause pick ℕ_discrete
-put-limit-requires c κs = rw c.before.before.match.keys3 at c.before.before.before.before.requires
+put-limit-requires c κs = rw c.before.before.before.in-3.is at c.before.before.before.before.before.requires
 
-slice-aggregate-put-bytes-3 : tie.Need-slice-aggregate-put-bytes-3
-slice-aggregate-put-bytes-3 c = search rules
-
-put-bytes-requires-3 : tie.Need-put-bytes-requires-3
+put-bytes-requires-3 : tie.Need-put_bytes-requires-in-4
 unfolding cause pick ℕ_discrete
-put-bytes-requires-3 c κs = rw (c.before.before.match.keys4, the_sites_are_told) at c.before.before.before.before.requires
+put-bytes-requires-3 c κs = rw (c.before.before.before.in-4.is, the_sites_are_told) at c.before.before.before.before.before.requires
 
-slice-aggregate-put-bytes-4 : tie.Need-slice-aggregate-put-bytes-4
-slice-aggregate-put-bytes-4 c = search rules
-
-put-bytes-requires-4 : tie.Need-put-bytes-requires-4
+put-bytes-requires-4 : tie.Need-put_bytes-requires-in-5
 unfolding cause pick ℕ_discrete
-put-bytes-requires-4 c κs = rw c.before.before.match.keys5 at c.before.before.before.before.requires
+put-bytes-requires-4 c κs = rw c.before.before.before.in-5.is at c.before.before.before.before.before.requires
 
-slice-aggregate-put-bytes-5 : tie.Need-slice-aggregate-put-bytes-5
-slice-aggregate-put-bytes-5 c = search rules
-
-put-bytes-requires-5 : tie.Need-put-bytes-requires-5
+put-bytes-requires-5 : tie.Need-put_bytes-requires-in-6
 unfolding cause pick ℕ_discrete
-put-bytes-requires-5 c κs = rw c.before.before.match.keys6 at c.before.before.before.before.requires
+put-bytes-requires-5 c κs = rw c.before.before.before.in-6.is at c.before.before.before.before.before.requires
 
-slice-aggregate-put-bytes-6 : tie.Need-slice-aggregate-put-bytes-6
-slice-aggregate-put-bytes-6 c = search rules
-
-put-bytes-requires-6 : tie.Need-put-bytes-requires-6
+put-bytes-requires-6 : tie.Need-put_bytes-requires-in-7
 unfolding cause pick ℕ_discrete
-put-bytes-requires-6 c κs = rw c.before.before.match.keys7 at c.before.before.before.before.requires
+put-bytes-requires-6 c κs = rw c.before.before.before.in-7.is at c.before.before.before.before.before.requires
 
-slice-aggregate-put-bytes-7 : tie.Need-slice-aggregate-put-bytes-7
-slice-aggregate-put-bytes-7 c = search rules
-
-put-bytes-requires-7 : tie.Need-put-bytes-requires-7
+put-bytes-requires-7 : tie.Need-put_bytes-requires-in-8
 unfolding cause pick ℕ_discrete
-put-bytes-requires-7 c κs = rw c.before.before.match.keys8 at c.before.before.before.before.requires
+put-bytes-requires-7 c κs = rw c.before.before.before.in-8.is at c.before.before.before.before.before.requires
 
-slice-aggregate-put-bytes-8 : tie.Need-slice-aggregate-put-bytes-8
-slice-aggregate-put-bytes-8 c = search rules
-
-put-bytes-requires-8 : tie.Need-put-bytes-requires-8
+put-bytes-requires-8 : tie.Need-put_bytes-requires-in-9
 unfolding cause pick ℕ_discrete
-put-bytes-requires-8 c κs = rw c.before.before.match.keys9 at c.before.before.before.before.requires
+put-bytes-requires-8 c κs = rw c.before.before.before.in-9.is at c.before.before.before.before.before.requires
 
-slice-aggregate-put-bytes-9 : tie.Need-slice-aggregate-put-bytes-9
-slice-aggregate-put-bytes-9 c = search rules
-
-put-bytes-requires-9 : tie.Need-put-bytes-requires-9
+put-bytes-requires-9 : tie.Need-put_bytes-requires-in-10
 unfolding cause pick ℕ_discrete
-put-bytes-requires-9 c κs = rw c.before.before.match.keys10 at c.before.before.before.before.requires
+put-bytes-requires-9 c κs = rw c.before.before.before.in-10.is at c.before.before.before.before.before.requires
 
-slice-aggregate-put-bytes-10 : tie.Need-slice-aggregate-put-bytes-10
-slice-aggregate-put-bytes-10 c = search rules
-
-put-bytes-requires-10 : tie.Need-put-bytes-requires-10
+put-bytes-requires-10 : tie.Need-put_bytes-requires-in-11
 unfolding cause pick ℕ_discrete
-put-bytes-requires-10 c κs = rw c.before.before.match.keys11 at c.before.before.before.before.requires
+put-bytes-requires-10 c κs = rw c.before.before.before.in-11.is at c.before.before.before.before.before.requires
 
-slice-aggregate-put-bytes-11 : tie.Need-slice-aggregate-put-bytes-11
-slice-aggregate-put-bytes-11 c = search rules
-
-put-bytes-requires-11 : tie.Need-put-bytes-requires-11
+put-bytes-requires-11 : tie.Need-put_bytes-requires-in-12
 unfolding cause pick ℕ_discrete
-put-bytes-requires-11 c κs = rw c.before.before.match.keys12 at c.before.before.before.before.requires
+put-bytes-requires-11 c κs = rw c.before.before.before.in-12.is at c.before.before.before.before.before.requires
 
-slice-aggregate-put-bytes-12 : tie.Need-slice-aggregate-put-bytes-12
-slice-aggregate-put-bytes-12 c = search rules
-
-put-bytes-requires-12 : tie.Need-put-bytes-requires-12
+put-bytes-requires-12 : tie.Need-put_bytes-requires-in-13
 unfolding cause pick ℕ_discrete
-put-bytes-requires-12 c κs = rw c.before.before.match.keys13 at c.before.before.before.before.requires
+put-bytes-requires-12 c κs = rw c.before.before.before.in-13.is at c.before.before.before.before.before.requires
 
-slice-aggregate-put-bytes-13 : tie.Need-slice-aggregate-put-bytes-13
-slice-aggregate-put-bytes-13 c = search rules
-
-put-bytes-requires-13 : tie.Need-put-bytes-requires-13
+put-bytes-requires-13 : tie.Need-put_bytes-requires-in-17
 unfolding cause pick ℕ_discrete
-put-bytes-requires-13 c κs = rw c.before.before.match.keys14 at c.before.before.before.before.requires
+put-bytes-requires-13 c κs = rw c.before.before.before.in-17.is at c.before.before.before.before.before.requires
 
-slice-aggregate-put-bytes-14 : tie.Need-slice-aggregate-put-bytes-14
-slice-aggregate-put-bytes-14 c = search rules
-
-put-bytes-requires-14 : tie.Need-put-bytes-requires-14
+put-bytes-requires-14 : tie.Need-put_bytes-requires-in-18
 unfolding cause pick ℕ_discrete
-put-bytes-requires-14 c κs = rw c.before.before.match.keys15 at c.before.before.before.before.requires
+put-bytes-requires-14 c κs = rw c.before.before.before.in-18.is at c.before.before.before.before.before.requires
 
-slice-aggregate-put-bytes-15 : tie.Need-slice-aggregate-put-bytes-15
-slice-aggregate-put-bytes-15 c = search rules
-
-put-bytes-requires-15 : tie.Need-put-bytes-requires-15
+put-bytes-requires-15 : tie.Need-put_bytes-requires-in-19
 unfolding cause pick ℕ_discrete
-put-bytes-requires-15 c κs = rw c.before.before.match.keys16 at c.before.before.before.before.requires
+put-bytes-requires-15 c κs = rw c.before.before.before.in-19.is at c.before.before.before.before.before.requires
 
-slice-aggregate-put-bytes-16 : tie.Need-slice-aggregate-put-bytes-16
-slice-aggregate-put-bytes-16 c = search rules
-
-put-bytes-requires-16 : tie.Need-put-bytes-requires-16
+put-bytes-requires-16 : tie.Need-put_bytes-requires-in_default
 put-bytes-requires-16 c κs =
-    let s = c.before.before.before.before in
-    let last = c.before.before.match.rest in
+    let s = c.before.before.before.before.before in
+    let last = c.before.before.before.in_default.in_default-own.rest in
     let all = last.0 in
     let rest = all.0 in
     let late = rest.0 in
@@ -136,126 +85,126 @@ put-bytes-requires-16 c κs =
     last.1 in
     rw none at s.requires
 
-same_length : tie.Need-same-length
+same_length : tie.Need-shape_of-buf-in-1
 same_length c = search rules
 
-returns : tie.Need-returns
+returns : tie.Need-returns-in-1
 unfolding cause pick ℕ_discrete
-returns c = rw (c.before.before.before.before.before.match.keys1, the_bytes_are_told) c.before.before.put-bytes.ensures
+returns c = rw (c.before.before.before.before.before.before.in-1.is, the_bytes_are_told) c.before.before.put_bytes.ensures
 
-same-length-2 : tie.Need-same-length-2
+same-length-2 : tie.Need-shape_of-buf-in-2
 same-length-2 c = search rules
 
-returns-2 : tie.Need-returns-2
+returns-2 : tie.Need-returns-in-2
 unfolding cause pick ℕ_discrete
-returns-2 c = rw c.before.before.before.before.before.match.keys2 c.before.before.put-bytes2.ensures
+returns-2 c = rw c.before.before.before.before.before.before.in-2.is c.before.before.put_bytes-in-2.ensures
 
-same-length-3 : tie.Need-same-length-3
+same-length-3 : tie.Need-shape_of-buf-in-3
 same-length-3 c = search rules
 
-returns-3 : tie.Need-returns-3
+returns-3 : tie.Need-returns-in-3
 unfolding cause pick ℕ_discrete
-returns-3 c = rw c.before.before.before.before.before.match.keys3 c.before.before.put-limit.ensures
+returns-3 c = rw c.before.before.before.before.before.before.in-3.is c.before.before.put_limit.ensures
 
-same-length-4 : tie.Need-same-length-4
+same-length-4 : tie.Need-shape_of-buf-in-4
 same-length-4 c = search rules
 
-returns-4 : tie.Need-returns-4
+returns-4 : tie.Need-returns-in-4
 unfolding cause pick ℕ_discrete
-returns-4 c = rw (c.before.before.before.before.before.match.keys4, the_sites_are_told) c.before.before.put-bytes3.ensures
+returns-4 c = rw (c.before.before.before.before.before.before.in-4.is, the_sites_are_told) c.before.before.put_bytes-in-4.ensures
 
-same-length-5 : tie.Need-same-length-5
+same-length-5 : tie.Need-shape_of-buf-in-5
 same-length-5 c = search rules
 
-returns-5 : tie.Need-returns-5
+returns-5 : tie.Need-returns-in-5
 unfolding cause pick ℕ_discrete
-returns-5 c = rw c.before.before.before.before.before.match.keys5 c.before.before.put-bytes4.ensures
+returns-5 c = rw c.before.before.before.before.before.before.in-5.is c.before.before.put_bytes-in-5.ensures
 
-same-length-6 : tie.Need-same-length-6
+same-length-6 : tie.Need-shape_of-buf-in-6
 same-length-6 c = search rules
 
-returns-6 : tie.Need-returns-6
+returns-6 : tie.Need-returns-in-6
 unfolding cause pick ℕ_discrete
-returns-6 c = rw c.before.before.before.before.before.match.keys6 c.before.before.put-bytes5.ensures
+returns-6 c = rw c.before.before.before.before.before.before.in-6.is c.before.before.put_bytes-in-6.ensures
 
-same-length-7 : tie.Need-same-length-7
+same-length-7 : tie.Need-shape_of-buf-in-7
 same-length-7 c = search rules
 
-returns-7 : tie.Need-returns-7
+returns-7 : tie.Need-returns-in-7
 unfolding cause pick ℕ_discrete
-returns-7 c = rw c.before.before.before.before.before.match.keys7 c.before.before.put-bytes6.ensures
+returns-7 c = rw c.before.before.before.before.before.before.in-7.is c.before.before.put_bytes-in-7.ensures
 
-same-length-8 : tie.Need-same-length-8
+same-length-8 : tie.Need-shape_of-buf-in-8
 same-length-8 c = search rules
 
-returns-8 : tie.Need-returns-8
+returns-8 : tie.Need-returns-in-8
 unfolding cause pick ℕ_discrete
-returns-8 c = rw c.before.before.before.before.before.match.keys8 c.before.before.put-bytes7.ensures
+returns-8 c = rw c.before.before.before.before.before.before.in-8.is c.before.before.put_bytes-in-8.ensures
 
-same-length-9 : tie.Need-same-length-9
+same-length-9 : tie.Need-shape_of-buf-in-9
 same-length-9 c = search rules
 
-returns-9 : tie.Need-returns-9
+returns-9 : tie.Need-returns-in-9
 unfolding cause pick ℕ_discrete
-returns-9 c = rw c.before.before.before.before.before.match.keys9 c.before.before.put-bytes8.ensures
+returns-9 c = rw c.before.before.before.before.before.before.in-9.is c.before.before.put_bytes-in-9.ensures
 
-same-length-10 : tie.Need-same-length-10
+same-length-10 : tie.Need-shape_of-buf-in-10
 same-length-10 c = search rules
 
-returns-10 : tie.Need-returns-10
+returns-10 : tie.Need-returns-in-10
 unfolding cause pick ℕ_discrete
-returns-10 c = rw c.before.before.before.before.before.match.keys10 c.before.before.put-bytes9.ensures
+returns-10 c = rw c.before.before.before.before.before.before.in-10.is c.before.before.put_bytes-in-10.ensures
 
-same-length-11 : tie.Need-same-length-11
+same-length-11 : tie.Need-shape_of-buf-in-11
 same-length-11 c = search rules
 
-returns-11 : tie.Need-returns-11
+returns-11 : tie.Need-returns-in-11
 unfolding cause pick ℕ_discrete
-returns-11 c = rw c.before.before.before.before.before.match.keys11 c.before.before.put-bytes10.ensures
+returns-11 c = rw c.before.before.before.before.before.before.in-11.is c.before.before.put_bytes-in-11.ensures
 
-same-length-12 : tie.Need-same-length-12
+same-length-12 : tie.Need-shape_of-buf-in-12
 same-length-12 c = search rules
 
-returns-12 : tie.Need-returns-12
+returns-12 : tie.Need-returns-in-12
 unfolding cause pick ℕ_discrete
-returns-12 c = rw c.before.before.before.before.before.match.keys12 c.before.before.put-bytes11.ensures
+returns-12 c = rw c.before.before.before.before.before.before.in-12.is c.before.before.put_bytes-in-12.ensures
 
-same-length-13 : tie.Need-same-length-13
+same-length-13 : tie.Need-shape_of-buf-in-13
 same-length-13 c = search rules
 
-returns-13 : tie.Need-returns-13
+returns-13 : tie.Need-returns-in-13
 unfolding cause pick ℕ_discrete
-returns-13 c = rw c.before.before.before.before.before.match.keys13 c.before.before.put-bytes12.ensures
+returns-13 c = rw c.before.before.before.before.before.before.in-13.is c.before.before.put_bytes-in-13.ensures
 
-same-length-14 : tie.Need-same-length-14
+same-length-14 : tie.Need-shape_of-buf-in-17
 same-length-14 c = search rules
 
-returns-14 : tie.Need-returns-14
+returns-14 : tie.Need-returns-in-17
 unfolding cause pick ℕ_discrete
-returns-14 c = rw c.before.before.before.before.before.match.keys14 c.before.before.put-bytes13.ensures
+returns-14 c = rw c.before.before.before.before.before.before.in-17.is c.before.before.put_bytes-in-17.ensures
 
-same-length-15 : tie.Need-same-length-15
+same-length-15 : tie.Need-shape_of-buf-in-18
 same-length-15 c = search rules
 
-returns-15 : tie.Need-returns-15
+returns-15 : tie.Need-returns-in-18
 unfolding cause pick ℕ_discrete
-returns-15 c = rw c.before.before.before.before.before.match.keys15 c.before.before.put-bytes14.ensures
+returns-15 c = rw c.before.before.before.before.before.before.in-18.is c.before.before.put_bytes-in-18.ensures
 
-same-length-16 : tie.Need-same-length-16
+same-length-16 : tie.Need-shape_of-buf-in-19
 same-length-16 c = search rules
 
-returns-16 : tie.Need-returns-16
+returns-16 : tie.Need-returns-in-19
 unfolding cause pick ℕ_discrete
-returns-16 c = rw c.before.before.before.before.before.match.keys16 c.before.before.put-bytes15.ensures
+returns-16 c = rw c.before.before.before.before.before.before.in-19.is c.before.before.put_bytes-in-19.ensures
 
-same-length-17 : tie.Need-same-length-17
+same-length-17 : tie.Need-shape_of-buf-in_default
 same-length-17 c = search rules
 
-returns-17 : tie.Need-returns-17
+returns-17 : tie.Need-returns-in_default
 returns-17 c =
-    let at-match = c.before.before.before.before.before in
+    let at-match = c.before.before.before.before.before.before in
     let n = at-match.before.before.args.number in
-    let last = at-match.match.rest in
+    let last = at-match.in_default.in_default-own.rest in
     let all = last.0 in
     let rest = all.0 in
     let late = rest.0 in
@@ -263,45 +212,28 @@ returns-17 c =
     let none = no_cause n early.0.0.0.0.0.1 early.0.0.0.0.1 early.0.0.0.1 early.0.0.1 early.0.1 early.1
     late.0.0.0.0.0.0.1 late.0.0.0.0.0.1 late.0.0.0.0.1 late.0.0.0.1 late.0.0.1 late.0.1 late.1 rest.1 all.1
     last.1 in
-    rw none c.before.before.put-bytes16.ensures
+    rw none c.before.before.put_bytes-in_default.ensures
 
-pub put-cause-spec : {M : Type 1} → statement M
-put-cause-spec =
+pub put_cause_spec : {M : Type 1} → statement M
+put_cause_spec =
     tie.close
     (tie.spec
-    slice-aggregate-put-bytes
     put-bytes-requires
-    slice-aggregate-put-bytes-2
     put-bytes-requires-2
-    slice-aggregate-put-limit
     put-limit-requires
-    slice-aggregate-put-bytes-3
     put-bytes-requires-3
-    slice-aggregate-put-bytes-4
     put-bytes-requires-4
-    slice-aggregate-put-bytes-5
     put-bytes-requires-5
-    slice-aggregate-put-bytes-6
     put-bytes-requires-6
-    slice-aggregate-put-bytes-7
     put-bytes-requires-7
-    slice-aggregate-put-bytes-8
     put-bytes-requires-8
-    slice-aggregate-put-bytes-9
     put-bytes-requires-9
-    slice-aggregate-put-bytes-10
     put-bytes-requires-10
-    slice-aggregate-put-bytes-11
     put-bytes-requires-11
-    slice-aggregate-put-bytes-12
     put-bytes-requires-12
-    slice-aggregate-put-bytes-13
     put-bytes-requires-13
-    slice-aggregate-put-bytes-14
     put-bytes-requires-14
-    slice-aggregate-put-bytes-15
     put-bytes-requires-15
-    slice-aggregate-put-bytes-16
     put-bytes-requires-16
     same_length
     returns

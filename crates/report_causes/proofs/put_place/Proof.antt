@@ -9,74 +9,62 @@ use borrow.Author.Rules.{rules}
 use Rattle.report_causes.proofs.put_place.Statement.{statement}
 use Rattle.report_causes.proofs.put_place.Tie as tie
 
-slice-aggregate-put-part : tie.Need-slice-aggregate-put-part
-slice-aggregate-put-part c = search rules
-
-put-part-requires : tie.Need-put-part-requires
+put-part-requires : tie.Need-put_part-requires
 put-part-requires c κs =
-    let s = c.before.before.before.before in
+    let s = c.before.before.before.before.before in
     rw (no_line s.args.line (omega arith)) at s.requires
 
-same_length : tie.Need-same-length
+same_length : tie.Need-shape_of-buf-then-line-eq0
 same_length c = search rules
 
-returns : tie.Need-returns
+returns : tie.Need-returns-then-line-eq0
 returns c =
-    let s = c.before.before.before.before.before.before.before in
-    rw (no_line s.args.line (omega arith)) c.before.before.put-part.ensures
+    let s = c.before.before.before.before.before.before.before.before in
+    rw (no_line s.args.line (omega arith)) c.before.before.put_part.ensures
 
-slice-aggregate-put-part-2 : tie.Need-slice-aggregate-put-part-2
-slice-aggregate-put-part-2 c = search rules
-
-put-part-requires-2 : tie.Need-put-part-requires-2
+put-part-requires-2 : tie.Need-put_part-word-requires
 put-part-requires-2 c κs =
-    let s = c.before.before.before.before in
+    let s = c.before.before.before.before.before in
     let l = s.args.line in
     room_front s.args.at (bytes "line ") ((decimal l ++ (58 ∷ [])) ++ (32 ∷ [])) (rw (some-line l (λ e. omega (arith, e))) at s.requires)
 
-put-number-requires : tie.Need-put-number-requires
+put-number-requires : tie.Need-put_number-next-requires
 put-number-requires c κs =
     let word = c.before.before.before in
-    let s = word.before.before.before.before.before in
+    let s = word.before.before.before.before.before.before in
     let l = s.args.line in
     let room = rw (some-line l (λ e. omega (arith, e))) at s.requires in
-    room_front _ (decimal l ++ (58 ∷ [])) (32 ∷ []) (room_after word.put-part2.ensures ((decimal l ++ (58 ∷ [])) ++ (32 ∷ [])) room)
+    room_front _ (decimal l ++ (58 ∷ [])) (32 ∷ []) (room_after word.put_part-word.ensures ((decimal l ++ (58 ∷ [])) ++ (32 ∷ [])) room)
 
-slice-aggregate-put-part-3 : tie.Need-slice-aggregate-put-part-3
-slice-aggregate-put-part-3 c = search rules
-
-put-part-requires-3 : tie.Need-put-part-requires-3
+put-part-requires-3 : tie.Need-put_part-requires-2
 put-part-requires-3 c κs =
-    let number = c.before.before.before.before in
+    let number = c.before.before.before.before.before in
     let word = number.before.before.before.before in
-    let s = word.before.before.before.before.before in
+    let s = word.before.before.before.before.before.before in
     let l = s.args.line in
     let room = rw (some-line l (λ e. omega (arith, e))) at s.requires in
-    room_after number.put-number.ensures (32 ∷ []) (room_after word.put-part2.ensures ((decimal l ++ (58 ∷ [])) ++ (32 ∷ [])) room)
+    room_after number.put_number-next.ensures (32 ∷ []) (room_after word.put_part-word.ensures ((decimal l ++ (58 ∷ [])) ++ (32 ∷ [])) room)
 
-same-length-2 : tie.Need-same-length-2
+same-length-2 : tie.Need-shape_of-buf
 same-length-2 c = search rules
 
-returns-2 : tie.Need-returns-2
+returns-2 : tie.Need-returns
 returns-2 c =
-    let number = c.before.before.before.before.before.before.before in
+    let number = c.before.before.before.before.before.before.before.before in
     let word = number.before.before.before.before in
-    let s = word.before.before.before.before.before in
-    let w = then number.put-number.ensures c.before.before.put-part3.ensures in
-    rw (some-line s.args.line (λ e. omega (arith, e))) (then word.put-part2.ensures w)
+    let s = word.before.before.before.before.before.before in
+    let w = then number.put_number-next.ensures c.before.before.put_part-2.ensures in
+    rw (some-line s.args.line (λ e. omega (arith, e))) (then word.put_part-word.ensures w)
 
-pub put-place-spec : {M : Type 1} → statement M
-put-place-spec =
+pub put_place_spec : {M : Type 1} → statement M
+put_place_spec =
     tie.close
     (tie.spec
-    slice-aggregate-put-part
     put-part-requires
     same_length
     returns
-    slice-aggregate-put-part-2
     put-part-requires-2
     put-number-requires
-    slice-aggregate-put-part-3
     put-part-requires-3
     same-length-2
     returns-2)

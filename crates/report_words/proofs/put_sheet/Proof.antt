@@ -8,13 +8,13 @@ use Rattle.report_words.specs.TwoTexts.{sheet_word}
 use Rattle.report_words.proofs.put_sheet.Statement.{statement}
 use Rattle.report_words.proofs.put_sheet.Tie as tie
 
-returns : tie.Need-returns
+returns : tie.Need-returns-then-line-eq0
 unfolding sheet_word
-returns c = rw (pick_same c.if1.true [] (bytes "the sheet, ")) (nothing _ 0)
+returns c = rw (pick_same c.if-line-eq0.true [] (bytes "the sheet, ")) (nothing _ 0)
 
-returns-2 : tie.Need-returns-2
+returns-2 : tie.Need-returns
 unfolding sheet_word
-returns-2 c = rw (pick_other c.before.before.before.before.before.if1.false [] (bytes "the sheet, ")) c.before.before.put-part.ensures
+returns-2 c = rw (pick_other c.before.before.before.before.before.before.if-line-eq0.false [] (bytes "the sheet, ")) c.before.before.put_part.ensures
 
-pub put-sheet-spec : {M : Type 1} → statement M
-put-sheet-spec = tie.close (tie.spec returns (λ c. search rules) (λ c κs. search rules) (λ c. search rules) returns-2)
+pub put_sheet_spec : {M : Type 1} → statement M
+put_sheet_spec = tie.close (tie.spec returns (λ c κs. search rules) (λ c. search rules) returns-2)

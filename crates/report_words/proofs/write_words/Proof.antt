@@ -15,25 +15,25 @@ room : (number l : ℕ) → l < 2 ^ 64 → Room 0 (place l ++ (cause number ++ (
 unfolding words
 room number l h = omega (arith, words_are_short number l h)
 
-put-place-requires : tie.Need-put-place-requires
+put-place-requires : tie.Need-put_place-at-requires
 put-place-requires c κs =
     let s = c.before.before.args in
     room_front 0 (place s.line) (cause s.number ++ (10 ∷ [])) (room s.number s.line (omega arith))
 
-put-cause-requires : tie.Need-put-cause-requires
+put-cause-requires : tie.Need-put_cause-requires
 put-cause-requires c κs =
     let s = c.before.before.before.before.before.before.args in
-    room_after c.before.before.before.put-place.ensures (cause s.number ++ (10 ∷ [])) (room s.number s.line (omega arith))
+    room_after c.before.before.before.put_place-at.ensures (cause s.number ++ (10 ∷ [])) (room s.number s.line (omega arith))
 
-same_length : tie.Need-same-length
+same_length : tie.Need-shape_of-buf
 same_length c = search rules
 
 returns : tie.Need-returns
 unfolding words
-returns c = then c.before.before.before.before.before.before.put-place.ensures c.before.before.put-cause.ensures
+returns c = then c.before.before.before.before.before.before.put_place-at.ensures c.before.before.put_cause.ensures
 
-pub write-words-spec : {M : Type 1} → statement M
-write-words-spec =
+pub write_words_spec : {M : Type 1} → statement M
+write_words_spec =
     tie.close
     (tie.spec
     put-place-requires

@@ -26,41 +26,41 @@ room text number l d h = rw (of_the_sheet text number l d) at (shortened (words_
     shortened : (w : List ℕ) → length w ≤ 150 → Room 0 w
     shortened w k = omega arith
 
-returns : tie.Need-returns
+returns : tie.Need-returns-then-text-eq2
 unfolding words_of
 returns c =
     let a = c.before.before.before.before.before.before.args in
-    rw (pick_same c.before.before.before.before.if1.true (log_words a.number) (sheet_word a.line ++ words a.number a.line))
-    c.before.before.put-log.ensures
+    rw (pick_same c.before.before.before.before.if-text-eq2.true (log_words a.number) (sheet_word a.line ++ words a.number a.line))
+    c.before.before.put_log.ensures
 
-put-place-requires : tie.Need-put-place-requires
+put-place-requires : tie.Need-put_place-next-requires
 put-place-requires c κs =
     let sheet = c.before.before.before in
     let a = sheet.before.before.before.before.args in
     let rest = place a.line ++ (cause a.number ++ (10 ∷ [])) in
     room_front _ (place a.line) (cause a.number ++ (10 ∷ []))
-    (room_after sheet.put-sheet.ensures rest (room a.text a.number a.line sheet.before.before.if1.false (omega arith)))
+    (room_after sheet.put_sheet-at.ensures rest (room a.text a.number a.line sheet.before.before.if-text-eq2.false (omega arith)))
 
-put-cause-requires : tie.Need-put-cause-requires
+put-cause-requires : tie.Need-put_cause-requires
 put-cause-requires c κs =
     let place-put = c.before.before.before in
     let sheet = place-put.before.before.before.before in
     let a = sheet.before.before.before.before.args in
     let rest = place a.line ++ (cause a.number ++ (10 ∷ [])) in
-    room_after place-put.put-place.ensures (cause a.number ++ (10 ∷ []))
-    (room_after sheet.put-sheet.ensures rest (room a.text a.number a.line sheet.before.before.if1.false (omega arith)))
+    room_after place-put.put_place-next.ensures (cause a.number ++ (10 ∷ []))
+    (room_after sheet.put_sheet-at.ensures rest (room a.text a.number a.line sheet.before.before.if-text-eq2.false (omega arith)))
 
-returns-2 : tie.Need-returns-2
+returns-2 : tie.Need-returns
 returns-2 c =
     let cause-put = c.before.before in
     let place-put = cause-put.before.before.before.before in
     let sheet = place-put.before.before.before.before in
     let a = sheet.before.before.before.before.args in
-    rw (of_the_sheet a.text a.number a.line sheet.before.before.if1.false)
-    (then sheet.put-sheet.ensures (then place-put.put-place.ensures cause-put.put-cause.ensures))
+    rw (of_the_sheet a.text a.number a.line sheet.before.before.if-text-eq2.false)
+    (then sheet.put_sheet-at.ensures (then place-put.put_place-next.ensures cause-put.put_cause.ensures))
 
-pub write-words-of-spec : {M : Type 1} → statement M
-write-words-of-spec =
+pub write_words_of_spec : {M : Type 1} → statement M
+write_words_of_spec =
     tie.close
     (tie.spec
     (λ c κs. search rules)

@@ -10,40 +10,40 @@ use Rattle.report_words.specs.TwoSheetsLaws.{of_both, of_one, words_of_sheets_ar
 use Rattle.report_words.proofs.write_words_of_sheets.Statement.{statement}
 use Rattle.report_words.proofs.write_words_of_sheets.Tie as tie
 
-put-cause-requires : tie.Need-put-cause-requires
+put-cause-requires : tie.Need-put_cause-requires
 put-cause-requires c κs =
     let a = c.before.before.before.args in
     omega (
       arith,
-      ap length (of_both a.sheet a.number a.line c.before.if1.true),
+      ap length (of_both a.sheet a.number a.line c.before.if-sheet-eq0.true),
       words_of_sheets_are_short a.sheet a.number a.line (omega arith) (omega arith),
     )
 
-returns : tie.Need-returns
+returns : tie.Need-returns-then-sheet-eq0
 returns c =
     let put = c.before.before in
     let a = put.before.before.before.before.args in
-    rw (of_both a.sheet a.number a.line put.before.before.if1.true) put.put-cause.ensures
+    rw (of_both a.sheet a.number a.line put.before.before.if-sheet-eq0.true) put.put_cause.ensures
 
-put-cause-requires-2 : tie.Need-put-cause-requires-2
+put-cause-requires-2 : tie.Need-put_cause-requires-2
 put-cause-requires-2 c κs =
     let placed = c.before.before.before in
     let a = placed.before.before.before.before.args in
-    room_after placed.put-sheet-place.ensures (cause a.number ++ (10 ∷ [])) (omega (
+    room_after placed.put_sheet_place-at.ensures (cause a.number ++ (10 ∷ [])) (omega (
       arith,
-      ap length (of_one a.sheet a.number a.line placed.before.before.if1.false),
+      ap length (of_one a.sheet a.number a.line placed.before.before.if-sheet-eq0.false),
       words_of_sheets_are_short a.sheet a.number a.line (omega arith) (omega arith),
     ))
 
-returns-2 : tie.Need-returns-2
+returns-2 : tie.Need-returns
 returns-2 c =
     let put = c.before.before in
     let placed = put.before.before.before.before in
     let a = placed.before.before.before.before.args in
-    rw (of_one a.sheet a.number a.line placed.before.before.if1.false) (then placed.put-sheet-place.ensures put.put-cause2.ensures)
+    rw (of_one a.sheet a.number a.line placed.before.before.if-sheet-eq0.false) (then placed.put_sheet_place-at.ensures put.put_cause-2.ensures)
 
-pub write-words-of-sheets-spec : {M : Type 1} → statement M
-write-words-of-sheets-spec =
+pub write_words_of_sheets_spec : {M : Type 1} → statement M
+write_words_of_sheets_spec =
     tie.close
     (tie.spec
     put-cause-requires

@@ -12,71 +12,71 @@ use borrow.Author.Rules.{rules}
 use Rattle.sheet_kinds.proofs.link.Statement.{statement}
 use Rattle.sheet_kinds.proofs.link.Tie as tie
 
-link-form-requires : tie.Need-link-form-requires
+link-form-requires : tie.Need-link_form-requires
 link-form-requires c κs = search rules
 
-check-line-requires : tie.Need-check-line-requires
+check-line-requires : tie.Need-check_line-requires
 check-line-requires c κs =
     let s = c.before.before in
-    (s.requires, rw c.link_form_lem.ensures (record { least = omega (arith, some_numbers s.args.edition.sizing); most = omega arith }))
+    (s.requires, rw c.link_form.ensures (record { least = omega (arith, some_numbers s.args.edition.sizing); most = omega arith }))
 
-fault-requires : tie.Need-fault-requires
+fault-requires : tie.Need-fault-fault-requires
 fault-requires c κs = search rules
 
 -- the number of the fault, and the line where there is none
-fault-is : (c : tie.After-fault) → let a = c.before.before.before.before.args in
-    c.fault.result ≡ fault_of (checked (link_form a.edition.sizing) (fields a.line.now))
-fault-is c = c.fault.ensures ∙ ap fault_of (rw c.before.before.link_form_lem.ensures at c.before.check-line.ensures)
+fault-is : (c : tie.After-fault-fault) → let a = c.before.before.before.before.args in
+    c.fault-fault.result ≡ fault_of (checked (link_form a.edition.sizing) (fields a.line.now))
+fault-is c = c.fault-fault.ensures ∙ ap fault_of (rw c.before.before.link_form.ensures at c.before.check_line.ensures)
 
-is-link : (c : tie.Else1) → let a = c.before.before.before.before.before.args in
+is-link : (c : tie.Else-fault-ne0) → let a = c.before.before.before.before.before.args in
     IsLink a.edition.sizing (fields a.line.now) × (link_line a.edition (fields a.line.now) ≡ sized_link a.edition (fields a.line.now))
 unfolding link_line
-is-link c = judged_right _ _ _ (fault-is c.before) c.if1.false
+is-link c = judged_right _ _ _ (fault-is c.before) c.if-fault-ne0.false
 
-returns : tie.Need-returns
+returns : tie.Need-returns-then-fault-ne0
 unfolding link_line
-returns c = sym (judged_wrong _ _ _ (fault-is c.before) c.if1.true)
+returns c = sym (judged_wrong _ _ _ (fault-is c.before) c.if-fault-ne0.true)
 
-usable-requires : tie.Need-usable-requires
+usable-requires : tie.Need-usable-capacity-requires
 usable-requires c κs = (c.before.before.before.before.before.requires, (is-link c).0)
 
 -- the line, by what its capacity was found to be
-line-is : (c : tie.After-usable) → let a = c.before.before.before.before.before.before.args in let fs = fields a.line.now in
-    link_line a.edition fs ≡ link_of (length (field fs 1)) (length (field fs 2)) c.usable.result
+line-is : (c : tie.After-usable-capacity) → let a = c.before.before.before.before.before.before.args in let fs = fields a.line.now in
+    link_line a.edition fs ≡ link_of (length (field fs 1)) (length (field fs 2)) c.usable-capacity.result
 unfolding sized_link
-line-is c = (is-link c.before).1 ∙ rw c.usable.ensures
+line-is c = (is-link c.before).1 ∙ rw c.usable-capacity.ensures
 
-enum-known-capacity : tie.Need-enum-known-capacity
+enum-known-capacity : tie.Need-enum_known-capacity
 enum-known-capacity c = search rules
 
-enum-known-capacity-2 : tie.Need-enum-known-capacity-2
+enum-known-capacity-2 : tie.Need-enum_known-capacity-in-Usable-1
 enum-known-capacity-2 c = search rules
 
-element-copy-out-end : tie.Need-element-copy-out-end
+element-copy-out-end : tie.Need-bounds-found-1
 element-copy-out-end c = search rules
 
-add-t18 : tie.Need-overflow-add-t18
+add-t18 : tie.Need-overflow_add-result
 add-t18 c =
-    let s = c.before.before.before.before.before.before.before.before.before.before in
-    omega (arith, link-ends s.args.line.now s.args.t2 s.requires s.args.edition.sizing (is-link c.before.before.before.before.before).0)
+    let s = c.before.before.before.before.before.before.before.before in
+    omega (arith, link-ends s.args.line.now s.args.found s.requires s.args.edition.sizing (is-link c.before.before.before).0)
 
-element-copy-out-t21 : tie.Need-element-copy-out-t21
+element-copy-out-t21 : tie.Need-bounds-found-2
 element-copy-out-t21 c = search rules
 
-returns-2 : tie.Need-returns-2
-returns-2 c = sym (rw c.before.capacity.given.1 at (line-is c.before.before.before))
+returns-2 : tie.Need-returns-in-Faulty
+returns-2 c = sym (rw c.in-Faulty.is at (line-is c.before))
 
-returns-3 : tie.Need-returns-3
+returns-3 : tie.Need-returns-in-Usable
 returns-3 c =
-    let s = c.before.before.before.before.before.before.before.before.before.before.before in
-    let ends = link-ends s.args.line.now s.args.t2 s.requires s.args.edition.sizing (is-link
-    c.before.before.before.before.before.before).0 in
+    let s = c.before.before.before.before.before.before.before.before.before in
+    let ends = link-ends s.args.line.now s.args.found s.requires s.args.edition.sizing (is-link
+    c.before.before.before.before).0 in
     let one = length (field (fields s.args.line.now) 1) in
     let next : 2 + one + 1 ≡ 3 + one = omega arith in
-    rw (ends.0, ends.1, next) (sym (rw c.before.before.before.capacity2.given.1 at (line-is c.before.before.before.before.before)))
+    rw (ends.0, ends.1, next) (sym (rw c.before.before.in-Usable.is at (line-is c.before.before.before)))
 
-pub link-spec : {M : Type 1} → statement M
-link-spec =
+pub link_spec : {M : Type 1} → statement M
+link_spec =
     tie.close
     (tie.spec
     link-form-requires

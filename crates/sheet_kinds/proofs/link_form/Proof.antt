@@ -4,7 +4,7 @@ use Rattle.sheet_kinds.proofs.link_form.Statement.{statement}
 use Rattle.sheet_kinds.proofs.link_form.Tie as tie
 
 returns : tie.Need-returns
-returns c = rw c.least-numbers.ensures
+returns c = rw c.least_numbers.ensures
 
-pub link-form-spec : {M : Type 1} → statement M
-link-form-spec = tie.close (tie.spec (λ c κs. search rules) returns)
+pub link_form_spec : {M : Type 1} → statement M
+link_form_spec = tie.close (tie.spec (λ c κs. search rules) returns)

@@ -8,7 +8,7 @@ use borrow.Author.Rules.{rules}
 use Rattle.sheet_kinds.proofs.second.Statement.{statement}
 use Rattle.sheet_kinds.proofs.second.Tie as tie
 
-returns : tie.Need-returns
+returns : tie.Need-returns-then-found-lt5
 returns c =
     let s = c.before.before.before in
     sym (no_reserve s.args.most (fields s.args.line.now) (omega (arith, count_of_split s.args.line.now s.args.found s.requires)))
@@ -16,11 +16,11 @@ returns c =
 field-requires : tie.Need-field-requires
 field-requires c κs = search rules
 
-size-of-requires : tie.Need-size-of-requires
+size-of-requires : tie.Need-size_of-requires
 size-of-requires c κs = search rules
 
-returns-2 : tie.Need-returns-2
-returns-2 c = rw c.before.field.ensures at c.type_size.ensures
+returns-2 : tie.Need-returns
+returns-2 c = rw c.before.field.ensures at c.size_of.ensures
 
 pub second_spec : {M : Type 1} → statement M
 second_spec = tie.close (tie.spec returns field-requires size-of-requires returns-2)

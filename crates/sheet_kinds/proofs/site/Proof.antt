@@ -11,33 +11,33 @@ use borrow.Author.Rules.{rules}
 use Rattle.sheet_kinds.proofs.site.Statement.{statement}
 use Rattle.sheet_kinds.proofs.site.Tie as tie
 
-site-form-requires : tie.Need-site-form-requires
+site-form-requires : tie.Need-site_form-form-requires
 site-form-requires c κs = search rules
 
-check-line-requires : tie.Need-check-line-requires
-check-line-requires c κs = (c.before.before.requires, rw c.site-form.ensures (record { least = omega arith; most = omega arith }))
+check-line-requires : tie.Need-check_line-requires
+check-line-requires c κs = (c.before.before.requires, rw c.site_form-form.ensures (record { least = omega arith; most = omega arith }))
 
-fault-requires : tie.Need-fault-requires
+fault-requires : tie.Need-fault-fault-requires
 fault-requires c κs = search rules
 
 -- the number of the fault
-fault-is : (c : tie.After-fault) → let a = c.before.before.before.before.args in
-    c.fault.result ≡ fault_of (checked (site_form a.letter) (fields a.line.now))
-fault-is c = c.fault.ensures ∙ ap fault_of (rw c.before.before.site-form.ensures at c.before.check-line.ensures)
+fault-is : (c : tie.After-fault-fault) → let a = c.before.before.before.before.args in
+    c.fault-fault.result ≡ fault_of (checked (site_form a.letter) (fields a.line.now))
+fault-is c = c.fault-fault.ensures ∙ ap fault_of (rw c.before.before.site_form-form.ensures at c.before.check_line.ensures)
 
-returns : tie.Need-returns
+returns : tie.Need-returns-then-fault-ne0
 unfolding site_line
-returns c = sym (judged_wrong _ _ _ (fault-is c.before) c.if1.true)
+returns c = sym (judged_wrong _ _ _ (fault-is c.before) c.if-fault-ne0.true)
 
-returns-2 : tie.Need-returns-2
+returns-2 : tie.Need-returns
 unfolding site_line
 returns-2 c =
     let s = c.before.before.before.before.before.before in
-    let right = judged_right _ _ _ (fault-is c.before.before) c.before.if1.false in
-    ap (λ e. Site 2 e s.args.mark) (site-end s.args.line.now s.args.t2 s.requires s.args.letter right.0) ∙ sym right.1
+    let right = judged_right _ _ _ (fault-is c.before.before) c.before.if-fault-ne0.false in
+    ap (λ e. Site 2 e s.args.mark) (site-end s.args.line.now s.args.found s.requires s.args.letter right.0) ∙ sym right.1
 
-pub site-spec : {M : Type 1} → statement M
-site-spec =
+pub site_spec : {M : Type 1} → statement M
+site_spec =
     tie.close
     (tie.spec
     site-form-requires

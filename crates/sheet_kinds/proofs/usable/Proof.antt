@@ -20,20 +20,20 @@ field-requires c κs =
       ),
     )
 
-size-of-requires : tie.Need-size-of-requires
+size-of-requires : tie.Need-size_of-first-requires
 size-of-requires c κs = search rules
 
 second-requires : tie.Need-second-requires
 second-requires c κs = search rules
 
-capacity-of-requires : tie.Need-capacity-of-requires
+capacity-of-requires : tie.Need-capacity_of-requires
 capacity-of-requires c κs = search rules
 
 returns : tie.Need-returns
 returns c =
-    rw (rw c.before.before.before.field.ensures at c.before.before.type_size.ensures, c.before.second.ensures) at c.capacity-of.ensures
+    rw (rw c.before.before.before.field.ensures at c.before.before.size_of-first.ensures, c.before.second.ensures) at c.capacity_of.ensures
 
-pub usable-spec : {M : Type 1} → statement M
-usable-spec =
+pub usable_spec : {M : Type 1} → statement M
+usable_spec =
     tie.close
     (tie.spec field-requires size-of-requires second-requires capacity-of-requires returns)

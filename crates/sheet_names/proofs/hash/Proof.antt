@@ -7,13 +7,13 @@ use Rattle.sheet_names.specs.Names.{hash}
 use Rattle.sheet_names.proofs.hash.Statement.{statement}
 use Rattle.sheet_names.proofs.hash.Tie as tie
 
-returns : tie.Need-returns
+returns : tie.Need-returns-then-name-lt8
 unfolding hash
-returns c = rw (lt-ltb _ _ c.before.if1.true) c.hash-bytes.ensures
+returns c = rw (lt-ltb _ _ c.before.if-name-lt8.true) c.hash_bytes.ensures
 
-returns-2 : tie.Need-returns-2
+returns-2 : tie.Need-returns
 unfolding hash
-returns-2 c = rw (le-ltb _ _ c.before.if1.false, c.last_word.ensures)
+returns-2 c = rw (le-ltb _ _ c.before.if-name-lt8.false, c.last_word.ensures)
 
-pub hash-spec : {M : Type 1} → statement M
-hash-spec = tie.close (tie.spec (λ c κs. search rules) returns (λ c κs. search rules) returns-2)
+pub hash_spec : {M : Type 1} → statement M
+hash_spec = tie.close (tie.spec (λ c κs. search rules) returns (λ c κs. search rules) returns-2)

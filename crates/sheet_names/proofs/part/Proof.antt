@@ -9,32 +9,32 @@ use Rattle.sheet_names.specs.Lists.{part_on_sheet}
 use Rattle.sheet_names.proofs.part.Statement.{statement}
 use Rattle.sheet_names.proofs.part.Tie as tie
 
-returns : tie.Need-returns
+returns : tie.Need-returns-then-stop-start
 returns c =
     let a = c.before.before.before.before.args in
-    let stop = c.before.before.lesser in
-    let none : min a.end (length a.sheet.now) - a.start ≡ 0 = omega (arith, stop.ensures, c.before.if1.true) in
+    let stop = c.before.before.lesser-stop in
+    let none : min a.end (length a.sheet.now) - a.start ≡ 0 = omega (arith, stop.ensures, c.before.if-stop-start.true) in
     let same : stop.result + a.sheet.ref_ptr.1 ≡ a.sheet.ref_ptr.1 + part_start a.sheet.now (a.start, a.end)
-    = omega (arith, stop.ensures, c.before.if1.true) in
+    = omega (arith, stop.ensures, c.before.if-stop-start.true) in
     let empty : stop.result - stop.result ≡ 0 = omega arith in
     record {
       bytes = rw empty (sym (part_on_sheet a.sheet.now a.start a.end ∙ rw none));
-      place = ap (λ (o : ℕ). (a.sheet.ptr.0, o)) same;
+      place = ap (λ (o : ℕ). (a.sheet.ref_ptr.0, o)) same;
     }
 
-returns-2 : tie.Need-returns-2
+returns-2 : tie.Need-returns
 returns-2 c =
     let a = c.before.before.before.before.args in
-    let stop = c.before.before.lesser in
+    let stop = c.before.before.lesser-stop in
     let same : a.start + a.sheet.ref_ptr.1 ≡ a.sheet.ref_ptr.1 + part_start a.sheet.now (a.start, a.end)
-    = omega (arith, stop.ensures, c.before.if1.false) in
+    = omega (arith, stop.ensures, c.before.if-stop-start.false) in
     record {
       bytes = rw stop.ensures (sym (part_on_sheet a.sheet.now a.start a.end));
-      place = ap (λ (o : ℕ). (a.sheet.ptr.0, o)) same;
+      place = ap (λ (o : ℕ). (a.sheet.ref_ptr.0, o)) same;
     }
 
-pub part-spec : {M : Type 1} → statement M
-part-spec =
+pub part_spec : {M : Type 1} → statement M
+part_spec =
     tie.close
     (tie.spec
     (λ c κs. search rules)

@@ -6,17 +6,17 @@ use Rattle.sheet_scan.specs.ScanLaws.{above_is_no_digit}
 use Rattle.sheet_scan.proofs.has_letter.Statement.{statement}
 use Rattle.sheet_scan.proofs.has_letter.Tie as tie
 
-abbrev invariant-loop : tie.invariant-loop
+abbrev invariant-loop : tie.invariant-loop-i
 invariant-loop sheet from end i₀ i = from ≤ i
 
-abbrev decreases-loop : tie.decreases-loop
+abbrev decreases-loop : tie.decreases-loop-i
 decreases-loop sheet from end i₀ i = end - i
 
-returns : tie.Need-returns invariant-loop decreases-loop
-returns c = λ e. let l = c.before.before.before.loop in (l.i, l.invariant, omega arith, above_is_no_digit _ c.if1.true)
+returns : tie.Need-returns-then-sheet-i-gt57 invariant-loop decreases-loop
+returns c = λ e. let l = c.before.before.before.loop-i in (l.i, l.invariant, omega arith, above_is_no_digit _ c.if-sheet-i-gt57.true)
 
-pub has-letter-spec : {M : Type 1} → statement M
-has-letter-spec =
+pub has_letter_spec : {M : Type 1} → statement M
+has_letter_spec =
     tie.close
     (tie.spec
     invariant-loop

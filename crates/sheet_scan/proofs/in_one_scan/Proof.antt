@@ -3,8 +3,8 @@ use borrow.Author.Rules.{rules}
 use Rattle.sheet_scan.proofs.in_one_scan.Statement.{statement}
 use Rattle.sheet_scan.proofs.in_one_scan.Tie as tie
 
-pub in-one-scan-spec : {M : Type 1} → statement M
-in-one-scan-spec =
+pub in_one_scan_spec : {M : Type 1} → statement M
+in_one_scan_spec =
     tie.close
     (tie.spec
     (λ c. search rules)

@@ -8,24 +8,24 @@ use Rattle.sheet_scan.proofs.number_at.Statement.{statement}
 use Rattle.sheet_scan.proofs.number_at.Tie as tie
 
 -- the digits that are there
-digits-here : (c : tie.After-known-told) → let k = c.before in let a = k.before.before.before.before.before.args in
-    DigitsAt a.sheet.now a.from k.digits.given.0.0 k.digits.given.0.1.0
+digits-here : (c : tie.In-Till) → let k = c in let a = k.before.before.before.before.args in
+    DigitsAt a.sheet.now a.from k.in-Till.end k.in-Till.value
 digits-here c =
-    let k = c.before in
-    let a = k.before.before.before.before.before.args in
-    subst (DigitsFound a.sheet.now a.from) k.digits.given.1 k.before.before.digits-at.ensures
+    let k = c in
+    let a = k.before.before.before.before.args in
+    subst (DigitsFound a.sheet.now a.from) k.in-Till.is k.before.digits_at-digits.ensures
 
-returns-5 : tie.Need-returns-5
+returns-5 : tie.Need-returns-then-end-from-2
 returns-5 c =
-    digits_are_a_number _ _ _ _ _ (digits-here c.before.before.before) c.before.before.if2.false c.before.if3.false (inl c.if4.true)
+    digits_are_a_number _ _ _ _ _ (digits-here c.before.before.before) c.before.before.if-end-from.false c.before.if-value-most.false (inl c.if-end-from-2.true)
 
-returns-7 : tie.Need-returns-7
+returns-7 : tie.Need-returns
 returns-7 c =
     let few = c.before.before.before in
-    digits_are_a_number _ _ _ _ _ (digits-here few.before.before) few.before.if2.false few.if3.false (inr c.if5.false)
+    digits_are_a_number _ _ _ _ _ (digits-here few.before.before) few.before.if-end-from.false few.if-value-most.false (inr c.if-sheet-from-eq48.false)
 
-pub number-at-spec : {M : Type 1} → statement M
-number-at-spec =
+pub number_at_spec : {M : Type 1} → statement M
+number_at_spec =
     tie.close
     (tie.spec
     (λ c. search rules)

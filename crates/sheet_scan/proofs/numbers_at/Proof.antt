@@ -9,40 +9,40 @@ use Rattle.sheet_scan.proofs.numbers_at.Statement.{statement}
 use Rattle.sheet_scan.proofs.numbers_at.Tie as tie
 
 -- the numbers that are there
-first-here : (c : tie.After-known-told) → let k = c.before in let a = k.before.before.before.before.args in
-    NumberAt a.sheet.now a.from k.first.given.0.0 k.first.given.0.1.0 a.edition.size
+first-here : (c : tie.In-Till) → let k = c in let a = k.before.before.before.args in
+    NumberAt a.sheet.now a.from k.in-Till.end k.in-Till.value a.edition.size
 first-here c =
-    let k = c.before in
-    let a = k.before.before.before.before.args in
-    subst (NumberFound a.sheet.now a.from a.edition.size) k.first.given.1 k.before.before.number_at.ensures
+    let k = c in
+    let a = k.before.before.before.args in
+    subst (NumberFound a.sheet.now a.from a.edition.size) k.in-Till.is k.before.number_at-first.ensures
 
-abbrev one : tie.After-known-told2 → tie.After-known-told
-one c = c.before.before.before.before.before.before.before.before
+abbrev one : tie.In-Till-second → tie.In-Till
+one c = c.before.before.before.before.before.before
 
-second-here : (c : tie.After-known-told2) → let k = c.before in let m = (one c).before in let a = m.before.before.before.before.args in
-    NumberAt a.sheet.now (m.first.given.0.0 + 1) k.second.given.0.0 k.second.given.0.1.0 a.edition.size
+second-here : (c : tie.In-Till-second) → let k = c in let m = one c in let a = m.before.before.before.args in
+    NumberAt a.sheet.now (m.in-Till.end + 1) k.in-Till-second.last k.in-Till-second.other a.edition.size
 second-here c =
-    let k = c.before in
-    let m = (one c).before in
-    let a = m.before.before.before.before.args in
-    subst (NumberFound a.sheet.now (m.first.given.0.0 + 1) a.edition.size) k.second.given.1 k.before.before.number-at2.ensures
+    let k = c in
+    let m = one c in
+    let a = m.before.before.before.args in
+    subst (NumberFound a.sheet.now (m.in-Till.end + 1) a.edition.size) k.in-Till-second.is k.before.number_at-second.ensures
 
-returns-2 : tie.Need-returns-2
+returns-2 : tie.Need-returns-then-sheet-end-eq10
 returns-2 c =
     let told = c.before.before.before in
-    let a = told.before.before.before.before.before.args in
+    let a = told.before.before.before.args in
     subst (NumbersFound a.edition a.sheet.now a.from) (sym c.one_number.ensures)
-    (one_is_found a.edition a.sheet.now a.from _ _ (first-here told) a.edition.sizing refl c.before.if1.true)
+    (one_is_found a.edition a.sheet.now a.from _ _ (first-here told) a.edition.sizing refl c.before.if-sheet-end-eq10.true)
 
-returns-6 : tie.Need-returns-6
+returns-6 : tie.Need-returns
 returns-6 c =
     let told = c.before.before in
-    let a = (one told).before.before.before.before.before.args in
-    two_are_found a.edition a.sheet.now a.from _ _ (first-here (one told)) _ _ told.before.before.before.before.if2.false (second-here told)
-    c.if3.false
+    let a = (one told).before.before.before.args in
+    two_are_found a.edition a.sheet.now a.from _ _ (first-here (one told)) _ _ told.before.before.if-sheet-end-ne9.false (second-here told)
+    c.if-sheet-last-ne10.false
 
-pub numbers-at-spec : {M : Type 1} → statement M
-numbers-at-spec =
+pub numbers_at_spec : {M : Type 1} → statement M
+numbers_at_spec =
     tie.close
     (tie.spec
     (λ c κs. search rules)

@@ -3,13 +3,13 @@ use borrow.Author.Rules.{rules}
 use Rattle.sheet_scan.proofs.one_number.Statement.{statement}
 use Rattle.sheet_scan.proofs.one_number.Tie as tie
 
-pub one-number-spec : {M : Type 1} → statement M
-one-number-spec =
+pub one_number_spec : {M : Type 1} → statement M
+one_number_spec =
     tie.close
     (tie.spec
     (λ c. search rules)
     (λ c. search rules)
     (λ c. search rules)
-    (λ c. rw c.enum_told.given.1)
+    (λ c. rw c.in-Reserved.is)
     (λ c. search rules)
     (λ c. search rules))

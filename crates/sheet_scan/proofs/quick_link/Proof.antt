@@ -9,29 +9,29 @@ use Rattle.sheet_scan.proofs.quick_link.Statement.{statement}
 use Rattle.sheet_scan.proofs.quick_link.Tie as tie
 
 -- the names that are there
-one-here : (c : tie.Else1) → let a = c.before.before.before.args in NameAt a.sheet.now (a.at + 2) c.before.name-end.result 9
-one-here c = c.before.name-end.ensures c.if1.false
+one-here : (c : tie.Else-end-one) → let a = c.before.before.before.args in NameAt a.sheet.now (a.at + 2) c.before.name_end-end.result 9
+one-here c = c.before.name_end-end.ensures c.if-end-one.false
 
-two_here : (c : tie.Else2) → let one = c.before.before.before in
-    NameAt one.before.before.args.sheet.now (one.name-end.result + 1) c.before.name-end2.result 9
-two_here c = c.before.name-end2.ensures c.if2.false
+two_here : (c : tie.Else-end2-two) → let one = c.before.before.before in
+    NameAt one.before.before.args.sheet.now (one.name_end-end.result + 1) c.before.name_end-end2.result 9
+two_here c = c.before.name_end-end2.ensures c.if-end2-two.false
 
-returns-5 : tie.Need-returns-5
+returns-5 : tie.Need-returns
 returns-5 c =
-    let k = c.before.before.before.before.before in
-    let two = k.before.before.before in
+    let k = c.before.before in
+    let two = k.before.before in
     let one = two.before.before in
     let start = one.before.before.before in
     let ed = start.args.edition in
     let s = start.args.sheet.now in
-    let end = one.before.name-end.result in
-    let end2 = two.before.name-end2.result in
-    a_link_is_found ed s start.args.at end end2 _ _ _ _ start.requires one.if1.false (one-here one) two.if2.false (two_here two)
-    (subst (NumbersFound ed s (end2 + 1)) k.numbers.given.1 k.before.before.numbers-at.ensures)
-    (sym c.before.before.before.paired.ensures ∙ c.before.capacity.given.1)
+    let end = one.before.name_end-end.result in
+    let end2 = two.before.name_end-end2.result in
+    a_link_is_found ed s start.args.at end end2 _ _ _ _ start.requires one.if-end-one.false (one-here one) two.if-end2-two.false (two_here two)
+    (subst (NumbersFound ed s (end2 + 1)) k.in-Till.is k.before.numbers_at-numbers.ensures)
+    (sym c.before.paired-capacity.ensures ∙ c.in-Usable.is)
 
-pub quick-link-spec : {M : Type 1} → statement M
-quick-link-spec =
+pub quick_link_spec : {M : Type 1} → statement M
+quick_link_spec =
     tie.close
     (tie.spec
     (λ c. search rules)

@@ -4,11 +4,11 @@ use borrow.Author.Rules.{rules}
 use Rattle.sheet_scan.proofs.quick_site.Statement.{statement}
 use Rattle.sheet_scan.proofs.quick_site.Tie as tie
 
-returns-2 : tie.Need-returns-2
+returns-2 : tie.Need-returns
 returns-2 c =
     let start = c.before.before.before in
-    a_site_is_found start.args.edition start.args.sheet.now start.args.at c.before.name-end.result start.args.mark start.requires.1
-    start.requires.0 c.if1.false (c.before.name-end.ensures c.if1.false)
+    a_site_is_found start.args.edition start.args.sheet.now start.args.at c.before.name_end-end.result start.args.mark start.requires.1
+    start.requires.0 c.if-end-start.false (c.before.name_end-end.ensures c.if-end-start.false)
 
-pub quick-site-spec : {M : Type 1} → statement M
-quick-site-spec = tie.close (tie.spec (λ c. search rules) (λ c κs. search rules) (λ c. tt) (λ c. search rules) returns-2)
+pub quick_site_spec : {M : Type 1} → statement M
+quick_site_spec = tie.close (tie.spec (λ c. search rules) (λ c κs. search rules) (λ c. tt) (λ c. search rules) returns-2)

@@ -8,18 +8,18 @@ use Rattle.sheet_scan.proofs.scan.Statement.{statement}
 use Rattle.sheet_scan.proofs.scan.Tie as tie
 
 -- the line that is found
-found : (c : tie.After-known-told) → let k = c.before in let a = k.before.before.before.before.args in
-    LineIs a.edition a.sheet.now a.at k.found.given.0.0 k.found.given.0.1.0
+found : (c : tie.In-Sure) → let k = c in let a = k.before.before.before.args in
+    LineIs a.edition a.sheet.now a.at k.in-Sure.line k.in-Sure.end
 found c =
-    let k = c.before in
-    let a = k.before.before.before.before.args in
-    subst (QuickFound a.edition a.sheet.now a.at) k.found.given.1 k.before.before.in-one-scan.ensures
+    let k = c in
+    let a = k.before.before.before.args in
+    subst (QuickFound a.edition a.sheet.now a.at) k.in-Sure.is k.before.in_one_scan-found.ensures
 
-returns-2 : tie.Need-returns-2
-returns-2 c = let a = c.before.before.before.before.before.args in a_found_line_is_scanned a.edition a.sheet.now a.at _ _ (found c)
+returns-2 : tie.Need-returns-in-Sure
+returns-2 c = let a = c.before.before.before.args in a_found_line_is_scanned a.edition a.sheet.now a.at _ _ (found c)
 
-pub scan-spec : {M : Type 1} → statement M
-scan-spec =
+pub scan_spec : {M : Type 1} → statement M
+scan_spec =
     tie.close
     (tie.spec
     (λ c κs. search rules)

@@ -3,11 +3,11 @@ use borrow.Author.Tests.{le-leb, lt-leb}
 use Rattle.sheet_sizes.proofs.less_reserve.Statement.{statement}
 use Rattle.sheet_sizes.proofs.less_reserve.Tie as tie
 
-returns : tie.Need-returns
-returns c = rw (lt-leb _ _ c.if1.true)
+returns : tie.Need-returns-then-reserve-size
+returns c = rw (lt-leb _ _ c.if-reserve-size.true)
 
-returns-2 : tie.Need-returns-2
-returns-2 c = rw (le-leb _ _ c.if1.false)
+returns-2 : tie.Need-returns
+returns-2 c = rw (le-leb _ _ c.if-reserve-size.false)
 
-pub less-reserve-spec : {M : Type 1} → statement M
-less-reserve-spec = tie.close (tie.spec returns returns-2)
+pub less_reserve_spec : {M : Type 1} → statement M
+less_reserve_spec = tie.close (tie.spec returns returns-2)

@@ -3,11 +3,11 @@ use borrow.Author.Tests.{le-leb, lt-leb}
 use Rattle.sheet_sizes.proofs.of_range.Statement.{statement}
 use Rattle.sheet_sizes.proofs.of_range.Tie as tie
 
-returns : tie.Need-returns
-returns c = rw (lt-leb _ _ c.if1.true)
+returns : tie.Need-returns-then-low-high
+returns c = rw (lt-leb _ _ c.if-low-high.true)
 
-returns-2 : tie.Need-returns-2
-returns-2 c = rw (le-leb _ _ c.if1.false)
+returns-2 : tie.Need-returns
+returns-2 c = rw (le-leb _ _ c.if-low-high.false)
 
-pub of-range-spec : {M : Type 1} → statement M
-of-range-spec = tie.close (tie.spec returns returns-2)
+pub of_range_spec : {M : Type 1} → statement M
+of_range_spec = tie.close (tie.spec returns returns-2)

@@ -8,16 +8,16 @@ use Rattle.text_fields.specs.FieldLaws.{both}
 use Rattle.text_fields.proofs.capital.Statement.{statement}
 use Rattle.text_fields.proofs.capital.Tie as tie
 
-sub-result : tie.Need-overflow-sub-result
+sub-result : tie.Need-overflow_sub-result
 sub-result c =
     let b = c.before.before.args.b in
-    omega (arith, leb-true 97 b (both (leb 97 b) (leb b 122) (sym c.before.between.ensures ∙ c.if1.true)).0)
+    omega (arith, leb-true 97 b (both (leb 97 b) (leb b 122) (sym c.before.between.ensures ∙ c.if-between.true)).0)
 
-returns : tie.Need-returns
-returns c = rw (sym c.before.between.ensures ∙ c.if1.true)
+returns : tie.Need-returns-then-between
+returns c = rw (sym c.before.between.ensures ∙ c.if-between.true)
 
-returns-2 : tie.Need-returns-2
-returns-2 c = rw (sym c.before.between.ensures ∙ c.if1.false)
+returns-2 : tie.Need-returns-else-between
+returns-2 c = rw (sym c.before.between.ensures ∙ c.if-between.false)
 
-pub capital-spec : {M : Type 1} → statement M
-capital-spec = tie.close (tie.spec (λ c κs. search rules) sub-result returns returns-2)
+pub capital_spec : {M : Type 1} → statement M
+capital_spec = tie.close (tie.spec (λ c κs. search rules) sub-result returns returns-2)

@@ -11,5 +11,5 @@ returns c =
     let w = c.word.ensures in
     ap (λ x. bit_and x 16131858542891098079) w.value ∙ word-without _ _ w.bytes
 
-pub caseless-word-spec : {M : Type 1} → statement M
-caseless-word-spec = tie.close (tie.spec (λ c κs. search rules) returns)
+pub caseless_word_spec : {M : Type 1} → statement M
+caseless_word_spec = tie.close (tie.spec (λ c κs. search rules) returns)

@@ -10,46 +10,46 @@ use borrow.Author.Rules.{rules}
 use Rattle.text_fields.proofs.digits_alone.Statement.{statement}
 use Rattle.text_fields.proofs.digits_alone.Tie as tie
 
-abbrev invariant-loop : tie.invariant-loop
+abbrev invariant-loop : tie.invariant-loop-i
 invariant-loop s i₀ i = (i ≤ length s) × (all is_digit s ≡ all is_digit (drop i s))
 
-abbrev decreases-loop : tie.decreases-loop
+abbrev decreases-loop : tie.decreases-loop-i
 decreases-loop s i₀ i = length s - i
 
-loop-holds : tie.Need-loop-init invariant-loop decreases-loop
+loop-holds : tie.Need-loop-i-init invariant-loop decreases-loop
 loop-holds c = (omega arith, refl)
 
-shared-slice-read-is-digit : tie.Need-shared-slice-read-is-digit invariant-loop decreases-loop
+shared-slice-read-is-digit : tie.Need-bounds-s-i invariant-loop decreases-loop
 shared-slice-read-is-digit c = omega arith
 
-is-digit-requires : tie.Need-is-digit-requires invariant-loop decreases-loop
+is-digit-requires : tie.Need-is_digit-requires invariant-loop decreases-loop
 is-digit-requires c κs = search rules
 
-returns : tie.Need-returns invariant-loop decreases-loop
+returns : tie.Need-returns-then-not-is_digit invariant-loop decreases-loop
 returns c =
     let s = c.before.before.before.before.before.before.args.s.now in
-    let l = c.before.before.before.before.loop in
-    rw (l.invariant.1, all_step is_digit s l.i (omega arith), sym c.before.is_digit.ensures ∙ not-true _ c.if1.true)
+    let l = c.before.before.before.before.loop-i in
+    rw (l.invariant.1, all_step is_digit s l.i (omega arith), sym c.before.is_digit.ensures ∙ c.if-not-is_digit.true)
 
-add-i : tie.Need-overflow-add-i invariant-loop decreases-loop
+add-i : tie.Need-overflow_add-i invariant-loop decreases-loop
 add-i c = omega arith
 
-loop-less : tie.Need-loop-smaller invariant-loop decreases-loop
+loop-less : tie.Need-loop-i-smaller invariant-loop decreases-loop
 loop-less c = omega arith
 
-loop-again : tie.Need-loop-preserved invariant-loop decreases-loop
+loop-again : tie.Need-loop-i-preserved invariant-loop decreases-loop
 loop-again c =
     let s = c.before.before.before.before.before.before.args.s.now in
-    let l = c.before.before.before.before.loop in
-    (omega arith, l.invariant.1 ∙ rw (all_step is_digit s l.i (omega arith), sym c.before.is_digit.ensures ∙ not-false _ c.if1.false))
+    let l = c.before.before.before.before.loop-i in
+    (omega arith, l.invariant.1 ∙ rw (all_step is_digit s l.i (omega arith), sym c.before.is_digit.ensures ∙ c.if-not-is_digit.false))
 
-returns-2 : tie.Need-returns-2 invariant-loop decreases-loop
+returns-2 : tie.Need-returns invariant-loop decreases-loop
 unfolding all
 returns-2 c =
-    rw (c.before.loop.invariant.1, drop_of_length-le c.before.before.before.args.s.now {i = c.before.loop.i} (omega arith))
+    rw (c.before.loop-i.invariant.1, drop_of_length-le c.before.before.before.args.s.now {i = c.before.loop-i.i} (omega arith))
 
-pub digits-alone-spec : {M : Type 1} → statement M
-digits-alone-spec =
+pub digits_alone_spec : {M : Type 1} → statement M
+digits_alone_spec =
     tie.close
     (tie.spec
     invariant-loop

@@ -7,10 +7,10 @@ use Rattle.text_fields.proofs.half_word.Tie as tie
 
 returns : tie.Need-returns
 unfolding half_word
-returns c = record { value = omega arith; below = omega arith; bytes = λ k. omega (arith, c.before.shared-slice-known5.given k) }
+returns c = record { value = omega arith; below = omega arith; bytes = λ k. omega (arith, c.before.shared_slice_known-5-1.given k) }
 
-pub half-word-spec : {M : Type 1} → statement M
-half-word-spec =
+pub half_word_spec : {M : Type 1} → statement M
+half_word_spec =
     tie.close
     (tie.spec
     (λ c. search rules)

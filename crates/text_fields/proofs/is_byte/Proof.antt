@@ -7,14 +7,14 @@ use borrow.Author.Rules.{rules}
 use Rattle.text_fields.proofs.is_byte.Statement.{statement}
 use Rattle.text_fields.proofs.is_byte.Tie as tie
 
-returns : tie.Need-returns
-returns c = sym (not_same _ _ (λ e. c.if1.true (ap length e)))
+returns : tie.Need-returns-then-field-ne1
+returns c = sym (not_same _ _ (λ e. c.if-field-ne1.true (ap length e)))
 
-shared-slice-read-result : tie.Need-shared-slice-read-result
+shared-slice-read-result : tie.Need-bounds-field-0
 shared-slice-read-result c = search rules
 
-returns-2 : tie.Need-returns-2
+returns-2 : tie.Need-returns
 returns-2 c = sym (same-one _ _ (omega arith))
 
-pub is-byte-spec : {M : Type 1} → statement M
-is-byte-spec = tie.close (tie.spec returns shared-slice-read-result returns-2)
+pub is_byte_spec : {M : Type 1} → statement M
+is_byte_spec = tie.close (tie.spec returns shared-slice-read-result returns-2)

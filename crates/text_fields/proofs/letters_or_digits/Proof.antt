@@ -10,33 +10,33 @@ use borrow.Author.Rules.{rules}
 use Rattle.text_fields.proofs.letters_or_digits.Statement.{statement}
 use Rattle.text_fields.proofs.letters_or_digits.Tie as tie
 
-abbrev invariant-loop : tie.invariant-loop
+abbrev invariant-loop : tie.invariant-loop-i
 invariant-loop s good₀ i₀ good i = (i ≤ length s) × (all is_letter_or_digit s ≡ (good && all is_letter_or_digit (drop i s)))
 
-abbrev decreases-loop : tie.decreases-loop
+abbrev decreases-loop : tie.decreases-loop-i
 decreases-loop s good₀ i₀ good i = length s - i
 
-loop-holds : tie.Need-loop-init invariant-loop decreases-loop
+loop-holds : tie.Need-loop-i-init invariant-loop decreases-loop
 loop-holds c = (omega arith, refl)
 
-loop-again : tie.Need-loop-preserved invariant-loop decreases-loop
+loop-again : tie.Need-loop-i-preserved invariant-loop decreases-loop
 loop-again c =
     let s = c.before.before.before.before.before.args.s.now in
-    let l = c.before.before.before.loop in (
+    let l = c.before.before.before.loop-i in (
       omega arith,
       l.invariant.1
-          ∙ rw (all_step is_letter_or_digit s l.i (omega arith), c.is-letter-or-digit.ensures)
+          ∙ rw (all_step is_letter_or_digit s l.i (omega arith), c.is_letter_or_digit-good.ensures)
           (sym (and_assoc l.good (is_letter_or_digit (get_or s l.i 0)) (all is_letter_or_digit (drop (l.i + 1) s)))),
     )
 
 returns : tie.Need-returns invariant-loop decreases-loop
 unfolding all
 returns c =
-    let over = drop_of_length-le c.before.before.before.args.s.now {i = c.before.loop.i} (omega arith) in
-    sym (c.before.loop.invariant.1 ∙ rw over (and-true c.before.loop.good))
+    let over = drop_of_length-le c.before.before.before.args.s.now {i = c.before.loop-i.i} (omega arith) in
+    sym (c.before.loop-i.invariant.1 ∙ rw over (and-true c.before.loop-i.good))
 
-pub letters-or-digits-spec : {M : Type 1} → statement M
-letters-or-digits-spec =
+pub letters_or_digits_spec : {M : Type 1} → statement M
+letters_or_digits_spec =
     tie.close
     (tie.spec
     invariant-loop

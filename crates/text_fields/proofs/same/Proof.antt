@@ -6,8 +6,8 @@ use Rattle.text_fields.specs.FieldLaws.{not_same}
 use Rattle.text_fields.proofs.same.Statement.{statement}
 use Rattle.text_fields.proofs.same.Tie as tie
 
-returns : tie.Need-returns
-returns c = sym (not_same _ _ (λ e. c.if1.true (ap length e)))
+returns : tie.Need-returns-then-a-b
+returns c = sym (not_same _ _ (λ e. c.if-a-b.true (ap length e)))
 
 pub same_spec : {M : Type 1} → statement M
 same_spec =

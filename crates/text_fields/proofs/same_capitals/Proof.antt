@@ -10,47 +10,47 @@ use Rattle.text_fields.specs.Capitals.{length-capitals, same_capitals_step}
 use Rattle.text_fields.proofs.same_capitals.Statement.{statement}
 use Rattle.text_fields.proofs.same_capitals.Tie as tie
 
-abbrev invariant-loop : tie.invariant-loop
+abbrev invariant-loop : tie.invariant-loop-place
 invariant-loop a b place₀ place = (place ≤ length a) × (same_name a b ≡ same (drop place (capitals a)) (drop place (capitals b)))
 
-abbrev decreases-loop : tie.decreases-loop
+abbrev decreases-loop : tie.decreases-loop-place
 decreases-loop a b place₀ place = length a - place
 
-returns : tie.Need-returns invariant-loop decreases-loop
+returns : tie.Need-returns-then-capital invariant-loop decreases-loop
 returns c =
-    let l = c.before.before.before.before.before.before.loop in
+    let l = c.before.before.before.before.before.before.loop-place in
     let s = c.before.before.before.before.before.before.before.before.before.args in
     let one = c.before.before.before.capital.ensures in
-    let two = c.before.capital2.ensures in
+    let two = c.before.capital-in-loop-place.ensures in
     rw (
       l.invariant.1,
       same_capitals_step s.a.now s.b.now l.place (omega arith) (omega arith),
-      ne_eqb _ _ (λ e. c.if1.true (one ∙ e ∙ sym two)),
+      ne_eqb _ _ (λ e. c.if-capital.true (one ∙ e ∙ sym two)),
     )
 
-loop-again : tie.Need-loop-preserved invariant-loop decreases-loop
+loop-again : tie.Need-loop-place-preserved invariant-loop decreases-loop
 loop-again c =
-    let l = c.before.before.before.before.before.before.loop in
+    let l = c.before.before.before.before.before.before.loop-place in
     let s = c.before.before.before.before.before.before.before.before.before.args in
     let one = c.before.before.before.capital.ensures in
-    let two = c.before.capital2.ensures in (
+    let two = c.before.capital-in-loop-place.ensures in (
       omega arith,
-      l.invariant.1 ∙ rw (same_capitals_step s.a.now s.b.now l.place (omega arith) (omega arith), eq-eqb _ _ (sym one ∙ c.if1.false ∙ two)),
+      l.invariant.1 ∙ rw (same_capitals_step s.a.now s.b.now l.place (omega arith) (omega arith), eq-eqb _ _ (sym one ∙ c.if-capital.false ∙ two)),
     )
 
-returns-2 : tie.Need-returns-2 invariant-loop decreases-loop
+returns-2 : tie.Need-returns invariant-loop decreases-loop
 unfolding same
 returns-2 c =
     let s = c.before.before.before.before.args in
-    let at = c.before.loop.place in
+    let at = c.before.loop-place.place in
     rw (
-      c.before.loop.invariant.1,
+      c.before.loop-place.invariant.1,
       drop_of_length-le (capitals s.a.now) {i = at} (omega (arith, length-capitals s.a.now)),
       drop_of_length-le (capitals s.b.now) {i = at} (omega (arith, length-capitals s.b.now)),
     )
 
-pub same-capitals-spec : {M : Type 1} → statement M
-same-capitals-spec =
+pub same_capitals_spec : {M : Type 1} → statement M
+same_capitals_spec =
     tie.close
     (tie.spec
     invariant-loop

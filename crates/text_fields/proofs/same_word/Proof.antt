@@ -7,9 +7,9 @@ use Rattle.text_fields.proofs.same_word.Tie as tie
 returns : tie.Need-returns
 returns c =
     let one = c.before.word.ensures in
-    let two = c.word2.ensures in
+    let two = c.word-2.ensures in
     let s = c.before.before.before.before.args in
     rw (one.value, two.value) (words_tell s.a.now s.b.now s.at one.bytes two.bytes)
 
-pub same-word-spec : {M : Type 1} → statement M
-same-word-spec = tie.close (tie.spec (λ c κs. search rules) (λ c κs. search rules) returns)
+pub same_word_spec : {M : Type 1} → statement M
+same_word_spec = tie.close (tie.spec (λ c κs. search rules) (λ c κs. search rules) returns)

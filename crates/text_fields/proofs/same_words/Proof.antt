@@ -10,39 +10,39 @@ use Rattle.text_fields.specs.Words.{same_by}
 use Rattle.text_fields.proofs.same_words.Statement.{statement}
 use Rattle.text_fields.proofs.same_words.Tie as tie
 
-abbrev invariant-loop : tie.invariant-loop
+abbrev invariant-loop : tie.invariant-loop-place
 invariant-loop a b last place₀ place = (place ≤ length a) × ((k : ℕ) → k < place → get_or a k 0 ≡ get_or b k 0)
 
-abbrev decreases-loop : tie.decreases-loop
+abbrev decreases-loop : tie.decreases-loop-place
 decreases-loop a b last place₀ place = last - place
 
-returns : tie.Need-returns invariant-loop decreases-loop
-returns c = sym (not_same _ _ (c.before.same_word.ensures.no (not-true _ c.if1.true)))
+returns : tie.Need-returns-then-not-same_word invariant-loop decreases-loop
+returns c = sym (not_same _ _ (c.before.same_word.ensures.no (c.if-not-same_word.true)))
 
-loop-holds : tie.Need-loop-init invariant-loop decreases-loop
-loop-holds c = (omega arith, λ k l. c.before.same_word.ensures.yes (not-false _ c.if1.false) k (omega arith) l)
+loop-holds : tie.Need-loop-place-init invariant-loop decreases-loop
+loop-holds c = (omega arith, λ k l. c.before.same_word.ensures.yes (c.if-not-same_word.false) k (omega arith) l)
 
-returns-2 : tie.Need-returns-2 invariant-loop decreases-loop
-returns-2 c = sym (not_same _ _ (c.before.same-word2.ensures.no (not-true _ c.if2.true)))
+returns-2 : tie.Need-returns-then-not-same_word-2 invariant-loop decreases-loop
+returns-2 c = sym (not_same _ _ (c.before.same_word-in-loop-place.ensures.no (c.if-not-same_word-2.true)))
 
-loop-again : tie.Need-loop-preserved invariant-loop decreases-loop
+loop-again : tie.Need-loop-place-preserved invariant-loop decreases-loop
 loop-again c =
-    let l = c.before.before.before.loop in
-    let more = c.before.same-word2.ensures.yes (not-false _ c.if2.false) in
+    let l = c.before.before.before.loop-place in
+    let more = c.before.same_word-in-loop-place.ensures.yes (c.if-not-same_word-2.false) in
     (omega arith, λ k h. elim (dec_lt k l.place) [ yes s ↦ l.invariant.1 k s | no s ↦ more k (omega arith) h ])
 
-returns-3 : tie.Need-returns-3 invariant-loop decreases-loop
+returns-3 : tie.Need-returns invariant-loop decreases-loop
 returns-3 c =
     let top = c.before.before in
     let start = top.before.before.before.before.before in
     let s = start.args in
-    let last = c.same-word3.ensures in
-    same_by c.same-word3.result s.a.now s.b.now start.requires.0
-    (λ e k h. elim (dec_lt k top.loop.place) [ yes q ↦ top.loop.invariant.1 k q | no q ↦ last.yes e k (omega arith) (omega arith) ])
+    let last = c.same_word-2.ensures in
+    same_by c.same_word-2.result s.a.now s.b.now start.requires.0
+    (λ e k h. elim (dec_lt k top.loop-place.place) [ yes q ↦ top.loop-place.invariant.1 k q | no q ↦ last.yes e k (omega arith) (omega arith) ])
     last.no
 
-pub same-words-spec : {M : Type 1} → statement M
-same-words-spec =
+pub same_words_spec : {M : Type 1} → statement M
+same_words_spec =
     tie.close
     (tie.spec
     invariant-loop

@@ -6,10 +6,10 @@ use Rattle.text_fields.proofs.word.Tie as tie
 
 returns : tie.Need-returns
 unfolding word
-returns c = record { value = search rules; bytes = c.half-word2.ensures.bytes }
+returns c = record { value = search rules; bytes = c.half_word-2.ensures.bytes }
 
-pub word-spec : {M : Type 1} → statement M
-word-spec =
+pub word_spec : {M : Type 1} → statement M
+word_spec =
     tie.close
     (tie.spec
     (λ c κs. search rules)

@@ -8,17 +8,17 @@ use borrow.Author.Rules.{rules}
 use Rattle.text_grammar.proofs.fits.Statement.{statement}
 use Rattle.text_grammar.proofs.fits.Tie as tie
 
-returns : tie.Need-returns
+returns : tie.Need-returns-then-value-most
 returns c = let a = c.before.args in sym (lt-leb (a.value * 10 + a.digit) a.most (omega arith))
 
-mul-result : tie.Need-overflow-mul-result
+mul-result : tie.Need-overflow_mul-result
 mul-result c = search rules
 
-sub-result : tie.Need-overflow-sub-result
+sub-result : tie.Need-overflow_sub-result
 sub-result c = search rules
 
-returns-2 : tie.Need-returns-2
+returns-2 : tie.Need-returns
 returns-2 c = let a = c.before.args in room_left (a.value * 10) a.digit a.most (omega arith)
 
-pub fits-spec : {M : Type 1} → statement M
-fits-spec = tie.close (tie.spec returns mul-result sub-result returns-2)
+pub fits_spec : {M : Type 1} → statement M
+fits_spec = tie.close (tie.spec returns mul-result sub-result returns-2)

@@ -6,16 +6,16 @@ use borrow.Author.Rules.{rules}
 use Rattle.text_grammar.proofs.mark.Statement.{statement}
 use Rattle.text_grammar.proofs.mark.Tie as tie
 
-mul-end : tie.Need-overflow-mul-end
+mul-end : tie.Need-offset_bounds-end-k
 mul-end c = search rules
 
-element-write-end : tie.Need-element-write-end
+element-write-end : tie.Need-bounds-end-k
 element-write-end c = search rules
 
-returns : tie.Need-returns
+returns : tie.Need-returns-then-k-lt-FIELDS
 returns c = search rules
 
-returns-2 : tie.Need-returns-2
+returns-2 : tie.Need-returns-else-k-lt-FIELDS
 returns-2 c = sym (set_past _ _ _ (omega (arith, c.before.requires)))
 
 pub mark_spec : {M : Type 1} → statement M

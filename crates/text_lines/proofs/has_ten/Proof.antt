@@ -7,23 +7,23 @@ use Rattle.text_lines.specs.LineLaws.{NoTen, no_ten_more}
 use Rattle.text_lines.proofs.has_ten.Statement.{statement}
 use Rattle.text_lines.proofs.has_ten.Tie as tie
 
-abbrev invariant-loop : tie.invariant-loop
+abbrev invariant-loop : tie.invariant-loop-i
 invariant-loop sheet at any₀ i₀ any i = (i ≤ 8) × (any ≡ false → NoTen sheet at i)
 
-abbrev decreases-loop : tie.decreases-loop
+abbrev decreases-loop : tie.decreases-loop-i
 decreases-loop sheet at any₀ i₀ any i = 8 - i
 
-loop-again : tie.Need-loop-preserved invariant-loop decreases-loop
+loop-again : tie.Need-loop-i-preserved invariant-loop decreases-loop
 loop-again c =
-    let l = c.before.before.loop in
+    let l = c.before.before.loop-i in
     let a = c.before.before.before.args in
     (omega arith, no_ten_more a.sheet.now a.at l.i l.any l.invariant.1)
 
 returns : tie.Need-returns invariant-loop decreases-loop
-returns c = let l = c.before.loop in let over : l.i ≡ 8 = omega arith in rw over at l.invariant.1
+returns c = let l = c.before.loop-i in let over : l.i ≡ 8 = omega arith in rw over at l.invariant.1
 
-pub has-ten-spec : {M : Type 1} → statement M
-has-ten-spec =
+pub has_ten_spec : {M : Type 1} → statement M
+has_ten_spec =
     tie.close
     (tie.spec
     invariant-loop

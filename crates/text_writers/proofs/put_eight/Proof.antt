@@ -6,8 +6,8 @@ use Rattle.text_writers.specs.Writing.{sets_eight}
 use Rattle.text_writers.proofs.put_eight.Statement.{statement}
 use Rattle.text_writers.proofs.put_eight.Tie as tie
 
-pub put-eight-spec : {M : Type 1} → statement M
-put-eight-spec =
+pub put_eight_spec : {M : Type 1} → statement M
+put_eight_spec =
     tie.close
     (tie.spec
     (λ c. search rules)

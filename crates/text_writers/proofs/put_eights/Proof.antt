@@ -9,10 +9,10 @@ returns : tie.Need-returns
 returns c =
     let s = c.before.before.before.before.before.before.before.before.before.before in
     halved s.args.part.now s.args.at 8 s.args.stop s.requires.1.low s.requires.1.high
-    c.before.before.before.before.before.before.put-eight.ensures c.before.before.put-eight2.ensures
+    c.before.before.before.before.before.before.put_eight.ensures c.before.before.put_eight-2.ensures
 
-pub put-eights-spec : {M : Type 1} → statement M
-put-eights-spec =
+pub put_eights_spec : {M : Type 1} → statement M
+put_eights_spec =
     tie.close
     (tie.spec
     (λ c. search rules)

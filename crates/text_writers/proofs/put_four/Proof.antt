@@ -6,8 +6,8 @@ use Rattle.text_writers.specs.Writing.{sets_four}
 use Rattle.text_writers.proofs.put_four.Statement.{statement}
 use Rattle.text_writers.proofs.put_four.Tie as tie
 
-pub put-four-spec : {M : Type 1} → statement M
-put-four-spec =
+pub put_four_spec : {M : Type 1} → statement M
+put_four_spec =
     tie.close
     (tie.spec
     (λ c. search rules)

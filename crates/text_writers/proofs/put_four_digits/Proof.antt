@@ -48,8 +48,8 @@ word-digits l at n w h e =
     four_bytes l at n (w % 256) (w / 256 % 256) (w / 65536 % 256) (w / 16777216) (is.0 ∙ ap (λ x. 48 + x) (sym thousands))
     (is.1 ∙ ap (λ x. 48 + x % 10) (sym hundreds)) (is.2 ∙ ap (λ x. 48 + x) (sym tens)) (is.3 ∙ ap (λ x. 48 + x) (sym ones))
 
-pub put-four-digits-spec : {M : Type 1} → statement M
-put-four-digits-spec =
+pub put_four_digits_spec : {M : Type 1} → statement M
+put_four_digits_spec =
     tie.close
     (tie.spec
     (λ c. search rules)

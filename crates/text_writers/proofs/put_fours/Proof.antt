@@ -9,10 +9,10 @@ returns : tie.Need-returns
 returns c =
     let s = c.before.before.before.before.before.before.before.before.before.before in
     halved s.args.part.now s.args.at 4 s.args.stop s.requires.1.low s.requires.1.high
-    c.before.before.before.before.before.before.put_four.ensures c.before.before.put-four2.ensures
+    c.before.before.before.before.before.before.put_four.ensures c.before.before.put_four-2.ensures
 
-pub put-fours-spec : {M : Type 1} → statement M
-put-fours-spec =
+pub put_fours_spec : {M : Type 1} → statement M
+put_fours_spec =
     tie.close
     (tie.spec
     (λ c. search rules)

@@ -7,15 +7,15 @@ use Rattle.text_writers.specs.Writing.{same_size, one_digit, all_digits, digits_
 use Rattle.text_writers.proofs.put_short.Statement.{statement}
 use Rattle.text_writers.proofs.put_short.Tie as tie
 
-three-digits : tie.Need-returns-3
+three-digits : tie.Need-returns-then-n-lt1000
 three-digits c =
     let s = c.before.before.before.before.before.before.before.before in
     let hundreds = one_digit s.args.buf.now s.args.at (s.args.n / 100) (omega arith) in
     digits_behind 2 s.args.n (s.args.n / 100) (s.args.n % 100) (omega arith) (omega arith) (omega arith)
-    hundreds c.before.before.put-two-digits2.ensures
+    hundreds c.before.before.put_two_digits-then-n-lt1000.ensures
 
-pub put-short-spec : {M : Type 1} → statement M
-put-short-spec =
+pub put_short_spec : {M : Type 1} → statement M
+put_short_spec =
     tie.close
     (tie.spec
     (λ c. search rules)
@@ -29,7 +29,7 @@ put-short-spec =
     (λ c. search rules)
     (λ c.
     let s = c.before.before.before.before.before.before.before in
-    all_digits s.args.at 1 s.args.n (omega arith) (omega arith) c.before.before.put-two-digits.ensures)
+    all_digits s.args.at 1 s.args.n (omega arith) (omega arith) c.before.before.put_two_digits.ensures)
     (λ c. search rules)
     (λ c. search rules)
     (λ c. search rules)
@@ -43,4 +43,4 @@ put-short-spec =
     (λ c. search rules)
     (λ c.
     let s = c.before.before.before.before.before.before.before.before in
-    all_digits s.args.at 3 s.args.n (omega arith) (omega arith) c.before.before.put-four-digits.ensures))
+    all_digits s.args.at 3 s.args.n (omega arith) (omega arith) c.before.before.put_four_digits.ensures))

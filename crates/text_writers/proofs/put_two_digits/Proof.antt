@@ -15,8 +15,8 @@ returns c =
     let tens : c.args.n / 10 % 10 ≡ c.args.n / 10 = omega arith in
     rw (tens, add-one)
 
-pub put-two-digits-spec : {M : Type 1} → statement M
-put-two-digits-spec =
+pub put_two_digits_spec : {M : Type 1} → statement M
+put_two_digits_spec =
     tie.close
     (tie.spec
     (λ c. search rules)

@@ -10,30 +10,30 @@ use Rattle.tree.specs.Steps.{told, denied}
 use Rattle.tree.proofs.all_links.Statement.{statement}
 use Rattle.tree.proofs.all_links.Tie as tie
 
-abbrev invariant-loop : tie.invariant-loop
+abbrev invariant-loop : tie.invariant-loop-j
 invariant-loop n one two j₀ j-end j = (j ≤ length one) × ((i : ℕ) → i < j → Link n (look one i) (look two i))
 
-abbrev decreases-loop : tie.decreases-loop
+abbrev decreases-loop : tie.decreases-loop-j
 decreases-loop n one two j₀ j-end j = length one - j
 
-fault : tie.Need-returns invariant-loop decreases-loop
-fault c all = denied c.before.is-link.result c.before.is-link.ensures (not-true _ c.if1.true)
-    (all c.before.before.before.before.before.loop.j (omega arith))
+fault : tie.Need-returns-then-not-is_link invariant-loop decreases-loop
+fault c all = denied c.before.is_link.result c.before.is_link.ensures (c.if-not-is_link.true)
+    (all c.before.before.before.before.before.loop-j.j (omega arith))
 
-next : tie.Need-loop-preserved invariant-loop decreases-loop
+next : tie.Need-loop-j-preserved invariant-loop decreases-loop
 next c =
     let top = c.before.before.before.before.before in
     let a = top.before.before.before.args in (
       omega arith,
-      below_more (λ i. Link a.n (look a.one.now i) (look a.two.now i)) top.loop.j top.loop.invariant.1
-          (told c.before.is-link.result c.before.is-link.ensures (not-false _ c.if1.false)),
+      below_more (λ i. Link a.n (look a.one.now i) (look a.two.now i)) top.loop-j.j top.loop-j.invariant.1
+          (told c.before.is_link.result c.before.is_link.ensures (c.if-not-is_link.false)),
     )
 
-at-end : tie.Need-returns-2 invariant-loop decreases-loop
-at-end c j h = c.before.loop.invariant.1 j (omega arith)
+at-end : tie.Need-returns invariant-loop decreases-loop
+at-end c j h = c.before.loop-j.invariant.1 j (omega arith)
 
-pub all-links-spec : {M : Type 1} → statement M
-all-links-spec =
+pub all_links_spec : {M : Type 1} → statement M
+all_links_spec =
     tie.close
     (tie.spec
     invariant-loop

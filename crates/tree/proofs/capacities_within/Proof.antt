@@ -8,30 +8,30 @@ use Rattle.tree.specs.Places.{within-next, within-high, within_end}
 use Rattle.tree.proofs.capacities_within.Statement.{statement}
 use Rattle.tree.proofs.capacities_within.Tie as tie
 
-abbrev invariant-loop : tie.invariant-loop
+abbrev invariant-loop : tie.invariant-loop-i
 invariant-loop most list i₀ i-end i = (i ≤ length list) × (within 0 most list ≡ within 0 most (drop i list))
 
-abbrev decreases-loop : tie.decreases-loop
+abbrev decreases-loop : tie.decreases-loop-i
 decreases-loop most list i₀ i-end i = length list - i
 
-too-high : tie.Need-returns invariant-loop decreases-loop
+too-high : tie.Need-returns-then-most-list invariant-loop decreases-loop
 too-high c =
     let top = c.before.before.before in
     let a = top.before.args in
-    sym (top.loop.invariant.1 ∙ within-high 0 a.most a.list.now top.loop.i (omega arith) (omega arith) c.if1.true)
+    sym (top.loop-i.invariant.1 ∙ within-high 0 a.most a.list.now top.loop-i.i (omega arith) (omega arith) c.if-most-list.true)
 
-next : tie.Need-loop-preserved invariant-loop decreases-loop
+next : tie.Need-loop-i-preserved invariant-loop decreases-loop
 next c =
     let top = c.before.before.before in
     let a = top.before.args in
-    (omega arith, top.loop.invariant.1 ∙ within-next 0 a.most a.list.now top.loop.i (omega arith) (omega arith) c.if1.false)
+    (omega arith, top.loop-i.invariant.1 ∙ within-next 0 a.most a.list.now top.loop-i.i (omega arith) (omega arith) c.if-most-list.false)
 
-at-end : tie.Need-returns-2 invariant-loop decreases-loop
+at-end : tie.Need-returns invariant-loop decreases-loop
 at-end c = let a = c.before.before.args in
-    sym (c.before.loop.invariant.1 ∙ within_end 0 a.most a.list.now c.before.loop.i (omega arith))
+    sym (c.before.loop-i.invariant.1 ∙ within_end 0 a.most a.list.now c.before.loop-i.i (omega arith))
 
-pub capacities-within-spec : {M : Type 1} → statement M
-capacities-within-spec =
+pub capacities_within_spec : {M : Type 1} → statement M
+capacities_within_spec =
     tie.close
     (tie.spec
     invariant-loop

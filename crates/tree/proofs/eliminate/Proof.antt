@@ -6,7 +6,7 @@ use Rattle.tree.proofs.eliminate.Statement.{statement}
 use Rattle.tree.proofs.eliminate.Tie as tie
 
 returns : tie.Need-returns
-returns c = c.eliminate-toward.ensures ∙ eliminated-without-a-root _ _ _ _ _ 0 (λ s. omega arith)
+returns c = c.eliminate_toward.ensures ∙ eliminated-without-a-root _ _ _ _ _ 0 (λ s. omega arith)
 
-pub eliminate-spec : {M : Type 1} → statement M
-eliminate-spec = tie.close (tie.spec (λ c κs. tt) returns)
+pub eliminate_spec : {M : Type 1} → statement M
+eliminate_spec = tie.close (tie.spec (λ c κs. tt) returns)

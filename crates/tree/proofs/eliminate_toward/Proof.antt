@@ -41,10 +41,10 @@ returns : tie.Need-returns
 returns c =
     let m = c.before.before in
     let t = m.before.before in
-    let o = t.order-of in
+    let o = t.order_of-order in
     let a = t.before.before.before.before.before.args in
-    made a.marks.now a.capacity.now o.result o.ensures m.is-marked.ensures
-    c.before.offer-of.ensures c.kept.ensures
+    made a.marks.now a.capacity.now o.result o.ensures m.is_marked-whole.ensures
+    c.before.offer_of-offer.ensures c.kept-sites.ensures
 
-pub eliminate-toward-spec : {M : Type 1} → statement M
-eliminate-toward-spec = tie.close (tie.spec (λ c κs. tt) (λ c κs. tt) (λ c κs. tt) (λ c κs. tt) returns)
+pub eliminate_toward_spec : {M : Type 1} → statement M
+eliminate_toward_spec = tie.close (tie.spec (λ c κs. tt) (λ c κs. tt) (λ c κs. tt) (λ c κs. tt) returns)

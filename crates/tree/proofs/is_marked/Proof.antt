@@ -4,11 +4,11 @@ use borrow.Author.Tests.{not-true, not-false}
 use Rattle.tree.proofs.is_marked.Statement.{statement}
 use Rattle.tree.proofs.is_marked.Tie as tie
 
-no-tree : tie.Need-returns
-no-tree c = rw (not-true c.before.args.tree c.if1.true) refl
+no-tree : tie.Need-returns-then-not-tree
+no-tree c = rw (c.if-not-tree.true) refl
 
-counted : tie.Need-returns-2
-counted c = rw (not-false c.before.args.tree c.if1.false) refl
+counted : tie.Need-returns
+counted c = rw (c.if-not-tree.false) refl
 
-pub is-marked-spec : {M : Type 1} → statement M
-is-marked-spec = tie.close (tie.spec no-tree counted)
+pub is_marked_spec : {M : Type 1} → statement M
+is_marked_spec = tie.close (tie.spec no-tree counted)

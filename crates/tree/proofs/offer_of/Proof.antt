@@ -6,37 +6,37 @@ use Rattle.tree.specs.Offer.{offer_of}
 use Rattle.tree.proofs.offer_of.Statement.{statement}
 use Rattle.tree.proofs.offer_of.Tie as tie
 
-no-tree : tie.Need-returns
+no-tree : tie.Need-returns-then-not-tree
 unfolding offer_of
 no-tree c = let a = c.before.before.args in
-    rw (not-true a.tree c.if1.true) refl
+    rw (c.if-not-tree.true) refl
 
-other_length : tie.Need-returns-2
+other_length : tie.Need-returns-then-capacity-links
 unfolding offer_of
 other_length c = let a = c.before.before.before.args in
-    rw (not-false a.tree c.before.if1.false, ne_eqb (length a.capacity.now) a.links c.if2.true) refl
+    rw (c.before.if-not-tree.false, ne_eqb (length a.capacity.now) a.links c.if-capacity-links.true) refl
 
-too_large : tie.Need-returns-3
+too_large : tie.Need-returns-then-not-capacities_within
 unfolding offer_of
 too_large c =
     let e = c.before.before in
     let a = e.before.before.before.args in
     rw (
-      not-false a.tree e.before.if1.false,
-      eq-eqb (length a.capacity.now) a.links e.if2.false,
-      sym c.before.capacities-within.ensures ∙ not-true _ c.if3.true,
+      e.before.if-not-tree.false,
+      eq-eqb (length a.capacity.now) a.links e.if-capacity-links.false,
+      sym c.before.capacities_within.ensures ∙ c.if-not-capacities_within.true,
     ) refl
 
-accepted : tie.Need-returns-4
+accepted : tie.Need-returns
 unfolding offer_of
 accepted c =
     let e = c.before.before in
     let a = e.before.before.before.args in
     rw (
-      not-false a.tree e.before.if1.false,
-      eq-eqb (length a.capacity.now) a.links e.if2.false,
-      sym c.before.capacities-within.ensures ∙ not-false _ c.if3.false,
+      e.before.if-not-tree.false,
+      eq-eqb (length a.capacity.now) a.links e.if-capacity-links.false,
+      sym c.before.capacities_within.ensures ∙ c.if-not-capacities_within.false,
     ) refl
 
-pub offer-of-spec : {M : Type 1} → statement M
-offer-of-spec = tie.close (tie.spec no-tree other_length (λ c κs. tt) too_large accepted)
+pub offer_of_spec : {M : Type 1} → statement M
+offer_of_spec = tie.close (tie.spec no-tree other_length (λ c κs. tt) too_large accepted)

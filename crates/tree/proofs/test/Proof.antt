@@ -5,7 +5,7 @@ use Rattle.tree.proofs.test.Statement.{statement}
 use Rattle.tree.proofs.test.Tie as tie
 
 returns : tie.Need-returns
-returns c = ap (λ r. r.offer) c.eliminate.ensures ∙ eliminated_says _ _ _ _ _
+returns c = ap (λ r. r.offer) c.eliminate-answer.ensures ∙ eliminated_says _ _ _ _ _
 
-pub test-spec : {M : Type 1} → statement M
-test-spec = tie.close (tie.spec (λ c κs. tt) returns)
+pub test_spec : {M : Type 1} → statement M
+test_spec = tie.close (tie.spec (λ c κs. tt) returns)

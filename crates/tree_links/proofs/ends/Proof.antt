@@ -15,29 +15,29 @@ use Rattle.tree.specs.Offer.{links}
 use Rattle.tree_links.proofs.ends.Statement.{statement}
 use Rattle.tree_links.proofs.ends.Tie as tie
 
-abbrev invariant-loop : tie.invariant-loop
+abbrev invariant-loop : tie.invariant-loop-v
 invariant-loop n last before one two marks list₀ v₀ v-end list v =
     (v ≤ n + 1) × (length list ≡ PLACES) × ((x : ℕ) → x < v → look list x ≡ end_at (links one two) marks x) × ((x : ℕ) → v ≤ x → look list x ≡ 0)
 
-abbrev decreases-loop : tie.decreases-loop
+abbrev decreases-loop : tie.decreases-loop-v
 decreases-loop n last before one two marks list₀ v₀ v-end list v = n + 1 - v
 
-start : tie.Need-loop-init invariant-loop decreases-loop
+start : tie.Need-loop-v-init invariant-loop decreases-loop
 start c = (omega arith, refl, λ x h. absurd (omega arith), λ x h. look-zeros PLACES x)
 
-next : tie.Need-loop-preserved invariant-loop decreases-loop
+next : tie.Need-loop-v-preserved invariant-loop decreases-loop
 next c =
     let t = c.before.before in
-    let v = t.loop.v in
-    let list = t.loop.list in
-    let new = c.end-at.result in
-    let long = t.loop.invariant.1 in (
+    let v = t.loop-v.v in
+    let list = t.loop-v.list in
+    let new = c.end_at.result in
+    let long = t.loop-v.invariant.1 in (
       omega arith,
       length-set list v new ∙ long,
       λ x h. same? x v
-          (λ e. rw e (get_or-set_same list v new 0 (omega arith) ∙ c.end-at.ensures))
-          (λ d. get_or-set_other list v x new 0 d ∙ t.loop.invariant.2 x (omega arith)),
-      λ x h. get_or-set_other list v x new 0 (λ e. omega arith) ∙ t.loop.invariant.3 x (omega arith),
+          (λ e. rw e (get_or-set_same list v new 0 (omega arith) ∙ c.end_at.ensures))
+          (λ d. get_or-set_other list v x new 0 d ∙ t.loop-v.invariant.2 x (omega arith)),
+      λ x h. get_or-set_other list v x new 0 (λ e. omega arith) ∙ t.loop-v.invariant.3 x (omega arith),
     )
 
 at-end : tie.Need-returns invariant-loop decreases-loop
@@ -48,11 +48,11 @@ at-end c =
     let n = s.args.n in
     let marks = s.args.marks.now in
     fun_ext (λ x. cases (dec_lt x (suc n))
-    (λ h. c.before.loop.invariant.2 x (omega arith) ∙ sym (look_values (end_at ls marks) (suc n) x h))
-    (λ h. c.before.loop.invariant.3 x (omega arith) ∙ sym (get_or-eq_default (ends ls n marks) 0 {n = x} (omega (arith, length-ends ls n marks)))))
+    (λ h. c.before.loop-v.invariant.2 x (omega arith) ∙ sym (look_values (end_at ls marks) (suc n) x h))
+    (λ h. c.before.loop-v.invariant.3 x (omega arith) ∙ sym (get_or-eq_default (ends ls n marks) 0 {n = x} (omega (arith, length-ends ls n marks)))))
 
-pub ends-spec : {M : Type 1} → statement M
-ends-spec =
+pub ends_spec : {M : Type 1} → statement M
+ends_spec =
     tie.close
     (tie.spec
     invariant-loop

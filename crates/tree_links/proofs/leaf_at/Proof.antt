@@ -9,41 +9,41 @@ use Rattle.tree_links.specs.Chains.{last_at, on_last, last_le, no_link_is_no_end
 use Rattle.tree_links.proofs.leaf_at.Statement.{statement}
 use Rattle.tree_links.proofs.leaf_at.Tie as tie
 
-none : tie.Need-returns
+none : tie.Need-returns-then-p-eq0
 none c =
-    let s = c.before.before.before.before in
-    sym (no_link_is_no_end s.requires.1 s.args.v s.requires.0 c.if1.true)
+    let s = c.before.before.before.before.before in
+    sym (no_link_is_no_end s.requires.1 s.args.v s.requires.0 c.if-p-eq0.true)
 
 -- the link before the last
-back : (c : tie.After-link-before) → let s = c.before.before.before.before.before in let a = s.args in
-    c.link-before.result ≡ last_at (links a.one.now a.two.now) (look a.last.now a.v - 1) a.v
+back : (c : tie.After-link_before) → let s = c.before.before.before.before.before.before in let a = s.args in
+    c.link_before.result ≡ last_at (links a.one.now a.two.now) (look a.last.now a.v - 1) a.v
 back c =
-    let s = c.before.before.before.before.before in
+    let s = c.before.before.before.before.before.before in
     let a = s.args in
     let m = length a.one.now in
     let on = rw (← (s.requires.1.lasts a.v s.requires.0)) at (on_last (links a.one.now a.two.now) a.v m m (omega arith)) in
-    walk_goes_on s.requires.1 a.v (look a.last.now a.v - 1) c.link-before.result (omega arith) (on.1 (omega arith)) c.link-before.ensures
+    walk_goes_on s.requires.1 a.v (look a.last.now a.v - 1) c.link_before.result (omega arith) (on.1 (omega arith)) c.link_before.ensures
 
-one : tie.Need-returns-2
+one : tie.Need-returns-then-link_before-eq0
 one c =
-    let s = c.before.before.before.before.before.before in
-    sym (one_link_is_an_end s.requires.1 s.args.v s.requires.0 (omega arith) (sym (back c.before) ∙ c.if2.true))
+    let s = c.before.before.before.before.before.before.before in
+    sym (one_link_is_an_end s.requires.1 s.args.v s.requires.0 (omega arith) (sym (back c.before) ∙ c.if-link_before-eq0.true))
 
-more : tie.Need-returns-3
+more : tie.Need-returns
 more c =
-    let s = c.before.before.before.before.before.before in
+    let s = c.before.before.before.before.before.before.before in
     sym (more_links_are_no_end s.requires.1 s.args.v s.requires.0 (omega arith) (omega (arith, back c.before)))
 
-placed : tie.Need-link-before-requires
+placed : tie.Need-link_before-requires
 placed c κs =
-    let s = c.before.before.before.before in
+    let s = c.before.before.before.before.before in
     let f = s.requires.1.placed in
     let last = s.requires.1.lasts s.args.v s.requires.0 in
     let few = last_le (links s.args.one.now s.args.two.now) s.args.v (length s.args.one.now) in
     (omega arith, omega arith, omega arith)
 
-pub leaf-at-spec : {M : Type 1} → statement M
-leaf-at-spec =
+pub leaf_at_spec : {M : Type 1} → statement M
+leaf_at_spec =
     tie.close
     (tie.spec
     (λ c. omega arith)

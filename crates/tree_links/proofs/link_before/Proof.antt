@@ -5,17 +5,17 @@ use Rattle.lists.specs.Sums.{pick_same, pick_other}
 use Rattle.tree_links.proofs.link_before.Statement.{statement}
 use Rattle.tree_links.proofs.link_before.Tie as tie
 
-first : tie.Need-returns
-first c = sym (pick_same c.before.if1.true _ _)
+first : tie.Need-returns-then-one-j
+first c = sym (pick_same c.before.before.if-one-j.true _ _)
 
-second : tie.Need-returns-2
-second c = sym (pick_other c.before.before.before.if1.false _ _ ∙ pick_same c.before.if2.true _ _)
+second : tie.Need-returns-then-two-j
+second c = sym (pick_other c.before.before.before.before.if-one-j.false _ _ ∙ pick_same c.before.before.if-two-j.true _ _)
 
-none : tie.Need-returns-3
-none c = sym (pick_other c.before.before.if1.false _ _ ∙ pick_other c.if2.false _ _)
+none : tie.Need-returns
+none c = sym (pick_other c.before.before.if-one-j.false _ _ ∙ pick_other c.if-two-j.false _ _)
 
-pub link-before-spec : {M : Type 1} → statement M
-link-before-spec =
+pub link_before_spec : {M : Type 1} → statement M
+link_before_spec =
     tie.close
     (tie.spec
     (λ c. omega arith)

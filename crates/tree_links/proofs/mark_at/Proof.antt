@@ -6,13 +6,13 @@ use Rattle.model.specs.Flows.{mark}
 use Rattle.tree_links.proofs.mark_at.Statement.{statement}
 use Rattle.tree_links.proofs.mark_at.Tie as tie
 
-no_site : tie.Need-returns
-no_site c = rw c.if1.true refl
+no_site : tie.Need-returns-then-v-eq0
+no_site c = rw c.if-v-eq0.true refl
 
-site : tie.Need-returns-2
+site : tie.Need-returns
 site c = let a = c.before.before.args in
     let next : suc (a.v - 1) ≡ a.v = omega arith in
     ap (mark a.marks.now) next
 
-pub mark-at-spec : {M : Type 1} → statement M
-mark-at-spec = tie.close (tie.spec no_site (λ c. omega arith) (λ c. omega arith) site)
+pub mark_at_spec : {M : Type 1} → statement M
+mark_at_spec = tie.close (tie.spec no_site (λ c. omega arith) (λ c. omega arith) site)

@@ -15,20 +15,20 @@ use Rattle.tree_links.proofs.Summing.{SummedTo, sums_start, sums_next, room, roo
 use Rattle.tree_links.proofs.sums.Statement.{statement}
 use Rattle.tree_links.proofs.sums.Tie as tie
 
-abbrev invariant-loop : tie.invariant-loop
+abbrev invariant-loop : tie.invariant-loop-j
 invariant-loop one two capacity list₀ j₀ j-end list j = (j ≤ length one) × SummedTo one two capacity j list
 
-abbrev decreases-loop : tie.decreases-loop
+abbrev decreases-loop : tie.decreases-loop-j
 decreases-loop one two capacity list₀ j₀ j-end list j = length one - j
 
 -- the link at hand: two sites of the list, and a capacity within the limit
-turn : (c : tie.In-loop invariant-loop decreases-loop) → let a = c.before.before.args in let j = c.before.loop.j in
+turn : (c : tie.In-loop-j invariant-loop decreases-loop) → let a = c.before.before.args in let j = c.before.loop-j.j in
     (j < length a.two.now) × (j < length a.capacity.now) × (j < LINKS) × (look a.one.now j ≤ SITES) × (look a.two.now j ≤ SITES)
     × (look a.one.now j ≢ look a.two.now j)
 turn c =
     let s = c.before.before in
     let a = s.args in
-    let j = c.before.loop.j in
+    let j = c.before.loop-j.j in
     let w = s.requires in
     let p = offer-placed w in
     let l : j < length a.one.now = omega arith in
@@ -44,37 +44,37 @@ turn c =
     )
 
 -- the capacities up to the link at hand are within the limit
-small : (c : tie.In-loop invariant-loop decreases-loop) → (i : ℕ) → i ≤ c.before.loop.j → look c.before.before.args.capacity.now i ≤ SIZE
+small : (c : tie.In-loop-j invariant-loop decreases-loop) → (i : ℕ) → i ≤ c.before.loop-j.j → look c.before.before.args.capacity.now i ≤ SIZE
 small c i h = c.before.before.requires.limited i (omega (arith, (turn c).1))
 
-add-first : tie.Need-overflow-add-list invariant-loop decreases-loop
-add-first c = let i = c.before.before.before in let t = turn i in omega (arith, room i.before.loop.invariant.1 t.2 (small i) _ t.3)
+add-first : tie.Need-overflow_add-list invariant-loop decreases-loop
+add-first c = let i = c.before.before.before in let t = turn i in omega (arith, room i.before.loop-j.invariant.1 t.2 (small i) _ t.3)
 
-add-second : tie.Need-overflow-add-list-2 invariant-loop decreases-loop
+add-second : tie.Need-overflow_add-list-in-loop-j invariant-loop decreases-loop
 add-second c =
     let i = c.before.before.before in
     let a = i.before.before.args in
     let t = turn i in
-    let raised = look i.before.loop.list (look a.one.now i.before.loop.j) + look a.capacity.now i.before.loop.j in
-    omega (arith, room_beside i.before.loop.invariant.1 t.2 (small i) _ _ raised t.4 t.5)
+    let raised = look i.before.loop-j.list (look a.one.now i.before.loop-j.j) + look a.capacity.now i.before.loop-j.j in
+    omega (arith, room_beside i.before.loop-j.invariant.1 t.2 (small i) _ _ raised t.4 t.5)
 
-next : tie.Need-loop-preserved invariant-loop decreases-loop
+next : tie.Need-loop-j-preserved invariant-loop decreases-loop
 next c =
     let i = c.before.before.before in
     let t = turn i in
-    (omega arith, sums_next i.before.loop.invariant.1 (omega arith) t.0 t.5 t.3 t.4)
+    (omega arith, sums_next i.before.loop-j.invariant.1 (omega arith) t.0 t.5 t.3 t.4)
 
 at-end : tie.Need-returns invariant-loop decreases-loop
 unfolding sum_at
 at-end c v h =
     let s = c.before.before in
     let a = s.args in
-    let all : c.before.loop.j ≡ length (links a.one.now a.two.now) =
+    let all : c.before.loop-j.j ≡ length (links a.one.now a.two.now) =
     omega (arith, length-links a.one.now a.two.now (sym (offer-placed s.requires).seconds)) in
-    rw (← all) (c.before.loop.invariant.1.sums v h)
+    rw (← all) (c.before.loop-j.invariant.1.sums v h)
 
-pub sums-spec : {M : Type 1} → statement M
-sums-spec =
+pub sums_spec : {M : Type 1} → statement M
+sums_spec =
     tie.close
     (tie.spec
     invariant-loop

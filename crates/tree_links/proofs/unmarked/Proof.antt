@@ -12,10 +12,10 @@ use Rattle.model.specs.Flows.{mark}
 use Rattle.tree_links.proofs.unmarked.Statement.{statement}
 use Rattle.tree_links.proofs.unmarked.Tie as tie
 
-abbrev invariant-loop : tie.invariant-loop
+abbrev invariant-loop : tie.invariant-loop-i
 invariant-loop marks i₀ i-end i = (i ≤ length marks) × ((k : ℕ) → k < i → look marks k ≢ 1)
 
-abbrev decreases-loop : tie.decreases-loop
+abbrev decreases-loop : tie.decreases-loop-i
 decreases-loop marks i₀ i-end i = length marks - i
 
 -- the marks are those of the sites 1, 2, ..
@@ -25,18 +25,18 @@ every-mark marks none (suc k) e = cases (dec_lt k (length marks))
     (λ l. none k l e)
     (λ d. absurd (omega (arith, e, get_or-eq_default marks 0 {n = k} (omega arith))))
 
-marked : tie.Need-returns invariant-loop decreases-loop
-marked c none = none (suc c.before.before.before.loop.i) c.if1.true
+marked : tie.Need-returns-then-marks-i-eq1 invariant-loop decreases-loop
+marked c none = none (suc c.before.before.before.loop-i.i) c.if-marks-i-eq1.true
 
-next : tie.Need-loop-preserved invariant-loop decreases-loop
+next : tie.Need-loop-i-preserved invariant-loop decreases-loop
 next c = let top = c.before.before.before in
-    (omega arith, below_more (λ k. look top.before.args.marks.now k ≢ 1) top.loop.i top.loop.invariant.1 c.if1.false)
+    (omega arith, below_more (λ k. look top.before.args.marks.now k ≢ 1) top.loop-i.i top.loop-i.invariant.1 c.if-marks-i-eq1.false)
 
-at-end : tie.Need-returns-2 invariant-loop decreases-loop
-at-end c = every-mark c.before.before.args.marks.now (λ k l. c.before.loop.invariant.1 k (omega arith))
+at-end : tie.Need-returns invariant-loop decreases-loop
+at-end c = every-mark c.before.before.args.marks.now (λ k l. c.before.loop-i.invariant.1 k (omega arith))
 
-pub unmarked-spec : {M : Type 1} → statement M
-unmarked-spec =
+pub unmarked_spec : {M : Type 1} → statement M
+unmarked_spec =
     tie.close
     (tie.spec
     invariant-loop

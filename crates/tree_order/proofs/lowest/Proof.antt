@@ -5,19 +5,19 @@ use Rattle.lists.specs.Sums.{cases}
 use Rattle.tree_order.proofs.lowest.Statement.{statement}
 use Rattle.tree_order.proofs.lowest.Tie as tie
 
-known : tie.Need-returns
+known : tie.Need-returns-then-search-ne0
 known c = let b = c.before.before.requires.1 in
-    let k = b.known c.if1.true in
+    let k = b.known c.if-search-ne0.true in
     record {
-      none = λ e. absurd (c.if1.true e);
+      none = λ e. absurd (c.if-search-ne0.true e);
       some = λ d. (k.0, k.2);
       below = λ d x p h l. b.others x p (omega arith) (λ e. omega arith);
     }
 
-searched : tie.Need-returns-2
+searched : tie.Need-returns
 searched c =
     let b = c.before.before.before.requires.1 in
-    let f = c.lowest-from.ensures in
+    let f = c.lowest_from.ensures in
     let from = c.before.before.before.args.search.from in
     record {
       none = λ e x p h. cases (dec_lt x from) (λ l. b.others x p l (λ z. omega arith)) (λ l. f.none e x p (omega arith));
@@ -25,5 +25,5 @@ searched c =
       below = λ d x p h l. cases (dec_lt x from) (λ k. b.others x p k (λ z. omega arith)) (λ k. f.below d x p (omega arith) l);
     }
 
-pub lowest-spec : {M : Type 1} → statement M
-lowest-spec = tie.close (tie.spec known (λ c κs. let b = c.before.before.requires.1.site in (omega arith, omega arith, omega arith)) searched)
+pub lowest_spec : {M : Type 1} → statement M
+lowest_spec = tie.close (tie.spec known (λ c κs. let b = c.before.before.requires.1.site in (omega arith, omega arith, omega arith)) searched)

@@ -5,11 +5,11 @@ use Rattle.theory_trees.specs.Sites.{sites_once}
 use Rattle.tree_order.proofs.others.Statement.{statement}
 use Rattle.tree_order.proofs.others.Tie as tie
 
-no_root : tie.Need-returns
+no_root : tie.Need-returns-then-root-eq0
 no_root c = let a = c.before.args in omega (arith, count_low 1 a.n a.root (omega arith))
 
-root : tie.Need-returns-2
+root : tie.Need-returns-else-root-eq0
 root c = let a = c.before.args in omega (arith, sites_once a.n a.root (omega arith, omega arith))
 
-pub others-spec : {M : Type 1} → statement M
-others-spec = tie.close (tie.spec (λ c. omega arith) no_root root)
+pub others_spec : {M : Type 1} → statement M
+others_spec = tie.close (tie.spec (λ c. omega arith) no_root root)

@@ -6,20 +6,20 @@ use Rattle.tree_order.specs.Steps.{Over}
 use Rattle.tree_order.proofs.take.Statement.{statement}
 use Rattle.tree_order.proofs.take.Tie as tie
 
-over : (c : tie.Else1) → let s = c.before.before in Over s.requires.n s.args.one.now s.args.two.now s.args.keys.now s.args.v
-over c = c.before.before.requires.over c.if1.false
+over : (c : tie.Else-share-eq0) → let s = c.before.before.before in Over s.requires.n s.args.one.now s.args.two.now s.args.keys.now s.args.v
+over c = c.before.before.before.requires.over c.if-share-eq0.false
 
-alone : tie.Need-returns
-alone c = record { alone = λ e. (refl, refl); over = λ d. absurd (d c.if1.true) }
+alone : tie.Need-returns-then-share-eq0
+alone c = record { alone = λ e. (refl, refl); over = λ d. absurd (d c.if-share-eq0.true) }
 
-enough : tie.Need-overflow-sub-keys
+enough : tie.Need-overflow_sub-keys
 enough c =
-    let s = c.before.before.before.before.before in
+    let s = c.before.before.before.before.before.before in
     let o = over c.before.before.before in
     omega (arith, o.less, get_or-set_other s.args.keys.now s.args.v _ 131072 0 o.other)
 
-taken : tie.Need-returns-2
-taken c = record { alone = λ e. absurd (c.before.before.before.if1.false e); over = λ d. (refl, refl) }
+taken : tie.Need-returns
+taken c = record { alone = λ e. absurd (c.before.before.before.if-share-eq0.false e); over = λ d. (refl, refl) }
 
 pub take_spec : {M : Type 1} → statement M
 take_spec =

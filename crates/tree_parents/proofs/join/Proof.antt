@@ -9,42 +9,42 @@ use Rattle.tree_parents.proofs.join.Statement.{statement}
 use Rattle.tree_parents.proofs.join.Tie as tie
 
 -- both roots have places
-placed : (c : tie.After-root-by-halves2) → let first = c.before.before.before.before in let now = c.root-by-halves2.new.0 in
-    (first.root-by-halves.result < length now) × (c.root-by-halves2.result < length now)
+placed : (c : tie.After-root_by_halves-b) → let first = c.before.before.before.before in let now = c.root_by_halves-b.new.parents in
+    (first.root_by_halves-a.result < length now) × (c.root_by_halves-b.result < length now)
     × (length now ≡ length first.before.before.before.args.parents.now)
 placed c =
     let first = c.before.before.before.before in
-    let f = first.root-by-halves.ensures in
-    let g = c.root-by-halves2.ensures in
+    let f = first.root_by_halves-a.ensures in
+    let g = c.root_by_halves-b.ensures in
     let pre = first.before.before.before.requires in
     roots_placed f.0 f.1 g.0 g.1 pre.1 pre.2
 
-root-by-halves-requires-2 : tie.Need-root-by-halves-requires-2
+root-by-halves-requires-2 : tie.Need-root_by_halves-b-requires
 root-by-halves-requires-2 c κs =
     let first = c.before.before.before in
-    let s = first.root-by-halves.ensures.1 in
+    let s = first.root_by_halves-a.ensures.1 in
     (s.lower, omega (arith, s.long, first.before.before.before.requires.2))
 
-returns : tie.Need-returns
+returns : tie.Need-returns-then-a-b
 returns c =
     let second = c.before.before.before.before in
     let first = second.before.before.before.before in
-    let f = first.root-by-halves.ensures in
-    let g = second.root-by-halves2.ensures in
+    let f = first.root_by_halves-a.ensures in
+    let g = second.root_by_halves-b.ensures in
     let pre = first.before.before.before.requires in
     joined-first f.0 f.1 g.0 g.1 pre.1 pre.2 (omega arith)
 
-returns-2 : tie.Need-returns-2
+returns-2 : tie.Need-returns-else-a-b
 returns-2 c =
     let second = c.before.before.before.before in
     let first = second.before.before.before.before in
-    let f = first.root-by-halves.ensures in
-    let g = second.root-by-halves2.ensures in
+    let f = first.root_by_halves-a.ensures in
+    let g = second.root_by_halves-b.ensures in
     let pre = first.before.before.before.requires in
     joined-second f.0 f.1 g.0 g.1 pre.1 pre.2 (omega arith)
 
-pub join-spec : {M : Type 1} → statement M
-join-spec =
+pub join_spec : {M : Type 1} → statement M
+join_spec =
     tie.close
     (tie.spec
     (λ c κs. search rules)

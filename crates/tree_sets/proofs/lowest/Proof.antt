@@ -10,8 +10,8 @@ returns : tie.Need-returns
 unfolding lowest
 returns c = search rules
 
-pub lowest-spec : {M : Type 1} → statement M
-lowest-spec =
+pub lowest_spec : {M : Type 1} → statement M
+lowest_spec =
     tie.close
     (tie.spec
     (λ c. search rules)

@@ -18,40 +18,40 @@ use Rattle.trimming.specs.Outcome.{decide, answer, capacities, after, trimmed}
 use Rattle.trimming.proofs.trim.Statement.{statement}
 use Rattle.trimming.proofs.trim.Tie as tie
 
-no-tree : tie.Need-returns-2
+no-tree : tie.Need-returns-in-NoTree
 unfolding answer decide trimmed after
 no-tree c =
-    let said = sym (eliminated_says _ _ _ _ _) ∙ sym (ap (λ r. r.offer) c.before.before.before.eliminate.ensures) ∙ c.enum_told.given.1 in
+    let said = sym (eliminated_says _ _ _ _ _) ∙ sym (ap (λ r. r.offer) c.before.before.eliminate-tree.ensures) ∙ c.in-NoTree.is in
     (rw said refl, rw said refl)
 
-too_large : tie.Need-returns-3
+too_large : tie.Need-returns-in-TooLarge
 unfolding answer decide trimmed after
 too_large c =
-    let said = sym (eliminated_says _ _ _ _ _) ∙ sym (ap (λ r. r.offer) c.before.before.before.eliminate.ensures) ∙ c.enum-told2.given.1 in
+    let said = sym (eliminated_says _ _ _ _ _) ∙ sym (ap (λ r. r.offer) c.before.before.eliminate-tree.ensures) ∙ c.in-TooLarge.is in
     (rw said refl, rw said refl)
 
 -- the offer was accepted
-accepted : (c : tie.After-enum-told3) → let a = c.before.before.before.before.before.before.before.before.before.args in
+accepted : (c : tie.In-Accepted) → let a = c.before.before.before.before.before.before.before.before.args in
     offer largest a.n a.one.now a.two.now a.marks.now a.capacity.now ≡ Accepted
-accepted c = sym (eliminated_says _ _ _ _ _) ∙ sym (ap (λ r. r.offer) c.before.before.before.eliminate.ensures) ∙ c.enum-told3.given.1
+accepted c = sym (eliminated_says _ _ _ _ _) ∙ sym (ap (λ r. r.offer) c.before.before.eliminate-tree.ensures) ∙ c.in-Accepted.is
 
-tree : (c : tie.After-enum-told3) → let a = c.before.before.before.before.before.before.before.before.before.args in
+tree : (c : tie.In-Accepted) → let a = c.before.before.before.before.before.before.before.before.args in
     MarkedTree largest a.n a.one.now a.two.now a.marks.now a.capacity.now
-tree c = let a = c.before.before.before.before.before.before.before.before.before.args in
+tree c = let a = c.before.before.before.before.before.before.before.before.args in
     accepted_is_a_tree_within_the_limits largest a.n a.one.now a.two.now a.marks.now a.capacity.now (accepted c)
 
-order : (c : tie.After-enum-told3) → let a = c.before.before.before.before.before.before.before.before.before.args in
-    take a.n c.before.before.before.eliminate.result.sites ≡ elimination (links a.one.now a.two.now) a.n
-order c = let a = c.before.before.before.before.before.before.before.before.before.args in
-    ap (λ r. take a.n r.sites) c.before.before.before.eliminate.ensures
+order : (c : tie.In-Accepted) → let a = c.before.before.before.before.before.before.before.before.args in
+    take a.n c.before.before.eliminate-tree.result.sites ≡ elimination (links a.one.now a.two.now) a.n
+order c = let a = c.before.before.before.before.before.before.before.before.args in
+    ap (λ r. take a.n r.sites) c.before.before.eliminate-tree.ensures
     ∙ eliminated_in_order a.n a.one.now a.two.now a.marks.now a.capacity.now (accepted c)
 
 -- there are as many balanced capacities as given ones
-as_long : (c : tie.After-enum-told3) → let a = c.before.before.before.before.before.before.before.before.before.args in
+as_long : (c : tie.In-Accepted) → let a = c.before.before.before.before.before.before.before.before.args in
     length a.capacity.now ≡ length (capacities a.n a.one.now a.two.now a.marks.now a.capacity.now)
 unfolding capacities
 as_long c =
-    let a = c.before.before.before.before.before.before.before.before.before.args in
+    let a = c.before.before.before.before.before.before.before.before.args in
     let t = tree c in
     let ls = links a.one.now a.two.now in
     omega (
@@ -60,31 +60,31 @@ as_long c =
       length-links a.one.now a.two.now (omega arith),
     )
 
-short : tie.Need-returns
+short : tie.Need-returns-then-lent-one
 unfolding answer decide trimmed after
 short c =
-    let a = c.before.before.before.before.before.before.before.before.before.before.args in
-    let few = lt-leb (length a.one.now) (length a.lent.now) c.if1.true in
+    let a = c.before.before.before.before.before.before.before.before.before.args in
+    let few = lt-leb (length a.one.now) (length a.lent.now) c.if-lent-one.true in
     (rw (accepted c.before, few) refl, rw (accepted c.before, few) refl)
 
-accepted_tree : tie.Need-balance-by-ends-requires
+accepted_tree : tie.Need-balance_by_ends-requires
 accepted_tree c κs =
     let e = c.before.before in
-    (tree e, order e, c.before.if1.false)
+    (tree e, order e, c.before.if-lent-one.false)
 
-balanced : tie.Need-returns-4
+balanced : tie.Need-returns-else-lent-one
 unfolding answer decide trimmed after
 balanced c =
     let e = c.before.before.before.before.before in
-    let a = e.before.before.before.before.before.before.before.before.before.args in
-    let enough = le-leb (length a.one.now) (length a.lent.now) c.before.before.before.before.if1.false in (
+    let a = e.before.before.before.before.before.before.before.before.args in
+    let enough = le-leb (length a.one.now) (length a.lent.now) c.before.before.before.before.if-lent-one.false in (
       rw (accepted e, enough) refl,
-      rw (accepted e, enough) (c.before.before.balance-by-ends.ensures
+      rw (accepted e, enough) (c.before.before.balance_by_ends.ensures
           ∙ ap (λ k. capacities a.n a.one.now a.two.now a.marks.now a.capacity.now ++ drop k a.lent.now) (as_long e)),
     )
 
-pub trim-spec : {M : Type 1} → statement M
-trim-spec =
+pub trim_spec : {M : Type 1} → statement M
+trim_spec =
     tie.close
     (tie.spec
     (λ c κs. tt)

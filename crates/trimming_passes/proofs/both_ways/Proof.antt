@@ -13,12 +13,12 @@ use Rattle.trimming_passes.proofs.Laws.{places-enough}
 use Rattle.trimming_passes.proofs.both_ways.Statement.{statement}
 use Rattle.trimming_passes.proofs.both_ways.Tie as tie
 
-abbrev invariant-loop : tie.invariant-loop
+abbrev invariant-loop : tie.invariant-loop-i
 invariant-loop n order ends last before one two sums₀ capacity₀ i₀ i-end sums capacity i =
     (i ≤ 2 * n) × (length capacity ≡ length capacity₀) × SumsKept one two capacity sums
     × (capacity ≡ cut_first one two (look ends) (take i (both_ways (take n order))) capacity₀)
 
-abbrev decreases-loop : tie.decreases-loop
+abbrev decreases-loop : tie.decreases-loop-i
 decreases-loop n order ends last before one two sums₀ capacity₀ i₀ i-end sums capacity i = 2 * n - i
 
 -- the way along the order and back
@@ -31,7 +31,7 @@ enough s = places-enough s.args.n s.args.order.now s.requires.1
 long : (s : tie.Start invariant-loop decreases-loop) → length (way s) ≡ 2 * s.args.n
 long s = length_both_ways s.args.n s.args.order.now (enough s)
 
-start : tie.Need-loop-init invariant-loop decreases-loop
+start : tie.Need-loop-i-init invariant-loop decreases-loop
 start c =
     let s = c.before.before.before in
     let a = s.args in
@@ -39,28 +39,28 @@ start c =
 
 cut-requires : tie.Need-cut-requires invariant-loop decreases-loop
 cut-requires c κs =
-    let t = c.before.before.before.before.before in
+    let t = c.before.before.before.before.before.before in
     let s = t.before.before.before.before in
     let a = s.args in (
-      rw c.before.before.before.there_and_back.ensures (in_places_on_the_way a.n a.order.now (enough s) t.loop.i (omega arith) s.requires.1),
+      rw c.before.before.before.before.there_and_back.ensures (in_places_on_the_way a.n a.order.now (enough s) t.loop-i.i (omega arith) s.requires.1),
       s.requires.2,
-      t.loop.invariant.2,
+      t.loop-i.invariant.2,
     )
 
-next : tie.Need-loop-preserved invariant-loop decreases-loop
+next : tie.Need-loop-i-preserved invariant-loop decreases-loop
 next c =
-    let t = c.before.before.before.before.before.before.before.before in
+    let t = c.before.before.before.before.before.before.before.before.before in
     let s = t.before.before.before.before in
     let a = s.args in
-    let i = t.loop.i in
-    let more = c.before.before.before.before.before.before.before.loop-test.true in
-    let site = ap (look a.order.now) c.before.before.before.before.before.before.there_and_back.ensures
+    let i = t.loop-i.i in
+    let more = c.before.before.before.before.before.before.before.before.loop-i-test.true in
+    let site = ap (look a.order.now) c.before.before.before.before.before.before.before.there_and_back.ensures
     ∙ on_the_way a.n a.order.now (enough s) i (omega (arith, more)) in (
       omega (arith, more),
-      c.before.before.cut.auto.1.1.1.1.1.1.1.0 ∙ t.loop.invariant.1,
+      c.before.before.cut.auto.capacity ∙ t.loop-i.invariant.1,
       c.before.before.cut.ensures.1,
       c.before.before.cut.ensures.0
-          ∙ ap₂ (λ v l. cut_first a.one.now a.two.now (look a.ends.now) (v ∷ []) l) site t.loop.invariant.3
+          ∙ ap₂ (λ v l. cut_first a.one.now a.two.now (look a.ends.now) (v ∷ []) l) site t.loop-i.invariant.3
           ∙ first_more a.one.now a.two.now (look a.ends.now) s.requires.2.placed.seconds (take i (way s)) (look (way s) i ∷ []) a.capacity.now
           s.requires.3.each
           ∙ ap (λ vs. cut_first a.one.now a.two.now (look a.ends.now) vs a.capacity.now)
@@ -71,14 +71,14 @@ at-end : tie.Need-returns invariant-loop decreases-loop
 at-end c =
     let s = c.before.before.before.before.before in
     let a = s.args in (
-      c.before.loop.invariant.3 ∙ ap (λ vs. cut_first a.one.now a.two.now (look a.ends.now) vs a.capacity.now)
-          (take_all c.before.loop.i (way s) (omega (arith, long s)))
+      c.before.loop-i.invariant.3 ∙ ap (λ vs. cut_first a.one.now a.two.now (look a.ends.now) vs a.capacity.now)
+          (take_all c.before.loop-i.i (way s) (omega (arith, long s)))
           ∙ both_ways_balance a.one.now a.two.now (look a.ends.now) s.requires.2.placed.seconds (take a.n a.order.now) a.capacity.now,
-      c.before.loop.invariant.2,
+      c.before.loop-i.invariant.2,
     )
 
-pub both-ways-spec : {M : Type 1} → statement M
-both-ways-spec =
+pub both_ways_spec : {M : Type 1} → statement M
+both_ways_spec =
     tie.close
     (tie.spec
     invariant-loop
@@ -92,5 +92,5 @@ both-ways-spec =
     (λ c. omega arith)
     (λ c. omega arith)
     next
-    (λ c. c.before.loop.invariant.1)
+    (λ c. c.before.loop-i.invariant.1)
     at-end)

@@ -9,23 +9,23 @@ use Rattle.trimming_passes.proofs.Copying.{filled_copy}
 use Rattle.trimming_passes.proofs.copy.Statement.{statement}
 use Rattle.trimming_passes.proofs.copy.Tie as tie
 
-abbrev invariant-loop : tie.invariant-loop
+abbrev invariant-loop : tie.invariant-loop-j
 invariant-loop from to₀ j₀ j-end to j = (j ≤ length from) × (length to ≡ length to₀) × (to ≡ filled (look from) j to₀)
 
-abbrev decreases-loop : tie.decreases-loop
+abbrev decreases-loop : tie.decreases-loop-j
 decreases-loop from to₀ j₀ j-end to j = length from - j
 
-next : tie.Need-loop-preserved invariant-loop decreases-loop
+next : tie.Need-loop-j-preserved invariant-loop decreases-loop
 next c =
     let top = c.before.before in
     let a = top.before.args in
-    (omega arith, simp length-set top.loop.invariant.1, filled_next (look a.from.now) top.loop.j a.to.now (omega arith) top.loop.invariant.2 refl)
+    (omega arith, simp length-set top.loop-j.invariant.1, filled_next (look a.from.now) top.loop-j.j a.to.now (omega arith) top.loop-j.invariant.2 refl)
 
 at-end : tie.Need-returns invariant-loop decreases-loop
 at-end c =
     let a = c.before.before.args in
-    let all : c.before.loop.j ≡ length a.from.now = omega arith in
-    c.before.loop.invariant.2 ∙ ap (λ j. filled (look a.from.now) j a.to.now) all ∙ filled_copy a.from.now a.to.now
+    let all : c.before.loop-j.j ≡ length a.from.now = omega arith in
+    c.before.loop-j.invariant.2 ∙ ap (λ j. filled (look a.from.now) j a.to.now) all ∙ filled_copy a.from.now a.to.now
 
 pub copy_spec : {M : Type 1} → statement M
 copy_spec =

@@ -14,20 +14,20 @@ use Rattle.trimming_passes.proofs.Laws.{cut-none, cut-one}
 use Rattle.trimming_passes.proofs.cut.Statement.{statement}
 use Rattle.trimming_passes.proofs.cut.Tie as tie
 
-terminal : tie.Need-returns
+terminal : tie.Need-returns-then-ends-v-eq1
 terminal c =
-    let s = c.before.before.before.before.before in
+    let s = c.before.before.before.before.before.before in
     let a = s.args in
     let k = s.requires.2 in (
       cut-none a.one.now a.two.now (look a.ends.now) k.placed.seconds a.v a.capacity.now k.each
-          (λ j l at-v inner. absurd (inner c.if1.true)),
+          (λ j l at-v inner. absurd (inner c.if-ends-v-eq1.true)),
       k,
     )
 
 -- where the function began
-abbrev begun : tie.After-middle-at → tie.Start
+abbrev begun : tie.After-middle_at-p → tie.Start
 begun m =
-    let earlier = m.before.before.before.before.before.before.before.before in
+    let earlier = m.before.before.before.before.before.before.before.before.before in
     earlier
 
 -- the tree's links
@@ -42,38 +42,38 @@ known : (s : tie.Start) → look s.args.sums.now s.args.v ≡ sum_at (ls s) s.ar
 known s = s.requires.2.summed s.args.v s.requires.0
 
 -- the middle link has no more than the sum
-fits : (c : tie.Else2) → let m = c.before in let a = (begun m).args in look a.capacity.now (m.middle-at.result - 1) ≤ look a.sums.now a.v
+fits : (c : tie.Else-p-eq0) → let m = c.before in let a = (begun m).args in look a.capacity.now (m.middle_at-p.result - 1) ≤ look a.sums.now a.v
 fits c =
     let m = c.before in
     let s = begun m in
     let a = s.args in
-    let there = m.middle-at.ensures.there in
-    let p = m.middle-at.result in
-    omega (arith, known s, others-add (ls s) a.v (p - 1) (look a.capacity.now) (omega (arith, there.0, c.if2.false)) (there.1 (omega (arith, c.if2.false))))
+    let there = m.middle_at-p.ensures.there in
+    let p = m.middle_at-p.result in
+    omega (arith, known s, others-add (ls s) a.v (p - 1) (look a.capacity.now) (omega (arith, there.0, c.if-p-eq0.false)) (there.1 (omega (arith, c.if-p-eq0.false))))
 
-none-middle : tie.Need-returns-2
+none-middle : tie.Need-returns-then-p-eq0
 none-middle c =
     let m = c.before in
     let s = begun m in
     let a = s.args in
-    let k = s.pre.2 in (
+    let k = s.requires.2 in (
       cut-none a.one.now a.two.now (look a.ends.now) k.placed.seconds a.v a.capacity.now k.each
-          (λ j l at-v inner. m.middle-at.ensures.others j l at-v (λ z. omega (arith, c.if2.true))),
+          (λ j l at-v inner. m.middle_at-p.ensures.others j l at-v (λ z. omega (arith, c.if-p-eq0.true))),
       k,
     )
 
-not-heavy : tie.Need-returns-3
+not-heavy : tie.Need-returns-then-t-sum
 not-heavy c =
     let e = c.before.before in
     let m = e.before in
     let s = begun m in
     let a = s.args in
-    let k = s.pre.2 in
-    let p = m.middle-at.result in (
+    let k = s.requires.2 in
+    let p = m.middle_at-p.result in (
       cut-none a.one.now a.two.now (look a.ends.now) k.placed.seconds a.v a.capacity.now k.each
           (λ j l at-v inner. same? j (p - 1)
-          (λ z. rw z (omega (arith, c.if3.true, fits e, known s)))
-          (λ z. m.middle-at.ensures.others j l at-v (λ y. z (omega arith)))),
+          (λ z. rw z (omega (arith, c.if-t-sum.true, fits e, known s)))
+          (λ z. m.middle_at-p.ensures.others j l at-v (λ y. z (omega arith)))),
       k,
     )
 
@@ -81,20 +81,20 @@ lower-requires : tie.Need-lower-requires
 lower-requires c κs =
     let e = c.before.before.before.before in
     let s = begun e.before in
-    (omega (arith, e.before.middle-at.ensures.there.0, number s, e.if2.false), omega arith, s.pre.2)
+    (omega (arith, e.before.middle_at-p.ensures.there.0, number s, e.if-p-eq0.false), omega arith, s.requires.2)
 
-heavy : tie.Need-returns-4
+heavy : tie.Need-returns
 heavy c =
     let h = c.before.before.before.before.before in
     let e = h.before.before in
     let m = e.before in
     let s = begun m in
     let a = s.args in
-    let k = s.pre.2 in
+    let k = s.requires.2 in
     let done = c.before.before.lower.ensures in (
       done.0
-          ∙ cut-one a.one.now a.two.now (look a.ends.now) k.placed.seconds a.v a.capacity.now m.middle-at.result _ k.each
-          m.before.before.before.if1.false m.middle-at.ensures (omega (arith, e.if2.false)) (omega (arith, h.if3.false, fits e, known s)),
+          ∙ cut-one a.one.now a.two.now (look a.ends.now) k.placed.seconds a.v a.capacity.now m.middle_at-p.result _ k.each
+          m.before.before.before.if-ends-v-eq1.false m.middle_at-p.ensures (omega (arith, e.if-p-eq0.false)) (omega (arith, h.if-t-sum.false, fits e, known s)),
       done.1,
     )
 
@@ -106,12 +106,12 @@ cut_spec =
     terminal
     (λ c. omega arith)
     (λ c. omega arith)
-    (λ c κs. let s = c.before.before.before.before.before.before.before in (s.requires.0, s.requires.1, s.requires.2.each, known s))
+    (λ c κs. let s = c.before.before.before.before.before.before.before.before in (s.requires.0, s.requires.1, s.requires.2.each, known s))
     (λ c. search rules)
     none-middle
     (λ c. omega arith)
-    (λ c. let s = begun c.before in omega (arith, c.before.middle-at.ensures.there.0, number s, s.pre.2.placed.few))
-    (λ c. let e = c.before in let s = begun e.before in omega (arith, e.before.middle-at.ensures.there.0, number s, s.pre.2.each, e.if2.false))
+    (λ c. let s = begun c.before in omega (arith, c.before.middle_at-p.ensures.there.0, number s, s.requires.2.placed.few))
+    (λ c. let e = c.before in let s = begun e.before in omega (arith, e.before.middle_at-p.ensures.there.0, number s, s.requires.2.each, e.if-p-eq0.false))
     (λ c. fits c.before)
     (λ c. search rules)
     not-heavy

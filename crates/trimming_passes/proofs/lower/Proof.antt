@@ -13,20 +13,20 @@ use Rattle.trimming_passes.proofs.lower.Tie as tie
 placed : (s : tie.Start) → let a = s.args in (look a.one.now a.j ≤ SITES) × (look a.two.now a.j ≤ SITES)
 placed s = s.requires.2.placed.sites s.args.j s.requires.0
 
-from_first : tie.Need-overflow-sub-sums
+from_first : tie.Need-overflow_sub-sums
 from_first c =
-    let s = c.before.before.before.before in
+    let s = c.before.before.before.before.before in
     omega (arith, room_first s.requires.2 s.args.j s.requires.0, s.requires.1)
 
-from_second : tie.Need-overflow-sub-sums-2
+from_second : tie.Need-overflow_sub-sums-2
 from_second c =
-    let s = c.before.before.before.before.before in
+    let s = c.before.before.before.before.before.before in
     let a = s.args in
     omega (arith, room_second s.requires.2 a.j s.requires.0 (look a.sums.now (look a.one.now a.j) - a.d), s.requires.1)
 
 returns : tie.Need-returns
 returns c =
-    let s = c.before.before.before.before.before in
+    let s = c.before.before.before.before.before.before in
     (refl, lowered-kept s.requires.2 s.args.j s.requires.0 s.args.d s.requires.1)
 
 pub lower_spec : {M : Type 1} → statement M
@@ -42,12 +42,12 @@ lower_spec =
     (λ c. omega arith)
     (λ c. omega arith)
     (λ c. omega (arith, placed c.before.before.before))
-    (λ c. omega (arith, placed c.before.before.before))
+    (λ c. omega (arith, placed c.before.before.before.before))
     from_first
-    (λ c. omega (arith, placed c.before.before.before.before))
-    (λ c. omega (arith, placed c.before.before.before.before))
-    (λ c. omega (arith, placed c.before.before.before.before))
-    from_second
     (λ c. omega (arith, placed c.before.before.before.before.before))
+    (λ c. omega (arith, placed c.before.before.before.before.before))
+    (λ c. omega (arith, placed c.before.before.before.before.before))
+    from_second
+    (λ c. omega (arith, placed c.before.before.before.before.before.before))
     (λ c. search rules)
     returns)

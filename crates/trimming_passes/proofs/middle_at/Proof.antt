@@ -14,18 +14,18 @@ use Rattle.tree_links.specs.Chains.{last_at, On, on_last, last_le, last_none, la
 use Rattle.trimming_passes.proofs.middle_at.Statement.{statement}
 use Rattle.trimming_passes.proofs.middle_at.Tie as tie
 
-abbrev invariant-loop : tie.invariant-loop
+abbrev invariant-loop : tie.invariant-loop-p
 invariant-loop v total last before one two capacity passed₀ p₀ passed p =
     On (links one two) v (length one) p × (passed + sum p (λ i. at (links one two) v i * look capacity i) ≡ total)
     × ((i : ℕ) → p ≤ i → i < length one → at (links one two) v i ≡ 1 → look capacity i + look capacity i ≤ total)
 
-abbrev decreases-loop : tie.decreases-loop
+abbrev decreases-loop : tie.decreases-loop-p
 decreases-loop v total last before one two capacity passed₀ p₀ passed p = p
 
 -- where the loop began
-abbrev begun : tie.At-loop invariant-loop decreases-loop → tie.Start invariant-loop decreases-loop
+abbrev begun : tie.At-loop-p invariant-loop decreases-loop → tie.Start invariant-loop decreases-loop
 begun t =
-    let earlier = t.before.before.before.before.before in
+    let earlier = t.before.before.before.before.before.before in
     earlier
 
 -- the tree's links
@@ -43,9 +43,9 @@ whole : (s : tie.Start invariant-loop decreases-loop) → sum (length s.args.one
 unfolding sum_at
 whole s = ap (λ k. sum k (each s)) (sym (number s)) ∙ sym s.requires.3
 
-start : tie.Need-loop-init invariant-loop decreases-loop
+start : tie.Need-loop-p-init invariant-loop decreases-loop
 start c =
-    let s = c.before.before.before.before in
+    let s = c.before.before.before.before.before in
     let a = s.args in
     let m = length a.one.now in
     rw (s.requires.1.lasts a.v s.requires.0) (
@@ -55,84 +55,84 @@ start c =
     )
 
 -- what is passed with the link at hand, and what is ahead of it
-passing : (c : tie.In-loop invariant-loop decreases-loop) → let t = c.before in let s = begun t in
-    t.loop.passed + look s.args.capacity.now (t.loop.p - 1) + sum (last_at (ls s) (t.loop.p - 1) s.args.v) (each s) ≡ s.args.sum
+passing : (c : tie.In-loop-p invariant-loop decreases-loop) → let t = c.before in let s = begun t in
+    t.loop-p.passed + look s.args.capacity.now (t.loop-p.p - 1) + sum (last_at (ls s) (t.loop-p.p - 1) s.args.v) (each s) ≡ s.args.sum
 passing c =
     let t = c.before in
     let s = begun t in
-    let here = t.loop.invariant.0.1 c.loop-test.true in
+    let here = t.loop-p.invariant.0.1 c.loop-p-test.true in
     add_assoc _ _ _
-    ∙ ap (λ y. t.loop.passed + y) (sym (sum_back (ls s) s.args.v (look s.args.capacity.now) t.loop.p (omega arith) here))
-    ∙ t.loop.invariant.1
+    ∙ ap (λ y. t.loop-p.passed + y) (sym (sum_back (ls s) s.args.v (look s.args.capacity.now) t.loop-p.p (omega arith) here))
+    ∙ t.loop-p.invariant.1
 
 -- half of the sum is passed: what is ahead is less, and so is every link there
-found : tie.Need-returns invariant-loop decreases-loop
+found : tie.Need-returns-then-sum-passed invariant-loop decreases-loop
 found c =
     let i = c.before.before in
     let t = i.before in
     let s = begun t in
     let a = s.args in
-    let p = t.loop.p in
-    let on = t.loop.invariant.0 in
+    let p = t.loop-p.p in
+    let on = t.loop-p.invariant.0 in
     let link : (j : ℕ) → at (ls s) a.v j ≡ 1 → j < p - 1 → look a.capacity.now j ≤ sum (p - 1) (each s) = λ j at-v l.
     let part : at (ls s) a.v j * look a.capacity.now j ≤ sum (p - 1) (each s) = sum_ge (p - 1) j (each s) l in omega (arith, rw at-v at part) in
     record {
       there = (omega (arith, number s), on.1);
-      others = λ j l at-v d. rw (← s.pre.3) (cases (dec_le p j)
-          (λ h. t.loop.invariant.2 j h (omega (arith, number s)) at-v)
+      others = λ j l at-v d. rw (← s.requires.3) (cases (dec_le p j)
+          (λ h. t.loop-p.invariant.2 j h (omega (arith, number s)) at-v)
           (λ h. omega (
             arith,
             passing i,
-            c.if1.true,
+            c.if-sum-passed.true,
             last_sum (ls s) a.v (look a.capacity.now) (p - 1),
             link j at-v (omega arith),
           )));
     }
 
 -- the link before
-back : (c : tie.After-link-before invariant-loop decreases-loop) → let t = c.before.before.before.before in let s = begun t in
-    c.link-before.result ≡ last_at (ls s) (t.loop.p - 1) s.args.v
+back : (c : tie.After-link_before-p invariant-loop decreases-loop) → let t = c.before.before.before.before in let s = begun t in
+    c.link_before-p.result ≡ last_at (ls s) (t.loop-p.p - 1) s.args.v
 back c =
     let t = c.before.before.before.before in
     let s = begun t in
-    let here = t.loop.invariant.0.1 c.before.before.before.loop-test.true in
-    walk_goes_on s.pre.1 s.args.v (t.loop.p - 1) c.link-before.result (omega arith) here c.link-before.ensures
+    let here = t.loop-p.invariant.0.1 c.before.before.before.loop-p-test.true in
+    walk_goes_on s.requires.1 s.args.v (t.loop-p.p - 1) c.link_before-p.result (omega arith) here c.link_before-p.ensures
 
-falls : tie.Need-loop-smaller invariant-loop decreases-loop
+falls : tie.Need-loop-p-smaller invariant-loop decreases-loop
 falls c =
     let t = c.before.before.before.before in
     let s = begun t in
-    omega (arith, back c, last_le (ls s) s.args.v (t.loop.p - 1))
+    omega (arith, back c, last_le (ls s) s.args.v (t.loop-p.p - 1))
 
-next : tie.Need-loop-preserved invariant-loop decreases-loop
+next : tie.Need-loop-p-preserved invariant-loop decreases-loop
 next c =
     let i = c.before.before.before in
     let t = i.before in
     let s = begun t in
     let a = s.args in
-    let p = t.loop.p in
-    let half : t.loop.passed + look a.capacity.now (p - 1) + (t.loop.passed + look a.capacity.now (p - 1)) ≤ a.sum =
-    omega (arith, passing i, c.before.if1.false) in
+    let p = t.loop-p.p in
+    let half : t.loop-p.passed + look a.capacity.now (p - 1) + (t.loop-p.passed + look a.capacity.now (p - 1)) ≤ a.sum =
+    omega (arith, passing i, c.before.if-sum-passed.false) in
     rw (back c) (
       on_last (ls s) a.v (length a.one.now) (p - 1) (omega arith),
       passing i,
       λ j h l at-v. cases (dec_le p j)
-          (λ k. t.loop.invariant.2 j k l at-v)
+          (λ k. t.loop-p.invariant.2 j k l at-v)
           (λ k. same? j (p - 1) (λ e. rw e (omega (arith, half))) (λ d. absurd (last_none (ls s) a.v (p - 1) j h (omega arith) at-v))),
     )
 
 -- every link is behind
-none : tie.Need-returns-2 invariant-loop decreases-loop
+none : tie.Need-returns invariant-loop decreases-loop
 none c =
     let t = c.before in
     let s = begun t in
     record {
       there = (omega arith, λ h. absurd (omega arith));
-      others = λ j l at-v d. rw (← s.pre.3) (t.loop.invariant.2 j (omega arith) (omega (arith, number s)) at-v);
+      others = λ j l at-v d. rw (← s.requires.3) (t.loop-p.invariant.2 j (omega arith) (omega (arith, number s)) at-v);
     }
 
-pub middle-at-spec : {M : Type 1} → statement M
-middle-at-spec =
+pub middle_at_spec : {M : Type 1} → statement M
+middle_at_spec =
     tie.close
     (tie.spec
     invariant-loop
@@ -143,11 +143,11 @@ middle-at-spec =
     (λ c. omega arith)
     (λ c. omega arith)
     (λ c. omega arith)
-    (λ c. omega (arith, passing c.before, (begun c.before.before).fits.sum))
+    (λ c. omega (arith, passing c.before, (begun c.before.before).ranges.sum))
     (λ c. omega (arith, passing c.before))
     found
     (λ c. omega arith)
-    (λ c κs. let f = (begun c.before.before.before).pre.1.placed in (omega arith, omega arith, omega arith))
+    (λ c κs. let f = (begun c.before.before.before).requires.1.placed in (omega arith, omega arith, omega arith))
     falls
     next
     none)

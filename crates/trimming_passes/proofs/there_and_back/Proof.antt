@@ -3,5 +3,5 @@ use native.Mathlib.Omega.{arith}
 use Rattle.trimming_passes.proofs.there_and_back.Statement.{statement}
 use Rattle.trimming_passes.proofs.there_and_back.Tie as tie
 
-pub there-and-back-spec : {M : Type 1} → statement M
-there-and-back-spec = tie.close (tie.spec (λ c. omega arith) (λ c. omega arith) (λ c. omega arith) (λ c. omega arith) (λ c. omega arith))
+pub there_and_back_spec : {M : Type 1} → statement M
+there_and_back_spec = tie.close (tie.spec (λ c. omega arith) (λ c. omega arith) (λ c. omega arith) (λ c. omega arith) (λ c. omega arith))

@@ -9,30 +9,30 @@ use Rattle.whole_notes.specs.Notes.{note}
 use Rattle.whole_loads.proofs.link_loads.Statement.{statement}
 use Rattle.whole_loads.proofs.link_loads.Tie as tie
 
-abbrev invariant-loop : tie.invariant-loop
+abbrev invariant-loop : tie.invariant-loop-j
 invariant-loop m child lent₀ notes j₀ lent j = (j ≤ m) × (length lent ≡ length lent₀) × (lent ≡ filled (λ i. (note notes (look child i)).load) j lent₀)
 
-abbrev decreases-loop : tie.decreases-loop
+abbrev decreases-loop : tie.decreases-loop-j
 decreases-loop m child lent₀ notes j₀ lent j = m - j
 
-loop-again : tie.Need-loop-preserved invariant-loop decreases-loop
+loop-again : tie.Need-loop-j-preserved invariant-loop decreases-loop
 loop-again c =
-    let top = c.before.before.before.before in
+    let top = c.before.before.before.before.before in
     let a = top.before.args in (
       omega arith,
-      simp length-set top.loop.invariant.1,
-      filled_next (λ i. (note a.t3 (look a.child.now i)).load) top.loop.j a.lent.now (omega (arith, top.before.requires.1))
-          top.loop.invariant.2 refl,
+      simp length-set top.loop-j.invariant.1,
+      filled_next (λ i. (note a.notes (look a.child.now i)).load) top.loop-j.j a.lent.now (omega (arith, top.before.requires.1))
+          top.loop-j.invariant.2 refl,
     )
 
 returns : tie.Need-returns invariant-loop decreases-loop
 returns c =
     let a = c.before.before.args in
-    let all : c.before.loop.j ≡ a.m = omega arith in
-    c.before.loop.invariant.2 ∙ ap (λ j. filled (λ i. (note a.t3 (look a.child.now i)).load) j a.lent.now) all
+    let all : c.before.loop-j.j ≡ a.m = omega arith in
+    c.before.loop-j.invariant.2 ∙ ap (λ j. filled (λ i. (note a.notes (look a.child.now i)).load) j a.lent.now) all
 
-pub link-loads-spec : {M : Type 1} → statement M
-link-loads-spec =
+pub link_loads_spec : {M : Type 1} → statement M
+link_loads_spec =
     tie.close
     (tie.spec
     invariant-loop
@@ -40,15 +40,15 @@ link-loads-spec =
     (λ c. (omega arith, refl, filled_none _ _))
     (λ c. omega arith)
     (λ c. omega arith)
-    (λ c. omega (arith, c.before.before.before.requires.3 c.before.before.loop.j (omega arith)))
-    (λ c. omega (arith, c.before.before.before.requires.3 c.before.before.loop.j (omega arith)))
-    (λ c. omega (arith, c.before.before.before.requires.3 c.before.before.loop.j (omega arith), c.before.before.before.requires.2))
-    (λ c. let top = c.before.before.before.before in
-    omega (arith, (top.before.requires.4 (look top.before.args.child.now top.loop.j)).loaded))
+    (λ c. omega (arith, c.before.before.before.before.requires.3 c.before.before.before.loop-j.j (omega arith)))
+    (λ c. omega (arith, c.before.before.before.before.requires.3 c.before.before.before.loop-j.j (omega arith)))
+    (λ c. omega (arith, c.before.before.before.before.requires.3 c.before.before.before.loop-j.j (omega arith), c.before.before.before.before.requires.2))
+    (λ c. let top = c.before.before.before.before.before in
+    omega (arith, (top.before.requires.4 (look top.before.args.child.now top.loop-j.j)).loaded))
     (λ c. omega arith)
-    (λ c. omega (arith, c.before.before.before.before.before.requires.1, c.before.before.before.before.loop.invariant.1))
+    (λ c. omega (arith, c.before.before.before.before.before.before.requires.1, c.before.before.before.before.before.loop-j.invariant.1))
     (λ c. omega arith)
     (λ c. omega arith)
     loop-again
-    (λ c. c.before.loop.invariant.1)
+    (λ c. c.before.loop-j.invariant.1)
     returns)

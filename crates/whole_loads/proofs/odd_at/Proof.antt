@@ -5,17 +5,17 @@ use Rattle.lists.specs.Sums.{pick_same, pick_other}
 use Rattle.whole_loads.proofs.odd_at.Statement.{statement}
 use Rattle.whole_loads.proofs.odd_at.Tie as tie
 
-returns : tie.Need-returns
-returns c = sym (pick_other c.if1.true _ _)
+returns : tie.Need-returns-then-owner-ne0
+returns c = sym (pick_other c.if-owner-ne0.true _ _)
 
-returns-2 : tie.Need-returns-2
-returns-2 c = sym (pick_same c.before.if1.false _ _ ∙ pick_other c.if2.true _ _)
+returns-2 : tie.Need-returns-then-up-ne0
+returns-2 c = sym (pick_same c.before.if-owner-ne0.false _ _ ∙ pick_other c.if-up-ne0.true _ _)
 
-returns-3 : tie.Need-returns-3
-returns-3 c = sym (pick_same c.before.before.if1.false _ _ ∙ pick_same c.before.if2.false _ _ ∙ pick_same c.if3.true _ _)
+returns-3 : tie.Need-returns-then-capacity-eq0
+returns-3 c = sym (pick_same c.before.before.if-owner-ne0.false _ _ ∙ pick_same c.before.if-up-ne0.false _ _ ∙ pick_same c.if-capacity-eq0.true _ _)
 
-returns-4 : tie.Need-returns-4
-returns-4 c = sym (pick_same c.before.before.if1.false _ _ ∙ pick_same c.before.if2.false _ _ ∙ pick_other c.if3.false _ _)
+returns-4 : tie.Need-returns
+returns-4 c = sym (pick_same c.before.before.if-owner-ne0.false _ _ ∙ pick_same c.before.if-up-ne0.false _ _ ∙ pick_other c.if-capacity-eq0.false _ _)
 
-pub odd-at-spec : {M : Type 1} → statement M
-odd-at-spec = tie.close (tie.spec (λ c. search rules) (λ c. search rules) returns returns-2 returns-3 returns-4)
+pub odd_at_spec : {M : Type 1} → statement M
+odd_at_spec = tie.close (tie.spec (λ c. search rules) (λ c. search rules) returns returns-2 returns-3 returns-4)

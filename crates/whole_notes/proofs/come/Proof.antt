@@ -10,7 +10,7 @@ returns : tie.Need-returns
 unfolding come_note
 returns c =
     let a = c.before.before.before.args in
-    rw (← (c.before.on_of.ensures ∙ ap (on_way a.here.least a.capacity) c.before.before.coming-of.ensures), ← c.owner_of.ensures) refl
+    rw (← (c.before.on_of-on.ensures ∙ ap (on_way a.here.least a.capacity) c.before.before.coming_of.ensures), ← c.owner_of.ensures) refl
 
-pub come-spec : {M : Type 1} → statement M
-come-spec = tie.close (tie.spec (λ c κs. search rules) (λ c κs. search rules) (λ c κs. search rules) returns)
+pub come_spec : {M : Type 1} → statement M
+come_spec = tie.close (tie.spec (λ c κs. search rules) (λ c κs. search rules) (λ c κs. search rules) returns)

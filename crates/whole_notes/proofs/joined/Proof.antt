@@ -9,5 +9,5 @@ returns : tie.Need-returns
 unfolding joined_note
 returns c = rw (← c.top_of.ensures) refl
 
-pub joined-spec : {M : Type 1} → statement M
-joined-spec = tie.close (tie.spec (λ c. search rules) (λ c κs. search rules) returns)
+pub joined_spec : {M : Type 1} → statement M
+joined_spec = tie.close (tie.spec (λ c. search rules) (λ c κs. search rules) returns)

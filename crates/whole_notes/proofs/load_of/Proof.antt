@@ -7,14 +7,14 @@ use Rattle.lists.specs.Sums.{pick_same, pick_other}
 use Rattle.whole_notes.proofs.load_of.Statement.{statement}
 use Rattle.whole_notes.proofs.load_of.Tie as tie
 
-returns : tie.Need-returns
-returns c = sym (pick_same c.if1.true _ _)
+returns : tie.Need-returns-then-terminal-eq1
+returns c = sym (pick_same c.if-terminal-eq1.true _ _)
 
-returns-2 : tie.Need-returns-2
+returns-2 : tie.Need-returns
 unfolding top_load
 returns-2 c =
-    c.lesser.ensures ∙ ap₂ min c.before.before.minus.ensures c.before.minus2.ensures
-    ∙ sym (pick_other c.before.before.before.if1.false _ _)
+    c.lesser.ensures ∙ ap₂ min c.before.before.minus.ensures c.before.minus-2.ensures
+    ∙ sym (pick_other c.before.before.before.if-terminal-eq1.false _ _)
 
-pub load-of-spec : {M : Type 1} → statement M
-load-of-spec = tie.close (tie.spec returns (λ c κs. search rules) (λ c κs. search rules) (λ c κs. search rules) returns-2)
+pub load_of_spec : {M : Type 1} → statement M
+load_of_spec = tie.close (tie.spec returns (λ c κs. search rules) (λ c κs. search rules) (λ c κs. search rules) returns-2)

@@ -9,5 +9,5 @@ returns : tie.Need-returns
 unfolding loaded_note
 returns c = rw (← c.load_of.ensures) refl
 
-pub loaded-spec : {M : Type 1} → statement M
-loaded-spec = tie.close (tie.spec (λ c κs. search rules) returns)
+pub loaded_spec : {M : Type 1} → statement M
+loaded_spec = tie.close (tie.spec (λ c κs. search rules) returns)

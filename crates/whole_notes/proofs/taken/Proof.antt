@@ -9,7 +9,7 @@ use Rattle.whole_notes.proofs.taken.Tie as tie
 returns : tie.Need-returns
 unfolding taken_note lowest
 returns c =
-    rw (← c.before.before.before.least-of.ensures, ← c.before.before.high-of.ensures, ← c.before.lesser.ensures, ← c.goal-of.ensures) refl
+    rw (← c.before.before.before.least_of-least.ensures, ← c.before.before.high_of-high.ensures, ← c.before.lesser.ensures, ← c.goal_of.ensures) refl
 
-pub taken-spec : {M : Type 1} → statement M
-taken-spec = tie.close (tie.spec (λ c κs. search rules) (λ c κs. search rules) (λ c κs. search rules) (λ c κs. search rules) returns)
+pub taken_spec : {M : Type 1} → statement M
+taken_spec = tie.close (tie.spec (λ c κs. search rules) (λ c κs. search rules) (λ c κs. search rules) (λ c κs. search rules) returns)

@@ -8,33 +8,33 @@ use Rattle.model.specs.WholeLoads.{new_top}
 use Rattle.whole_notes.proofs.top_of.Statement.{statement}
 use Rattle.whole_notes.proofs.top_of.Tie as tie
 
-returns : tie.Need-returns
+returns : tie.Need-returns-then-p-eq0
 unfolding new_top
-returns c = sym (pick_same c.if1.true _ _)
+returns c = sym (pick_same c.if-p-eq0.true _ _)
 
-returns-2 : tie.Need-returns-2
+returns-2 : tie.Need-returns-then-terminal-eq1
 unfolding new_top
-returns-2 c = rw (pick_other c.before.if1.false, pick_same c.if2.true) refl
+returns-2 c = rw (pick_other c.before.if-p-eq0.false, pick_same c.if-terminal-eq1.true) refl
 
-returns-3 : tie.Need-returns-3
+returns-3 : tie.Need-returns-then-old-eq0
 unfolding new_top
-returns-3 c = rw (pick_other c.before.before.if1.false, pick_other c.before.if2.false, pick_same c.if3.true) refl
+returns-3 c = rw (pick_other c.before.before.if-p-eq0.false, pick_other c.before.if-terminal-eq1.false, pick_same c.if-old-eq0.true) refl
 
-returns-4 : tie.Need-returns-4
+returns-4 : tie.Need-returns-then-was-new
 unfolding new_top
 returns-4 c =
     let t = c.before.before.before in
     let a = t.before.args in
-    rw (pick_other t.if1.false, pick_other c.before.before.if2.false, pick_other c.before.if3.false)
-    (rw (if_pos (dec_lt a.was a.new) c.if4.true) refl)
+    rw (pick_other t.if-p-eq0.false, pick_other c.before.before.if-terminal-eq1.false, pick_other c.before.if-old-eq0.false)
+    (rw (if_pos (dec_lt a.was a.new) c.if-was-new.true) refl)
 
-returns-5 : tie.Need-returns-5
+returns-5 : tie.Need-returns-else-was-new
 unfolding new_top
 returns-5 c =
     let t = c.before.before.before in
     let a = t.before.args in
-    rw (pick_other t.if1.false, pick_other c.before.before.if2.false, pick_other c.before.if3.false)
+    rw (pick_other t.if-p-eq0.false, pick_other c.before.before.if-terminal-eq1.false, pick_other c.before.if-old-eq0.false)
     (rw (if_neg (dec_lt a.was a.new) (λ h. omega arith)) refl)
 
-pub top-of-spec : {M : Type 1} → statement M
-top-of-spec = tie.close (tie.spec returns returns-2 returns-3 returns-4 returns-5)
+pub top_of_spec : {M : Type 1} → statement M
+top_of_spec = tie.close (tie.spec returns returns-2 returns-3 returns-4 returns-5)

@@ -14,15 +14,15 @@ use Rattle.whole_parents.proofs.Laws.{children-next, children-all, sites-within}
 use Rattle.whole_parents.proofs.children.Statement.{statement}
 use Rattle.whole_parents.proofs.children.Tie as tie
 
-abbrev invariant-loop : tie.invariant-loop
+abbrev invariant-loop : tie.invariant-loop-j
 invariant-loop n order one two place child₀ j₀ j-end child j =
     (j ≤ length one) × (length child ≡ SITES) × ((k : ℕ) → k < j → Leads (links one two) (take n order) k (look child k) × (look child k ≤ SITES))
     × ((k : ℕ) → j ≤ k → look child k ≡ 0)
 
-abbrev decreases-loop : tie.decreases-loop
+abbrev decreases-loop : tie.decreases-loop-j
 decreases-loop n order one two place child₀ j₀ j-end child j = length one - j
 
-loop-holds : tie.Need-loop-init invariant-loop decreases-loop
+loop-holds : tie.Need-loop-j-init invariant-loop decreases-loop
 loop-holds c = (omega arith, refl, (λ k h. absurd (omega arith)), λ k h. look-zeros SITES k)
 
 -- link j, whose child is told in this turn
@@ -32,37 +32,37 @@ pub record Turn (j : ℕ) (one two : List ℕ) : Type 0 where
   pub seconds : length two ≡ length one
   pub sites : (look one j ≤ SITES) × (look two j ≤ SITES)
 
-turn : (c : tie.In-loop invariant-loop decreases-loop) → let a = c.before.before.before.before.before.args in Turn c.before.loop.j a.one.now a.two.now
+turn : (c : tie.In-loop-j invariant-loop decreases-loop) → let a = c.before.before.before.before.before.args in Turn c.before.loop-j.j a.one.now a.two.now
 turn c =
     let w = c.before.before.before.before.before.requires in
-    let more : c.before.loop.j < length c.before.before.before.before.before.args.one.now = omega arith in
+    let more : c.before.loop-j.j < length c.before.before.before.before.before.args.one.now = omega arith in
     record {
       more = more;
       few = omega (arith, w.tree.firsts, w.tree.few);
       seconds = omega (arith, w.tree.firsts, w.tree.seconds);
-      sites = sites-within w c.before.loop.j more;
+      sites = sites-within w c.before.loop-j.j more;
     }
 
-loop-again : tie.Need-loop-preserved invariant-loop decreases-loop
+loop-again : tie.Need-loop-j-preserved invariant-loop decreases-loop
 loop-again c =
     let t = c.before.before.before.before in
     let s = c.before.before.before.before.before.before.before.before.before in
     let top = t.before in (
       omega (arith, turn t),
-      simp length-set top.loop.invariant.1,
-      children-next s.requires top.before.places.result top.before.places.ensures top.loop.j (turn t).more c.earlier.ensures
-          top.loop.child top.loop.invariant.1 top.loop.invariant.2,
-      λ k h. get_or-set_other top.loop.child top.loop.j k c.earlier.result 0 (λ z. omega arith) ∙ top.loop.invariant.3 k (omega arith),
+      simp length-set top.loop-j.invariant.1,
+      children-next s.requires top.before.places-place.result top.before.places-place.ensures top.loop-j.j (turn t).more c.earlier.ensures
+          top.loop-j.child top.loop-j.invariant.1 top.loop-j.invariant.2,
+      λ k h. get_or-set_other top.loop-j.child top.loop-j.j k c.earlier.result 0 (λ z. omega arith) ∙ top.loop-j.invariant.3 k (omega arith),
     )
 
 returns : tie.Need-returns invariant-loop decreases-loop
 returns c =
     let s = c.before.before.before.before.before in
-    let all : c.before.loop.j ≡ length s.args.one.now = omega arith in
-    children-all s.requires c.before.loop.child (rw all at c.before.loop.invariant.2) (λ k h. c.before.loop.invariant.3 k (omega arith))
+    let all : c.before.loop-j.j ≡ length s.args.one.now = omega arith in
+    children-all s.requires c.before.loop-j.child (rw all at c.before.loop-j.invariant.2) (λ k h. c.before.loop-j.invariant.3 k (omega arith))
 
-pub children-spec : {M : Type 1} → statement M
-children-spec =
+pub children_spec : {M : Type 1} → statement M
+children_spec =
     tie.close
     (tie.spec
     invariant-loop

@@ -6,8 +6,8 @@ use borrow.Author.Rules.{rules}
 use Rattle.whole_parents.proofs.earlier.Statement.{statement}
 use Rattle.whole_parents.proofs.earlier.Tie as tie
 
-pub earlier-spec : {M : Type 1} → statement M
-earlier-spec =
+pub earlier_spec : {M : Type 1} → statement M
+earlier_spec =
     tie.close
     (tie.spec
     (λ c. search rules)

@@ -12,11 +12,11 @@ use Rattle.whole_parents.proofs.Laws.{Settling, Other, other, settled_none, sett
 use Rattle.whole_parents.proofs.parents_of.Statement.{statement}
 use Rattle.whole_parents.proofs.parents_of.Tie as tie
 
-abbrev invariant-loop : tie.invariant-loop
+abbrev invariant-loop : tie.invariant-loop-j
 invariant-loop n order one two capacity child parent₀ above₀ j₀ j-end parent above j =
     (j ≤ length one) × (length parent ≡ PLACES) × (length above ≡ PLACES) × Settling (links one two) (take n order) capacity child j parent above
 
-abbrev decreases-loop : tie.decreases-loop
+abbrev decreases-loop : tie.decreases-loop-j
 decreases-loop n order one two capacity child parent₀ above₀ j₀ j-end parent above j = length one - j
 
 -- link j, whose child gets its parent in this turn
@@ -31,14 +31,14 @@ pub record Turn (j : ℕ) (one two capacity child : List ℕ) : Type 0 where
   pub less : look child j ≤ look one j + look two j
   pub low : look one j + look two j - look child j ≤ SITES
 
-turn : (c : tie.In-loop invariant-loop decreases-loop) → let a = c.before.before.before.before.before.before.args in
-    Turn c.before.loop.j a.one.now a.two.now a.capacity.now c.before.before.children.result
+turn : (c : tie.In-loop-j invariant-loop decreases-loop) → let a = c.before.before.before.before.before.before.args in
+    Turn c.before.loop-j.j a.one.now a.two.now a.capacity.now c.before.before.children-child.result
 turn c =
     let s = c.before.before.before.before.before.before in
     let w = s.requires.0 in
-    let j = c.before.loop.j in
+    let j = c.before.loop-j.j in
     let more : j < length s.args.one.now = omega arith in
-    let made = c.before.before.children in
+    let made = c.before.before.children-child in
     let o = other (ordered-within w s.requires.1) s.args.capacity.now made.result made.ensures j more in
     record {
       more = more;
@@ -52,41 +52,41 @@ turn c =
       low = o.low;
     }
 
-loop-holds : tie.Need-loop-init invariant-loop decreases-loop
+loop-holds : tie.Need-loop-j-init invariant-loop decreases-loop
 loop-holds c =
     let s = c.before.before.before.before in
-    (omega arith, refl, refl, settled_none (ordered-within s.requires.0 s.requires.1) s.args.capacity.now c.children.result c.children.ensures)
+    (omega arith, refl, refl, settled_none (ordered-within s.requires.0 s.requires.1) s.args.capacity.now c.children-child.result c.children-child.ensures)
 
-loop-again : tie.Need-loop-preserved invariant-loop decreases-loop
+loop-again : tie.Need-loop-j-preserved invariant-loop decreases-loop
 loop-again c =
     let t = c.before.before.before in
     let s = c.before.before.before.before.before.before.before.before.before in
     let top = t.before in (
       omega (arith, turn t),
-      simp length-set top.loop.invariant.1,
-      simp length-set top.loop.invariant.2,
-      settled_next (ordered-within s.requires.0 s.requires.1) s.args.capacity.now top.before.children.result top.before.children.ensures
-          top.loop.j (turn t).more (turn t).small top.loop.parent top.loop.above top.loop.invariant.1 top.loop.invariant.2 top.loop.invariant.3,
+      simp length-set top.loop-j.invariant.1,
+      simp length-set top.loop-j.invariant.2,
+      settled_next (ordered-within s.requires.0 s.requires.1) s.args.capacity.now top.before.children-child.result top.before.children-child.ensures
+          top.loop-j.j (turn t).more (turn t).small top.loop-j.parent top.loop-j.above top.loop-j.invariant.1 top.loop-j.invariant.2 top.loop-j.invariant.3,
     )
 
 returns : tie.Need-returns invariant-loop decreases-loop
 returns c =
     let s = c.before.before.before.before.before.before in
     let top = c.before in
-    let all : top.loop.j ≡ length s.args.one.now = omega arith in
-    settled_all (ordered-within s.requires.0 s.requires.1) s.args.capacity.now top.before.children.result top.before.children.ensures
-    top.loop.parent top.loop.above (rw all at top.loop.invariant.3)
+    let all : top.loop-j.j ≡ length s.args.one.now = omega arith in
+    settled_all (ordered-within s.requires.0 s.requires.1) s.args.capacity.now top.before.children-child.result top.before.children-child.ensures
+    top.loop-j.parent top.loop-j.above (rw all at top.loop-j.invariant.3)
 
-pub parents-of-spec : {M : Type 1} → statement M
-parents-of-spec =
+pub parents_of_spec : {M : Type 1} → statement M
+parents_of_spec =
     tie.close
     (tie.spec
     invariant-loop
     decreases-loop
     (λ c κs. let s = c.before.before.before in ordered-within s.requires.0 s.requires.1)
     loop-holds
-    (λ c. omega (arith, turn c))
-    (λ c. omega (arith, turn c))
+    (λ c. omega arith)
+    (λ c. omega arith)
     (λ c. omega (arith, turn c))
     (λ c. omega (arith, turn c))
     (λ c. omega (arith, turn c.before))

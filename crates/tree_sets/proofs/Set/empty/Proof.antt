@@ -6,5 +6,5 @@ use Rattle.tree_sets.proofs.Set.empty.Tie as tie
 returns : tie.Need-returns
 returns c = member-empty
 
-pub empty-spec : {M : Type 1} → statement M
-empty-spec = tie.close (tie.spec returns)
+pub empty_spec : {M : Type 1} → statement M
+empty_spec = tie.close (tie.spec returns)

@@ -1,2 +1,0 @@
-pub mod Methods
-pub mod Stated
