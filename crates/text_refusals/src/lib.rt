@@ -2,10 +2,17 @@
 // whether the line went.
 #![tactic(auto)]
 
+ghost use Rattle.std.specs.Prelude.{IsTrue};
+ghost use Rattle.std.specs.Io.KnownBytes.{Appends};
+ghost use Rattle.report.specs.Report.{refusal_line};
+ghost use Rattle.report_words.specs.TwoTexts.{refusal_of};
+
 use std::io::Write;
 
 // Writes the line of a refusal to standard output, and then what it means to standard error.
-pub fn refuse<W: Write, E: Write>(out: &mut W, err: &mut E, number: u64, line: usize) -> bool {
+pub fn refuse<W: Write, E: Write>(out: &mut W, err: &mut E, number: u64, line: usize) -> bool
+    ensures { IsTrue result → Appends (W.contents out.old) (W.contents out.new) (refusal_line number line) }
+{
     let mut text = [0u8; 4096];
     let length = report::write_refusal(number, line, &mut text);
     let went = text_streams::write(out, err, &text[..length]);
@@ -23,7 +30,9 @@ pub fn refuse_text<W: Write, E: Write>(
     text: u64,
     number: u64,
     line: usize,
-) -> bool {
+) -> bool
+    ensures { IsTrue result → Appends (W.contents out.old) (W.contents out.new) (refusal_of text number line) }
+{
     let mut buf = [0u8; 4096];
     let length = report_words::write_refusal_of(text, number, line, &mut buf);
     let went = text_streams::write(out, err, &buf[..length]);
@@ -41,7 +50,9 @@ pub fn refuse_sheets<W: Write, E: Write>(
     sheet: u64,
     number: u64,
     line: usize,
-) -> bool {
+) -> bool
+    ensures { IsTrue result → Appends (W.contents out.old) (W.contents out.new) (refusal_of sheet number line) }
+{
     let mut buf = [0u8; 4096];
     let length = report_words::write_refusal_of(sheet, number, line, &mut buf);
     let went = text_streams::write(out, err, &buf[..length]);
@@ -58,7 +69,9 @@ pub fn refuse_in_words<W: Write, E: Write>(
     err: &mut E,
     number: u64,
     words: &[u8],
-) -> bool {
+) -> bool
+    ensures { IsTrue result → Appends (W.contents out.old) (W.contents out.new) (refusal_line number 0) }
+{
     let mut text = [0u8; 4096];
     let length = report::write_refusal(number, 0, &mut text);
     let went = text_streams::write(out, err, &text[..length]);
