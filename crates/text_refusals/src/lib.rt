@@ -2,7 +2,7 @@
 // whether the line went.
 #![tactic(auto)]
 
-ghost use Rattle.std.specs.Prelude.{IsTrue};
+ghost use Rattle.std.specs.Prelude.{◌≤◌, length, IsTrue};
 ghost use Rattle.std.specs.Io.KnownBytes.{Appends};
 ghost use Rattle.report.specs.Report.{refusal_line};
 ghost use Rattle.report_words.specs.TwoTexts.{refusal_of};
@@ -11,7 +11,8 @@ use std::io::Write;
 
 // Writes the line of a refusal to standard output, and then what it means to standard error.
 pub fn refuse<W: Write, E: Write>(out: &mut W, err: &mut E, number: u64, line: usize) -> bool
-    ensures { IsTrue result → Appends (W.contents out.old) (W.contents out.new) (refusal_line number line) }
+    ensures line { IsTrue result → Appends (W.contents out.old) (W.contents out.new) (refusal_line number line) }
+    ensures short { length (refusal_line number line) ≤ 50 }
 {
     let mut text = [0u8; 4096];
     let length = report::write_refusal(number, line, &mut text);

@@ -11,5 +11,5 @@ slice_bounds-text-end-then-went g c = omega (arith, c.write_words-told.ensures.n
 pub slice_bounds-write_all-end : goal.slice_bounds-write_all-end
 slice_bounds-write_all-end g c = sym (length-take-le _ _ (omega (arith, c.write_words-told.ensures.next, words_are_short c.args.number c.args.line (omega arith))))
 
-pub returns-then-went : goal.returns-then-went
-returns-then-went g c went = subst (Appends _ _) (line_is_at_front _ _ _ _ c.write_refusal-length.ensures.0 (omega (arith, c.write_refusal-length.ensures.1))) (c.write-went.ensures went)
+pub returns-then-went-clause-line : goal.returns-then-went-clause-line
+returns-then-went-clause-line g c went = subst (Appends _ _) (line_is_at_front _ _ _ _ c.write_refusal-length.ensures.0 (omega (arith, c.write_refusal-length.ensures.1))) (c.write-went.ensures went)
