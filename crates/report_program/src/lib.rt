@@ -3,6 +3,10 @@
 // answer written.
 #![tactic(auto)]
 
+ghost use Rattle.std.specs.Prelude.{IsTrue, IfSome};
+ghost use Rattle.std.specs.Io.KnownBytes.{Appends};
+ghost use Rattle.report_program.specs.Printed.{sheet_in, plan_printed, span_printed};
+
 use model::{BYTES, REPORT};
 use planner::Outcome;
 use std::io::{Read, Write};
@@ -13,7 +17,10 @@ pub fn run<R: Read, W: Write, E: Write>(
     out: &mut W,
     err: &mut E,
     whole: bool,
-) -> bool {
+) -> bool
+    ensures { IsTrue result → IfSome (R.remaining input.old) (λ given.
+        Appends (W.contents out.old) (W.contents out.new) (plan_printed whole (sheet_in given))) }
+{
     let mut sheet = [0u8; BYTES + 1];
     let given = text_streams::read(input, err, &mut sheet);
     if !given.whole {
@@ -29,7 +36,10 @@ pub fn run<R: Read, W: Write, E: Write>(
 }
 
 // Tells the span of the range sheet on standard input (02, Card 11).
-pub fn span<R: Read, W: Write, E: Write>(input: &mut R, out: &mut W, err: &mut E) -> bool {
+pub fn span<R: Read, W: Write, E: Write>(input: &mut R, out: &mut W, err: &mut E) -> bool
+    ensures { IsTrue result → IfSome (R.remaining input.old) (λ given.
+        Appends (W.contents out.old) (W.contents out.new) (span_printed (sheet_in given))) }
+{
     let mut sheet = [0u8; BYTES + 1];
     let given = text_streams::read(input, err, &mut sheet);
     if !given.whole {

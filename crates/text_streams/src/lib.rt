@@ -2,10 +2,10 @@
 // begins with `standard` or `file`.
 #![tactic(auto)]
 
-ghost use Rattle.std.specs.Prelude.{◌≡◌, ◌<◌, length, take, IsTrue, false, if◌then◌else◌};
+ghost use Rattle.std.specs.Prelude.{◌≡◌, ◌<◌, length, take, IsTrue, IfSome, false, if◌then◌else◌};
 ghost use Rattle.std.specs.Io.KnownBytes.{Appends, Consumes, IsAtEnd};
 ghost use Rattle.std.specs.Process.{exit_status};
-ghost use Rattle.text_streams.specs.Counts.{IsPrefixLen};
+ghost use Rattle.text_streams.specs.Counts.{IsPrefixLen, HoldsFront};
 
 use std::env::{Env, FillError};
 use std::fmt::InlineText;
@@ -97,6 +97,7 @@ pub fn read<R: Read, E: Write>(input: &mut R, err: &mut E, buf: &mut [u8]) -> In
     ensures count { IsPrefixLen result.count buf.new }
     ensures bytes { Consumes (R.remaining input.old) (R.remaining input.new) (take result.count buf.new) }
     ensures end { IsTrue result.whole → result.count < length buf.new → IsAtEnd (R.remaining input.new) }
+    ensures front { IsTrue result.whole → IfSome (R.remaining input.old) (HoldsFront result.count buf.new) }
 {
     read_from(input, err, "standard ", "input", buf)
 }
