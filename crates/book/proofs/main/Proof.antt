@@ -5,10 +5,10 @@ use borrow.Author.Rules.{rules}
 use Rattle.book.proofs.main.Statement.{statement}
 use Rattle.book.proofs.main.Tie as tie
 
-abbrev invariant-loop : tie.invariant-loop
+abbrev invariant-loop : tie.invariant-loop-sites
 invariant-loop sites₀ sites = sites ≤ 6
 
-abbrev decreases-loop : tie.decreases-loop
+abbrev decreases-loop : tie.decreases-loop-sites
 decreases-loop sites₀ sites = 6 - sites
 
 pub main_spec : {M : Type 1} → statement M

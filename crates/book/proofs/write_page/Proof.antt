@@ -10,20 +10,20 @@ use Rattle.book.proofs.write_page.Statement.{statement}
 use Rattle.book.proofs.write_page.Tie as tie
 
 -- the length told is at most the buffer's
-within : (c : tie.After-known-told) → c.before.outcome.given.0.0 ≤ length c.before.before.before.before.page.new.1.1.0
+within : (c : tie.In-Page) → c.in-Page.length ≤ length c.before.before.page-outcome.new.1.1.0
 within c =
-    let a = c.before.before.before.before.before.before.before.args in
-    let page = c.before.before.before.before.page in
-    let text = c.before.before.before.before.before.before.buffer.result in
+    let a = c.before.before.before.before.before.args in
+    let page = c.before.before.page-outcome in
+    let text = c.before.before.before.before.buffer-text.result in
     omega (
       arith,
-      a-page-told-is-within a.sites a.choice c.before.outcome.given.0.0 text (sym page.ensures.0 ∙ c.before.outcome.given.1),
+      a-page-told-is-within a.sites a.choice c.in-Page.length text (sym page.ensures.0 ∙ c.in-Page.is),
       ap length page.ensures.1,
       the_buffer_stays a.sites a.choice text,
     )
 
-pub write-page-spec : {M : Type 1} → statement M
-write-page-spec =
+pub write_page_spec : {M : Type 1} → statement M
+write_page_spec =
     tie.close
     (tie.spec
     (λ c κs. search rules)
@@ -32,7 +32,7 @@ write-page-spec =
     (λ c. search rules)
     within
     (λ c. let told = c.before in
-    sym (length-take-le told.before.outcome.given.0.0 told.before.before.before.before.page.new.1.1.0 (within told)))
+    sym (length-take-le told.in-Page.length told.before.before.page-outcome.new.1.1.0 (within told)))
     (λ c κs. search rules)
     (λ c. search rules)
     (λ c κs. search rules)

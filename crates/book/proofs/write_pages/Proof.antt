@@ -5,14 +5,14 @@ use borrow.Author.Rules.{rules}
 use Rattle.book.proofs.write_pages.Statement.{statement}
 use Rattle.book.proofs.write_pages.Tie as tie
 
-abbrev invariant-loop : tie.invariant-loop
+abbrev invariant-loop : tie.invariant-loop-choice
 invariant-loop sites choice₀ choice-end choice = choice ≤ choice-end
 
-abbrev decreases-loop : tie.decreases-loop
+abbrev decreases-loop : tie.decreases-loop-choice
 decreases-loop sites choice₀ choice-end choice = choice-end - choice
 
-pub write-pages-spec : {M : Type 1} → statement M
-write-pages-spec =
+pub write_pages_spec : {M : Type 1} → statement M
+write_pages_spec =
     tie.close
     (tie.spec
     invariant-loop

@@ -16,29 +16,29 @@ use Rattle.book_lines.proofs.put_links.Tie as tie
 abbrev textAt : List ℕ → List ℕ → ℕ → List ℕ
 textAt one two i = link_text (look one i, look two i)
 
-abbrev invariant-loop : tie.invariant-loop
+abbrev invariant-loop : tie.invariant-loop-j
 invariant-loop buf₀ at one two last next₀ j₀ buf next j = (j ≤ last) × Wrote buf₀ at (parted (textAt one two) j) buf next × (next ≤ at + 42 * j)
 
-abbrev decreases-loop : tie.decreases-loop
+abbrev decreases-loop : tie.decreases-loop-j
 decreases-loop buf₀ at one two last next₀ j₀ buf next j = last - j
 
-loop-holds : tie.Need-loop-init invariant-loop decreases-loop
+loop-holds : tie.Need-loop-j-init invariant-loop decreases-loop
 loop-holds c =
     let a = c.before.before.before.args in
     (omega arith, rw (parted-none (textAt a.one.now a.two.now)) (nothing a.buf.now a.at), omega arith)
 
-loop-again : tie.Need-loop-preserved invariant-loop decreases-loop
+loop-again : tie.Need-loop-j-preserved invariant-loop decreases-loop
 loop-again c =
     let top = c.before.before.before.before.before.before.before in
     let a = c.before.before.before.before.before.before.before.before.before.before.before.args in
-    let put = c.before.before.put-link.ensures in (
+    let put = c.before.before.put_link-next.ensures in (
       omega arith,
-      rw (parted_round (textAt a.one.now a.two.now) top.loop.j) at (then top.loop.invariant.1 put.wrote),
-      omega (arith, put.short, top.loop.invariant.2),
+      rw (parted_round (textAt a.one.now a.two.now) top.loop-j.j) at (then top.loop-j.invariant.1 put.wrote),
+      omega (arith, put.short, top.loop-j.invariant.2),
     )
 
-same_length : tie.Need-same-length invariant-loop decreases-loop
-same_length c = same_size c.before.before.put-link2.ensures.wrote ∙ same_size c.before.before.before.before.before.before.before.loop.invariant.1
+same_length : tie.Need-shape_of-buf invariant-loop decreases-loop
+same_length c = same_size c.before.before.put_link.ensures.wrote ∙ same_size c.before.before.before.before.before.before.before.loop-j.invariant.1
 
 returns : tie.Need-returns invariant-loop decreases-loop
 returns c =
@@ -46,17 +46,17 @@ returns c =
     let s = c.before.before.before.before.before.before.before.before.before.before.before in
     let one = s.args.one.now in
     let two = s.args.two.now in
-    let put = c.before.before.put-link2.ensures in
+    let put = c.before.before.put_link.ensures in
     let last = length one - 1 in
-    let here : top.loop.j ≡ last = omega arith in
-    let front : Wrote s.args.buf.now s.args.at (parted (textAt one two) last) top.loop.buf top.loop.next = rw here at top.loop.invariant.1 in
+    let here : top.loop-j.j ≡ last = omega arith in
+    let front : Wrote s.args.buf.now s.args.at (parted (textAt one two) last) top.loop-j.buf top.loop-j.next = rw here at top.loop-j.invariant.1 in
     record {
       wrote = rw (commas-done (textAt one two) last 9, links_by_place one two last (omega arith) (omega arith)) at (then front put.wrote);
-      short = omega (arith, put.short, top.loop.invariant.2);
+      short = omega (arith, put.short, top.loop-j.invariant.2);
     }
 
-pub put-links-spec : {M : Type 1} → statement M
-put-links-spec =
+pub put_links_spec : {M : Type 1} → statement M
+put_links_spec =
     tie.close
     (tie.spec
     invariant-loop

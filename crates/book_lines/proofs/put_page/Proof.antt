@@ -14,44 +14,44 @@ use Rattle.book_lines.specs.Laws.{another_number_of_links_is_no_page, the_lines_
 use Rattle.book_lines.proofs.put_page.Statement.{statement}
 use Rattle.book_lines.proofs.put_page.Tie as tie
 
-firsts : (c : tie.After-choose) → c.choose.result.count ≤ length c.choose.result.one
-firsts c = let e = c.choose.ensures in omega (arith, e.1, e.2.firsts)
+firsts : (c : tie.After-choose-choice) → c.choose-choice.result.count ≤ length c.choose-choice.result.one
+firsts c = let e = c.choose-choice.ensures in omega (arith, e.1, e.2.firsts)
 
-seconds : (c : tie.After-choose) → c.choose.result.count ≤ length c.choose.result.two
-seconds c = let e = c.choose.ensures in omega (arith, e.1, e.2.seconds)
+seconds : (c : tie.After-choose-choice) → c.choose-choice.result.count ≤ length c.choose-choice.result.two
+seconds c = let e = c.choose-choice.ensures in omega (arith, e.1, e.2.seconds)
 
 -- the choice has as many links as are counted
-counted : (c : tie.After-choose) → length (chosen (possible c.before.before.args.n) c.before.before.args.m) ≡ c.choose.result.count
+counted : (c : tie.After-choose-choice) → length (chosen (possible c.before.before.args.n) c.before.before.args.m) ≡ c.choose-choice.result.count
 counted c =
     let a = c.before.before.args in
-    let r = c.choose.result in
-    held-choice a.n a.m r.one r.two r.count (firsts c) (seconds c) c.choose.ensures.0
+    let r = c.choose-choice.result in
+    held-choice a.n a.m r.one r.two r.count (firsts c) (seconds c) c.choose-choice.ensures.0
 
-returns : tie.Need-returns
+returns : tie.Need-returns-then-count-n
 returns c =
     let a = c.before.before.before.before.before.args in
     let other : length (chosen (possible a.n) a.m) ≢ a.n - 1 = λ e. absurd (omega (arith, e, counted c.before.before.before)) in
     record { wrote = rw (another_number_of_links_is_no_page a.n a.m other) (nothing a.buf.now 0); short = omega arith }
 
-put-entries-requires : tie.Need-put-entries-requires
+put-entries-requires : tie.Need-put_entries-requires
 put-entries-requires c κs =
     let made = c.before.before.before.before.before.before in
     let s = made.before.before in
-    let r = made.choose.result in
-    a-choice-joins s.args.n s.args.m r.one r.two r.count (firsts made) (seconds made) made.choose.ensures.0
+    let r = made.choose-choice.result in
+    a-choice-joins s.args.n s.args.m r.one r.two r.count (firsts made) (seconds made) made.choose-choice.ensures.0
     (omega (arith, s.requires)) (omega (arith, s.requires)) (omega arith)
 
-returns-2 : tie.Need-returns-2
+returns-2 : tie.Need-returns
 returns-2 c =
     let made = c.before.before.before.before.before.before.before.before.before in
     let a = made.before.before.args in
     let put = c.before.before.put_entries.ensures in
     let few : length (chosen (possible a.n) a.m) ≡ a.n - 1 = omega (arith, counted made) in
-    let page = ap (lines_up_to (3 ^ (a.n - 1)) a.n) made.choose.ensures.0 ∙ the_lines_are_the_page a.n a.m few in
+    let page = ap (lines_up_to (3 ^ (a.n - 1)) a.n) made.choose-choice.ensures.0 ∙ the_lines_are_the_page a.n a.m few in
     record { wrote = rw page at put.wrote; short = put.short }
 
-pub put-page-spec : {M : Type 1} → statement M
-put-page-spec =
+pub put_page_spec : {M : Type 1} → statement M
+put_page_spec =
     tie.close
     (tie.spec
     (λ c κs. search rules)
@@ -59,10 +59,10 @@ put-page-spec =
     returns
     (λ c. firsts c.before.before.before.before)
     (λ c. let made = c.before.before.before.before.before in
-    sym (length-take-le made.choose.result.count made.choose.result.one (firsts made)))
+    sym (length-take-le made.choose-choice.result.count made.choose-choice.result.one (firsts made)))
     (λ c. seconds c.before.before.before.before.before)
     (λ c. let made = c.before.before.before.before.before.before in
-    sym (length-take-le made.choose.result.count made.choose.result.two (seconds made)))
+    sym (length-take-le made.choose-choice.result.count made.choose-choice.result.two (seconds made)))
     put-entries-requires
     (λ c. same_size c.before.before.put_entries.ensures.wrote)
     returns-2)

@@ -16,46 +16,46 @@ use Rattle.book_lines.proofs.put_sizes.Tie as tie
 abbrev textAt : List ℕ → ℕ → List ℕ
 textAt sizes i = decimal (look sizes i)
 
-abbrev invariant-loop : tie.invariant-loop
+abbrev invariant-loop : tie.invariant-loop-j
 invariant-loop buf₀ at sizes last next₀ j₀ buf next j = (j ≤ last) × Wrote buf₀ at (parted (textAt sizes) j) buf next × (next ≤ at + 21 * j)
 
-abbrev decreases-loop : tie.decreases-loop
+abbrev decreases-loop : tie.decreases-loop-j
 decreases-loop buf₀ at sizes last next₀ j₀ buf next j = last - j
 
-loop-holds : tie.Need-loop-init invariant-loop decreases-loop
+loop-holds : tie.Need-loop-j-init invariant-loop decreases-loop
 loop-holds c =
     let a = c.before.before.args in
     (omega arith, rw (parted-none (textAt a.sizes.now)) (nothing a.buf.now a.at), omega arith)
 
-loop-again : tie.Need-loop-preserved invariant-loop decreases-loop
+loop-again : tie.Need-loop-j-preserved invariant-loop decreases-loop
 loop-again c =
     let top = c.before.before.before.before.before.before in
     let a = c.before.before.before.before.before.before.before.before.before.args in
-    let put = c.before.before.put-size.ensures in (
+    let put = c.before.before.put_size-next.ensures in (
       omega arith,
-      rw (parted_round (textAt a.sizes.now) top.loop.j) at (then top.loop.invariant.1 put.wrote),
-      omega (arith, put.short, top.loop.invariant.2),
+      rw (parted_round (textAt a.sizes.now) top.loop-j.j) at (then top.loop-j.invariant.1 put.wrote),
+      omega (arith, put.short, top.loop-j.invariant.2),
     )
 
-same_length : tie.Need-same-length invariant-loop decreases-loop
-same_length c = same_size c.before.before.put-size2.ensures.wrote ∙ same_size c.before.before.before.before.before.before.loop.invariant.1
+same_length : tie.Need-shape_of-buf invariant-loop decreases-loop
+same_length c = same_size c.before.before.put_size.ensures.wrote ∙ same_size c.before.before.before.before.before.before.loop-j.invariant.1
 
 returns : tie.Need-returns invariant-loop decreases-loop
 returns c =
     let top = c.before.before.before.before.before.before in
     let s = c.before.before.before.before.before.before.before.before.before in
     let sizes = s.args.sizes.now in
-    let put = c.before.before.put-size2.ensures in
+    let put = c.before.before.put_size.ensures in
     let last = length sizes - 1 in
-    let here : top.loop.j ≡ last = omega arith in
-    let front : Wrote s.args.buf.now s.args.at (parted (textAt sizes) last) top.loop.buf top.loop.next = rw here at top.loop.invariant.1 in
+    let here : top.loop-j.j ≡ last = omega arith in
+    let front : Wrote s.args.buf.now s.args.at (parted (textAt sizes) last) top.loop-j.buf top.loop-j.next = rw here at top.loop-j.invariant.1 in
     record {
       wrote = rw (commas-done (textAt sizes) last 9, sizes_by_place sizes last (omega arith)) at (then front put.wrote);
-      short = omega (arith, put.short, top.loop.invariant.2);
+      short = omega (arith, put.short, top.loop-j.invariant.2);
     }
 
-pub put-sizes-spec : {M : Type 1} → statement M
-put-sizes-spec =
+pub put_sizes_spec : {M : Type 1} → statement M
+put_sizes_spec =
     tie.close
     (tie.spec
     invariant-loop

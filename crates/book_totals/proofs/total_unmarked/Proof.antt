@@ -32,7 +32,7 @@ array-share-prefix-trimmed c =
       arith,
       (left c).within.firsts,
       (left c).within.capacities,
-      length-take (length a.one.now) c.before.before.trim-answer.auto.lent,
+      c.before.before.trim-answer.auto.lent,
     )
 
 slice-aggregate-at-ends : tie.Need-slice_bounds-at_ends-end

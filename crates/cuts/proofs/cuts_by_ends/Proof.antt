@@ -10,13 +10,13 @@ use Rattle.cuts.specs.Outcome.{cuts}
 use Rattle.cuts.proofs.cuts_by_ends.Statement.{statement}
 use Rattle.cuts.proofs.cuts_by_ends.Tie as tie
 
-chained : tie.Need-ends-requires
+chained : tie.Need-ends-ends-requires
 chained c κs =
     let made = c.before.before.before.before in
     let p = made.before.before.before.before.before.before.requires in
-    (p.0.within.few, p.0.marked, made.chain.ensures)
+    (p.0.within.few, p.0.marked, made.chain-chains.ensures)
 
-given : tie.Need-cuts-of-requires
+given : tie.Need-cuts_of-requires
 given c κs =
     let p = c.before.before.before.before.before.before.before.before.before.before.before.before.before.before.before.requires in
     (p.0.within.few, offer-placed p.0.within, offer_limited p.0.within, p.1, record { owners = refl; sizes = refl; counts = refl })
@@ -28,7 +28,7 @@ returns c =
     let a = listed.before.before.before.before.before.before.before.before.before.before.before.args in
     let ls = links a.one.now a.two.now in
     ap (λ (r : Owned). record { owner = r.owner; size = r.size; count = r.count; answer = Done })
-    (c.cuts-of.ensures ∙ ap (λ (terminal : ℕ → ℕ). owned ls a.n terminal (look a.capacity.now) (look a.balanced.now)) listed.ends.ensures)
+    (c.cuts_of.ensures ∙ ap (λ (terminal : ℕ → ℕ). owned ls a.n terminal (look a.capacity.now) (look a.balanced.now)) listed.ends-ends.ensures)
 
-pub cuts-by-ends-spec : {M : Type 1} → statement M
-cuts-by-ends-spec = tie.close (tie.spec (λ c κs. offer-placed c.before.before.before.before.before.requires.0.within) chained given returns)
+pub cuts_by_ends_spec : {M : Type 1} → statement M
+cuts_by_ends_spec = tie.close (tie.spec (λ c κs. offer-placed c.before.before.before.before.before.requires.0.within) chained given returns)

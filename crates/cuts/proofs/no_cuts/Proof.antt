@@ -8,5 +8,5 @@ returns : tie.Need-returns
 unfolding no_cuts
 returns c = refl
 
-pub no-cuts-spec : {M : Type 1} → statement M
-no-cuts-spec = tie.close (tie.spec returns)
+pub no_cuts_spec : {M : Type 1} → statement M
+no_cuts_spec = tie.close (tie.spec returns)

@@ -13,59 +13,59 @@ use Rattle.cuts.specs.Outcome.{decide, outcome}
 use Rattle.cuts.proofs.terminal_cuts.Statement.{statement}
 use Rattle.cuts.proofs.terminal_cuts.Tie as tie
 
-no-tree : tie.Need-returns-3
+no-tree : tie.Need-returns-in-NoTree
 unfolding outcome decide
 no-tree c =
-    let said = sym c.before.before.before.test.ensures ∙ c.before.enum_told.given.1 in
-    c.no-cuts.ensures ∙ rw said refl
+    let said = sym c.before.before.test.ensures ∙ c.before.in-NoTree.is in
+    c.no_cuts.ensures ∙ rw said refl
 
-too_large : tie.Need-returns-4
+too_large : tie.Need-returns-in-TooLarge
 unfolding outcome decide
 too_large c =
-    let said = sym c.before.before.before.test.ensures ∙ c.before.enum-told2.given.1 in
-    c.no-cuts2.ensures ∙ rw said refl
+    let said = sym c.before.before.test.ensures ∙ c.before.in-TooLarge.is in
+    c.no_cuts-in-TooLarge.ensures ∙ rw said refl
 
 -- the offer was accepted
-accepted : (c : tie.After-enum-told3) →
-    let a = c.before.before.before.before.before.before.before.before.args in
+accepted : (c : tie.In-Accepted) →
+    let a = c.before.before.before.before.before.before.before.args in
     offer largest a.n a.one.now a.two.now a.marks.now a.capacity.now ≡ Accepted
-accepted c = sym c.before.before.test.ensures ∙ c.enum-told3.given.1
+accepted c = sym c.before.test.ensures ∙ c.in-Accepted.is
 
-unequal : tie.Need-returns
+unequal : tie.Need-returns-then-balanced-one
 unfolding outcome decide
 unequal c =
-    let a = c.before.before.before.before.before.before.before.before.before.before.args in
-    c.no-cuts3.ensures ∙ rw (accepted c.before.before, ne_eqb (length a.balanced.now) (length a.one.now) c.before.if1.true) refl
+    let a = c.before.before.before.before.before.before.before.before.before.args in
+    c.no_cuts-then-balanced-one.ensures ∙ rw (accepted c.before.before, ne_eqb (length a.balanced.now) (length a.one.now) c.before.if-balanced-one.true) refl
 
-balanced-too-large : tie.Need-returns-2
+balanced-too-large : tie.Need-returns-then-not-capacities_within
 unfolding outcome decide
 balanced-too-large c =
     let tested = c.before.before in
     let told = tested.before.before in
-    let a = told.before.before.before.before.before.before.before.before.args in
-    let large : within 0 SIZE a.balanced.now ≡ false = sym tested.capacities-within.ensures ∙ not-true _ c.before.if2.true in
-    c.no-cuts4.ensures
-    ∙ rw (accepted told, eq-eqb (length a.balanced.now) (length a.one.now) tested.before.if1.false, large) refl
+    let a = told.before.before.before.before.before.before.before.args in
+    let large : within 0 SIZE a.balanced.now ≡ false = sym tested.capacities_within.ensures ∙ c.before.if-not-capacities_within.true in
+    c.no_cuts-then-not-capacities_within.ensures
+    ∙ rw (accepted told, eq-eqb (length a.balanced.now) (length a.one.now) tested.before.if-balanced-one.false, large) refl
 
-made : tie.Need-returns-5
+made : tie.Need-returns-else-not-capacities_within
 unfolding outcome decide
 made c =
     let tested = c.before.before in
     let told = tested.before.before in
-    let a = told.before.before.before.before.before.before.before.before.args in
-    let small : within 0 SIZE a.balanced.now ≡ true = sym tested.capacities-within.ensures ∙ not-false _ c.before.if2.false in
-    c.cuts-by-ends.ensures
-    ∙ rw (accepted told, eq-eqb (length a.balanced.now) (length a.one.now) tested.before.if1.false, small) refl
+    let a = told.before.before.before.before.before.before.before.args in
+    let small : within 0 SIZE a.balanced.now ≡ true = sym tested.capacities_within.ensures ∙ c.before.if-not-capacities_within.false in
+    c.cuts_by_ends.ensures
+    ∙ rw (accepted told, eq-eqb (length a.balanced.now) (length a.one.now) tested.before.if-balanced-one.false, small) refl
 
-cuts-by-ends-requires : tie.Need-cuts-by-ends-requires
+cuts-by-ends-requires : tie.Need-cuts_by_ends-requires
 cuts-by-ends-requires c κs =
     let told = c.before.before.before in
-    let a = told.before.before.before.before.before.before.before.before.args in
+    let a = told.before.before.before.before.before.before.before.args in
     let tree = accepted_is_a_tree_within_the_limits largest a.n a.one.now a.two.now a.marks.now a.capacity.now (accepted told) in
-    (tree, c.before.before.if1.false)
+    (tree, c.before.before.if-balanced-one.false)
 
-pub terminal-cuts-spec : {M : Type 1} → statement M
-terminal-cuts-spec =
+pub terminal_cuts_spec : {M : Type 1} → statement M
+terminal_cuts_spec =
     tie.close
     (tie.spec
     (λ c κs. tt)

@@ -11,58 +11,58 @@ use Rattle.log_requests.specs.RequestLaws.{Named, a_free_pair_is_asked_for, a_pa
 use Rattle.log_requests.proofs.between.Statement.{statement}
 use Rattle.log_requests.proofs.between.Tie as tie
 
-returns : tie.Need-returns
+returns : tie.Need-returns-in_default
 unfolding between
-returns c = rw c.enum_told.given.1
+returns c = rw c.in_default.is
 
-returns-2 : tie.Need-returns-2
+returns-2 : tie.Need-returns-in_default-to
 unfolding between
-returns-2 c = rw (c.before.before.before.from.given.1, c.enum-told2.given.1)
+returns-2 c = rw (c.before.in-At.is, c.in_default-to.is)
 
 free-requires : tie.Need-free-requires
 free-requires c κs =
-    let found = c.before.before.before.before in
-    let s = found.before.before.before.before in (
+    let found = c.before in
+    let s = found.before.before.before in (
       s.requires.0,
-      subst (Named s.args.n) found.from.given.1 s.requires.1,
-      subst (Named s.args.n) c.before.to.given.1 s.requires.2,
+      subst (Named s.args.n) found.in-At.is s.requires.1,
+      subst (Named s.args.n) c.in-At-to.is s.requires.2,
       s.requires.3,
     )
 
-returns-3 : tie.Need-returns-3
+returns-3 : tie.Need-returns-then-not-free
 returns-3 c =
-    let k = c.before.before in
-    let from = k.before.before.before.before.from.given in
-    let to = k.before.to.given in
-    let a = k.before.before.before.before.before.before.before.before.args in
-    rw (from.1, to.1)
-    (sym (a_pair_that_is_not_free_gets_6 (links a.one.now a.two.now) (look a.ends.now) a.opens a.amount from.0.0 to.0.0
-    (eqb-false _ 1 (sym c.before.free.ensures ∙ not-true c.before.free.result c.if1.true))))
+    let k = c in
+    let from = k.before.before.before.in-At in
+    let to = k.before.before.in-At-to in
+    let a = k.before.before.before.before.before.before.args in
+    rw (from.is, to.is)
+    (sym (a_pair_that_is_not_free_gets_6 (links a.one.now a.two.now) (look a.ends.now) a.opens a.amount from.first to.second
+    (eqb-false _ 1 (sym c.before.free.ensures ∙ c.if-not-free.true))))
 
 -- what is asked between two ends free to be joined
-asked : (c : tie.Else1) (o : Bool) →
-    let k = c.before.before in
-    let from = k.before.before.before.before.from.given in
-    let to = k.before.to.given in
-    let a = k.before.before.before.before.before.before.before.before.args in
-    a.opens ≡ o → request_for o (pair from.0.0 to.0.0 a.amount)
+asked : (c : tie.Else-not-free) (o : Bool) →
+    let k = c in
+    let from = k.before.before.before.in-At in
+    let to = k.before.before.in-At-to in
+    let a = k.before.before.before.before.before.before.args in
+    a.opens ≡ o → request_for o (pair from.first to.second a.amount)
     ≡ between (links a.one.now a.two.now) (look a.ends.now) a.opens a.amount a.from a.to
 asked c o e =
-    let k = c.before.before in
-    let from = k.before.before.before.before.from.given in
-    let to = k.before.to.given in
-    let a = k.before.before.before.before.before.before.before.before.args in
-    rw (from.1, to.1, e) (sym (a_free_pair_is_asked_for (links a.one.now a.two.now) (look a.ends.now) o a.amount from.0.0 to.0.0
-    (eqb-true _ 1 (sym c.before.free.ensures ∙ not-false c.before.free.result c.if1.false))))
+    let k = c in
+    let from = k.before.before.before.in-At in
+    let to = k.before.before.in-At-to in
+    let a = k.before.before.before.before.before.before.args in
+    rw (from.is, to.is, e) (sym (a_free_pair_is_asked_for (links a.one.now a.two.now) (look a.ends.now) o a.amount from.first to.second
+    (eqb-true _ 1 (sym c.before.free.ensures ∙ c.if-not-free.false))))
 
-returns-4 : tie.Need-returns-4
-returns-4 c = asked c.before true c.if2.true
+returns-4 : tie.Need-returns-then-opens
+returns-4 c = asked c.before true c.if-opens.true
 
-returns-5 : tie.Need-returns-5
-returns-5 c = asked c.before false c.if2.false
+returns-5 : tie.Need-returns
+returns-5 c = asked c.before false c.if-opens.false
 
-pub between-spec : {M : Type 1} → statement M
-between-spec =
+pub between_spec : {M : Type 1} → statement M
+between_spec =
     tie.close
     (tie.spec
     (λ c. search rules)

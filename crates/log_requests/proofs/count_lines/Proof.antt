@@ -12,54 +12,54 @@ use Rattle.log_requests.specs.RequestLaws.{after-within, lines_end, lines_step, 
 use Rattle.log_requests.proofs.count_lines.Statement.{statement}
 use Rattle.log_requests.proofs.count_lines.Tie as tie
 
-abbrev invariant-loop : tie.invariant-loop
+abbrev invariant-loop : tie.invariant-loop-at
 invariant-loop text at₀ count₀ at count = (at ≤ length text) × (count ≤ at) × (length (lines text) ≡ count + length (lines_from text (length text - at) at))
 
-abbrev decreases-loop : tie.decreases-loop
+abbrev decreases-loop : tie.decreases-loop-at
 decreases-loop text at₀ count₀ at count = length text - at
 
-loop-holds : tie.Need-loop-init invariant-loop decreases-loop
+loop-holds : tie.Need-loop-at-init invariant-loop decreases-loop
 loop-holds c = (omega arith, omega arith, omega (arith, ap length (all_lines c.before.args.text.now)))
 
 -- there is a line, and the next one is later
-here : (c : tie.Then1 invariant-loop decreases-loop) → let top = c.before.before in has_line top.before.before.args.text.now top.loop.at ≡ true
-here c = sym c.before.has_line_lem.ensures ∙ c.if1.true
+here : (c : tie.In-loop-at invariant-loop decreases-loop) → let top = c.before.before in has_line top.before.before.args.text.now top.loop-at.at ≡ true
+here c = sym c.before.has_line.ensures ∙ c.loop-at-test.true
 
-later : (c : tie.After-rest invariant-loop decreases-loop) → c.before.before.before.loop.at < c.rest.result
+later : (c : tie.After-rest-at invariant-loop decreases-loop) → c.before.before.before.loop-at.at < c.rest-at.result
 later c =
     let top = c.before.before.before in
-    rw c.rest.ensures (after-line-is-later top.before.before.args.text.now top.loop.at (here c.before))
+    rw c.rest-at.ensures (after-line-is-later top.before.before.args.text.now top.loop-at.at (here c.before))
 
-add-count : tie.Need-overflow-add-count invariant-loop decreases-loop
+add-count : tie.Need-overflow_add-count invariant-loop decreases-loop
 add-count c =
     let top = c.before.before.before in
-    omega (arith, a_line_is_on_the_sheet top.before.before.args.text.now top.loop.at (here c.before))
+    omega (arith, a_line_is_on_the_sheet top.before.before.args.text.now top.loop-at.at (here c.before))
 
-loop-less : tie.Need-loop-smaller invariant-loop decreases-loop
+loop-less : tie.Need-loop-at-smaller invariant-loop decreases-loop
 loop-less c =
     let top = c.before.before.before in
-    omega (arith, later c, a_line_is_on_the_sheet top.before.before.args.text.now top.loop.at (here c.before))
+    omega (arith, later c, a_line_is_on_the_sheet top.before.before.args.text.now top.loop-at.at (here c.before))
 
-loop-again : tie.Need-loop-preserved invariant-loop decreases-loop
+loop-again : tie.Need-loop-at-preserved invariant-loop decreases-loop
 loop-again c =
     let top = c.before.before.before in
     let text = top.before.before.args.text.now in
-    let on = a_line_is_on_the_sheet text top.loop.at (here c.before) in
-    let step = ap length (lines_step text top.loop.at on) in (
-      rw c.rest.ensures (after-within text top.loop.at),
+    let on = a_line_is_on_the_sheet text top.loop-at.at (here c.before) in
+    let step = ap length (lines_step text top.loop-at.at on) in (
+      rw c.rest-at.ensures (after-within text top.loop-at.at),
       omega (arith, later c),
-      rw c.rest.ensures (omega (arith, top.loop.invariant.2)),
+      rw c.rest-at.ensures (omega (arith, top.loop-at.invariant.2)),
     )
 
 returns : tie.Need-returns invariant-loop decreases-loop
 returns c =
     let top = c.before.before in
     let text = top.before.before.args.text.now in
-    let over = no_line_is_on_the_sheet text top.loop.at (sym c.before.has_line_lem.ensures ∙ c.if1.false) in
-    omega (arith, top.loop.invariant.2, ap length (lines_end text (length text - top.loop.at) top.loop.at over))
+    let over = no_line_is_on_the_sheet text top.loop-at.at (sym c.before.has_line.ensures ∙ c.loop-at-test.false) in
+    omega (arith, top.loop-at.invariant.2, ap length (lines_end text (length text - top.loop-at.at) top.loop-at.at over))
 
-pub count-lines-spec : {M : Type 1} → statement M
-count-lines-spec =
+pub count_lines_spec : {M : Type 1} → statement M
+count_lines_spec =
     tie.close
     (tie.spec
     invariant-loop

@@ -10,51 +10,51 @@ use Rattle.log_requests.specs.RequestLaws.{Named, found_is_a_site}
 use Rattle.log_requests.proofs.request_at.Statement.{statement}
 use Rattle.log_requests.proofs.request_at.Tie as tie
 
-find-requires : tie.Need-find-requires
+find-requires : tie.Need-find-from-requires
 find-requires c κs =
-    let start = c.before.before.before.before.before.before.before.before.before.before.before in
+    let start = c.before.before.before.before.before.before.before.before.before in
     (start.requires.0.table.few, start.requires.1)
 
-find-requires-2 : tie.Need-find-requires-2
+find-requires-2 : tie.Need-find-to-requires
 find-requires-2 c κs = find-requires c.before κs
 
 between-requires : tie.Need-between-requires
 between-requires c κs =
-    let start = c.before.before.before.before.before.before.before.before.before.before.before.before.before in
+    let start = c.before.before.before.before.before.before.before.before.before.before.before in
     let a = start.args in
     let names = ranges a.starts.now a.stops.now 0 a.n in
     let number = length-ranges a.starts.now a.stops.now 0 a.n in
     let named : (v : Found) → Named (length names) v → Named a.n v = λ v h. subst (λ k. Named k v) number h in (
       start.requires.0,
-      named c.before.find.result (subst (Named (length names)) (sym c.before.find.ensures) (found_is_a_site a.sheet.now _ names)),
-      named c.find2.result (subst (Named (length names)) (sym c.find2.ensures) (found_is_a_site a.sheet.now _ names)),
+      named c.before.find-from.result (subst (Named (length names)) (sym c.before.find-from.ensures) (found_is_a_site a.sheet.now _ names)),
+      named c.find-to.result (subst (Named (length names)) (sym c.find-to.ensures) (found_is_a_site a.sheet.now _ names)),
       start.requires.4,
     )
 
-returns : tie.Need-returns
+returns : tie.Need-returns-in-Fault
 unfolding request_at request_by
 returns c =
-    let told = c.before.before.before in
-    rw (← told.line_of.ensures, c.before.kind.given.1)
+    let told = c.before in
+    rw (← told.line_of-kind.ensures, c.in-Fault.is)
 
-returns-2 : tie.Need-returns-2
+returns-2 : tie.Need-returns-in-Booking
 unfolding request_at request_by
 returns-2 c =
-    let told = c.before.before.before.before.before.before.before.before in
+    let told = c.before.before.before.before.before.before in
     let named = c.before.before.before in
     let start = told.before.before.before.before.before.before in
     rw (
-      ← told.line_of.ensures,
-      named.before.before.before.kind2.given.1,
+      ← told.line_of-kind.ensures,
+      named.before.before.in-Booking.is,
       ← start.requires.3,
-      ← named.before.part.ensures.bytes,
-      ← named.part2.ensures.bytes,
-      ← c.before.before.find.ensures,
-      ← c.before.find2.ensures,
+      ← named.before.part-first.ensures.bytes,
+      ← named.part-second.ensures.bytes,
+      ← c.before.before.find-from.ensures,
+      ← c.before.find-to.ensures,
     ) c.between.ensures
 
-pub request-at-spec : {M : Type 1} → statement M
-request-at-spec =
+pub request_at_spec : {M : Type 1} → statement M
+request_at_spec =
     tie.close
     (tie.spec
     (λ c κs. search rules)

@@ -20,51 +20,51 @@ will path x was j = look was j + x * member path j
 others : (path : Set) (x : ℕ) (was : List ℕ) (i : ℕ) → member path i ≢ 1 → will path x was i ≡ look was i
 others path x was i d = omega (arith, none-at path x i d)
 
-abbrev invariant-loop : tie.invariant-loop
+abbrev invariant-loop : tie.invariant-loop-w
 invariant-loop x load₀ path w₀ load w = Walking path (will path x load₀) load₀ w load
 
-abbrev decreases-loop : tie.decreases-loop
+abbrev decreases-loop : tie.decreases-loop-w
 decreases-loop x load₀ path w₀ load w = SITES - w.place
 
 -- the walk stands at a link of the path
-found : (c : tie.Then1 invariant-loop decreases-loop) → let top = c.before.before in Standing (member top.before.before.before.before.args.t1) top.loop.w
-found c = c.before.before.loop.invariant.stands c.if1.true
+found : (c : tie.In-loop-w invariant-loop decreases-loop) → let top = c.before.before in Standing (member top.before.before.before.args.path) top.loop-w.w
+found c = c.before.before.loop-w.invariant.stands c.loop-w-test.true
 
 -- its load, which is as it was
-load_here : (c : tie.Then1 invariant-loop decreases-loop) →
+load_here : (c : tie.In-loop-w invariant-loop decreases-loop) →
     let top = c.before.before in
-    look top.loop.load top.loop.w.place ≡ look top.before.before.before.before.args.load.now top.loop.w.place
-load_here c = let top = c.before.before in top.loop.invariant.kept top.loop.w.place (omega arith)
+    look top.loop-w.load top.loop-w.w.place ≡ look top.before.before.before.args.load.now top.loop-w.w.place
+load_here c = let top = c.before.before in top.loop-w.invariant.kept top.loop-w.w.place (omega arith)
 
-loop-holds : tie.Need-loop-init invariant-loop decreases-loop
+loop-holds : tie.Need-loop-w-init invariant-loop decreases-loop
 loop-holds c =
-    let s = c.before.before.before in
+    let s = c.before.before in
     let a = s.args in
-    walking_start a.t1 (will a.t1 a.x a.load.now) a.load.now (others a.t1 a.x a.load.now) s.requires.places c.start.ensures
+    walking_start a.path (will a.path a.x a.load.now) a.load.now (others a.path a.x a.load.now) s.requires.places c.start-w.ensures
 
-add-load : tie.Need-overflow-add-load invariant-loop decreases-loop
+add-load : tie.Need-overflow_add-load invariant-loop decreases-loop
 add-load c =
-    let top = c.before.before.before in
-    let s = top.before.before.before.before in
-    omega (arith, load_here c.before, s.requires.room top.loop.w.place)
+    let top = c.before.before.before.before in
+    let s = top.before.before.before in
+    omega (arith, load_here c.before.before, s.requires.room top.loop-w.w.place)
 
-loop-again : tie.Need-loop-preserved invariant-loop decreases-loop
+loop-again : tie.Need-loop-w-preserved invariant-loop decreases-loop
 loop-again c =
     let link = c.before.before.before.before in
     let top = link.before.before in
-    let a = top.before.before.before.before.args in
-    walking_next a.t1 (will a.t1 a.x a.load.now) a.load.now (others a.t1 a.x a.load.now) top.loop.invariant link.if1.true
-    (omega (arith, load_here link, ap (λ z. a.x * z) (found link).here)) c.onward.ensures
+    let a = top.before.before.before.args in
+    walking_next a.path (will a.path a.x a.load.now) a.load.now (others a.path a.x a.load.now) top.loop-w.invariant link.loop-w-test.true
+    (omega (arith, load_here link, ap (λ z. a.x * z) (found link).here)) c.onward-w.ensures
 
 returns : tie.Need-returns invariant-loop decreases-loop
 unfolding raised
 returns c =
     let top = c.before.before in
-    let a = top.before.before.before.before.args in
-    walking_end a.t1 (will a.t1 a.x a.load.now) a.load.now (others a.t1 a.x a.load.now) top.loop.invariant c.if1.false
+    let a = top.before.before.before.args in
+    walking_end a.path (will a.path a.x a.load.now) a.load.now (others a.path a.x a.load.now) top.loop-w.invariant c.loop-w-test.false
 
-pub raise-spec : {M : Type 1} → statement M
-raise-spec =
+pub raise_spec : {M : Type 1} → statement M
+raise_spec =
     tie.close
     (tie.spec
     invariant-loop
@@ -72,10 +72,10 @@ raise-spec =
     (λ c κs. tt)
     loop-holds
     (λ c. omega (arith, (found c).inside))
-    (λ c. omega (arith, (found c).inside, c.before.before.loop.invariant.long))
+    (λ c. omega (arith, (found c.before).inside, c.before.before.before.loop-w.invariant.long))
     add-load
-    (λ c. omega (arith, (found c.before).inside, c.before.before.before.loop.invariant.long))
+    (λ c. omega (arith, (found c.before.before).inside, c.before.before.before.before.loop-w.invariant.long))
     (λ c κs. found c.before.before.before)
-    (λ c. omega (arith, (found c.before.before.before.before).inside, c.onward.ensures.from))
+    (λ c. omega (arith, (found c.before.before.before.before).inside, c.onward-w.ensures.from))
     loop-again
     returns)

@@ -7,28 +7,28 @@ use Rattle.log_steps.proofs.step.Tie as tie
 
 open-requires : tie.Need-open-requires
 open-requires c κs =
-    let opening = c.before.before.before.before in
-    let s = opening.before.before.before.before.before.before in
-    (s.requires.0, asked_wanted (rw opening.before.request.given.1 at s.requires.1) c.before.before.before.lower-first.ensures, s.requires.2)
+    let opening = c.before.before.before in
+    let s = opening.before.before.before.before.before in
+    (s.requires.0, asked_wanted (rw opening.before.in-Open.is at s.requires.1) c.before.before.before.lower_first-more.ensures, s.requires.2)
 
-give-up-requires : tie.Need-give-up-requires
+give-up-requires : tie.Need-give_up-requires
 give-up-requires c κs =
-    let giving = c.before.before.before.before in
-    let s = giving.before.before.before.before.before.before in
-    (s.requires.0, asked_wanted (rw giving.before.request2.given.1 at s.requires.1) c.before.before.before.lower-first2.ensures, s.requires.2)
+    let giving = c.before.before.before in
+    let s = giving.before.before.before.before.before in
+    (s.requires.0, asked_wanted (rw giving.before.in-GiveUp.is at s.requires.1) c.before.before.before.lower_first-less.ensures, s.requires.2)
 
-returns : tie.Need-returns
+returns : tie.Need-returns-in-Open
 returns c =
     let opened = c.before.before.before.before in
-    open_answered opened.before.before.request.given.1 opened.lower-first.ensures c.«open».ensures
+    open_answered opened.before.in-Open.is opened.lower_first-more.ensures c.«open».ensures
 
-returns-2 : tie.Need-returns-2
+returns-2 : tie.Need-returns-in-GiveUp
 returns-2 c =
     let giving = c.before.before.before.before in
-    give-up-answered giving.before.before.request2.given.1 giving.lower-first2.ensures c.give-up.ensures
+    give-up-answered giving.before.in-GiveUp.is giving.lower_first-less.ensures c.give_up.ensures
 
-returns-3 : tie.Need-returns-3
-returns-3 c = fault_answered c.before.request3.given.1 c.before.before.before.before.before.before.requires.2
+returns-3 : tie.Need-returns-in-Fault
+returns-3 c = fault_answered c.in-Fault.is c.before.before.before.before.requires.2
 
 pub step_spec : {M : Type 1} → statement M
 step_spec =

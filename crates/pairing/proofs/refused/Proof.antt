@@ -3,5 +3,5 @@ use mathlib.Core.Path.{refl}
 use Rattle.pairing.proofs.refused.Statement.{statement}
 use Rattle.pairing.proofs.refused.Tie as tie
 
-pub refused-spec : {M : Type 1} → statement M
-refused-spec = tie.close (tie.spec (λ c. (refl, refl)))
+pub refused_spec : {M : Type 1} → statement M
+refused_spec = tie.close (tie.spec (λ c. (refl, refl)))

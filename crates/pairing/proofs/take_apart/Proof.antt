@@ -24,68 +24,68 @@ use Rattle.pairing.proofs.Working.{refusal_works, decomposition_works}
 use Rattle.pairing.proofs.take_apart.Statement.{statement}
 use Rattle.pairing.proofs.take_apart.Tie as tie
 
-abbrev start : tie.After-chain → tie.Start
+abbrev start : tie.After-chain-chains → tie.Start
 start c = c.before.before.before.before.before
 
-abbrev chained : tie.After-ends → tie.After-chain
+abbrev chained : tie.After-ends-ends → tie.After-chain-chains
 chained c = c.before.before.before.before.before
 
-ends-requires : tie.Need-ends-requires
+ends-requires : tie.Need-ends-ends-requires
 ends-requires c κs =
     let h = c.before.before.before.before in
     let w = (start h).requires in
-    (w.within.few, w.marked, h.chain.ensures)
+    (w.within.few, w.marked, h.chain-chains.ensures)
 
 heavy-requires : tie.Need-heavy-requires
-heavy-requires c κs = let h = chained c.before.before.before in let w = (start h).pre.within in (w.few, h.chain.ensures, offer_limited w)
+heavy-requires c κs = let h = chained c.before.before.before in let w = (start h).requires.within in (w.few, h.chain-chains.ensures, offer_limited w)
 
-heavy : tie.Need-returns
+heavy : tie.Need-returns-then-heavy
 unfolding answer decide pair_count to_store
 heavy c places enough =
     let e = c.before.before.before.before.before.before in
     let s = start (chained e) in
     let a = s.args in
     let ls = links a.one.now a.two.now in
-    let told = ap (λ f. heavy_somewhere ls a.n f (look a.capacity.now)) (sym e.ends.ensures)
-    ∙ sym c.before.before.heavy.ensures ∙ c.before.if1.true in
-    let accepted = a_tree_within_the_limits_is_accepted largest a.n a.one.now a.two.now a.marks.now a.capacity.now s.pre in
+    let told = ap (λ f. heavy_somewhere ls a.n f (look a.capacity.now)) (sym e.ends-ends.ensures)
+    ∙ sym c.before.before.heavy.ensures ∙ c.before.if-heavy.true in
+    let accepted = a_tree_within_the_limits_is_accepted largest a.n a.one.now a.two.now a.marks.now a.capacity.now s.requires in
     refusal_works a.n a.one.now a.two.now a.marks.now a.capacity.now places c.refused.result pairing.Heavy c.refused.ensures
     (rw (accepted, le-leb _ places enough, told) refl) refl (λ ps. refl)
 
 -- without a heavy link the capacities are balanced
-balanced : (c : tie.Else1) → let e = c.before.before.before.before.before in let a = (start (chained e)).args in
-    Balanced (links a.one.now a.two.now) (look e.ends.result) (look a.capacity.now)
+balanced : (c : tie.Else-heavy) → let e = c.before.before.before.before.before in let a = (start (chained e)).args in
+    Balanced (links a.one.now a.two.now) (look e.ends-ends.result) (look a.capacity.now)
 balanced c =
     let e = c.before.before.before.before.before in
     let s = start (chained e) in
     let a = s.args in
-    no_heavy_link_is_balanced (links a.one.now a.two.now) (look e.ends.result) (look a.capacity.now) s.pre.within.tree
-    (sym c.before.heavy.ensures ∙ c.if1.false)
+    no_heavy_link_is_balanced (links a.one.now a.two.now) (look e.ends-ends.result) (look a.capacity.now) s.requires.within.tree
+    (sym c.before.heavy.ensures ∙ c.if-heavy.false)
 
-decompose-requires : tie.Need-decompose-requires
+decompose-requires : tie.Need-decompose-pairs-requires
 decompose-requires c κs =
     let i = c.before.before.before in
     let e = i.before.before.before.before.before in
     let s = start (chained e) in
     record {
-      tree = s.pre.within;
-      chained = (chained e).chain.ensures;
+      tree = s.requires.within;
+      chained = (chained e).chain-chains.ensures;
       balanced = balanced i;
     }
 
-made : tie.Need-returns-2
+made : tie.Need-returns
 made c places enough =
     let i = c.before.before.before.before in
     let e = i.before.before.before.before.before in
     let s = start (chained e) in
     let a = s.args in
-    let w = s.pre.within in
+    let w = s.requires.within in
     let ls = links a.one.now a.two.now in
-    let m = c.decompose.ensures in
-    let es = pairs_of a.n e.ends.result a.one.now a.two.now a.capacity.now in
+    let m = c.decompose-pairs.ensures in
+    let es = pairs_of a.n e.ends-ends.result a.one.now a.two.now a.capacity.now in
     let light : Balanced ls (terminals a.n a.one.now a.two.now a.marks.now) (look a.capacity.now) =
-    subst (λ f. Balanced ls f (look a.capacity.now)) e.ends.ensures (balanced i) in
-    let same = ap (pairs_of_parts ls a.n (look a.capacity.now)) e.ends.ensures in
+    subst (λ f. Balanced ls f (look a.capacity.now)) e.ends-ends.ensures (balanced i) in
+    let same = ap (pairs_of_parts ls a.n (look a.capacity.now)) e.ends-ends.ensures in
     let few : length es ≤ LINKS = omega (
       arith,
       ap length same,
@@ -94,11 +94,11 @@ made c places enough =
       w.firsts,
       w.few,
     ) in
-    decomposition_works a.n a.one.now a.two.now a.marks.now a.capacity.now places s.pre light enough _ (rw m (listing-holds es ∙ same))
+    decomposition_works a.n a.one.now a.two.now a.marks.now a.capacity.now places s.requires light enough _ (rw m (listing-holds es ∙ same))
     (rw (m, listing_counts es) few) (rw m (listing-long es (omega (arith, few)))) refl
 
-pub take-apart-spec : {M : Type 1} → statement M
-take-apart-spec =
+pub take_apart_spec : {M : Type 1} → statement M
+take_apart_spec =
     tie.close
     (tie.spec
     (λ c κs. offer-placed c.before.before.before.before.requires.within)

@@ -15,47 +15,47 @@ use Rattle.pairing.proofs.work_out.Statement.{statement}
 use Rattle.pairing.proofs.work_out.Tie as tie
 
 -- what the tree test said
-accepted : (c : tie.After-enum-told3) → let a = c.before.before.before.before.before.before.before.args in
+accepted : (c : tie.In-Accepted) → let a = c.before.before.before.before.before.before.args in
     offer largest a.n a.one.now a.two.now a.marks.now a.capacity.now ≡ Accepted
-accepted c = sym c.before.before.test.ensures ∙ c.enum-told3.given.1
+accepted c = sym c.before.test.ensures ∙ c.in-Accepted.is
 
-within : (c : tie.After-enum-told3) → let a = c.before.before.before.before.before.before.before.args in
+within : (c : tie.In-Accepted) → let a = c.before.before.before.before.before.before.args in
     MarkedTree largest a.n a.one.now a.two.now a.marks.now a.capacity.now
 within c =
-    let a = c.before.before.before.before.before.before.before.args in
+    let a = c.before.before.before.before.before.before.args in
     accepted_is_a_tree_within_the_limits largest a.n a.one.now a.two.now a.marks.now a.capacity.now (accepted c)
 
-no-tree : tie.Need-returns-2
+no-tree : tie.Need-returns-in-NoTree
 unfolding answer decide pair_count to_store
 no-tree c =
-    let a = c.before.before.before.before.before.before.before.before.args in
+    let a = c.before.before.before.before.before.before.before.args in
     let said : offer largest a.n a.one.now a.two.now a.marks.now a.capacity.now ≡ NoTree =
-    sym c.before.before.before.test.ensures ∙ c.before.enum_told.given.1 in
+    sym c.before.before.test.ensures ∙ c.before.in-NoTree.is in
     refusal_works a.n a.one.now a.two.now a.marks.now a.capacity.now a.places c.refused.result pairing.NoTree
     c.refused.ensures (rw said refl) refl (λ ps. refl)
 
-too_large : tie.Need-returns-3
+too_large : tie.Need-returns-in-TooLarge
 unfolding answer decide pair_count to_store
 too_large c =
-    let a = c.before.before.before.before.before.before.before.before.args in
+    let a = c.before.before.before.before.before.before.before.args in
     let said : offer largest a.n a.one.now a.two.now a.marks.now a.capacity.now ≡ TooLarge =
-    sym c.before.before.before.test.ensures ∙ c.before.enum-told2.given.1 in
-    refusal_works a.n a.one.now a.two.now a.marks.now a.capacity.now a.places c.refused2.result pairing.TooLarge
-    c.refused2.ensures (rw said refl) refl (λ ps. refl)
+    sym c.before.before.test.ensures ∙ c.before.in-TooLarge.is in
+    refusal_works a.n a.one.now a.two.now a.marks.now a.capacity.now a.places c.refused-in-TooLarge.result pairing.TooLarge
+    c.refused-in-TooLarge.ensures (rw said refl) refl (λ ps. refl)
 
-short : tie.Need-returns
+short : tie.Need-returns-then-places-one
 unfolding answer decide pair_count to_store
 short c =
-    let i = c.before in
+    let i = c in
     let a = i.before.before.before.before.before.before.before.before.args in
-    refusal_works a.n a.one.now a.two.now a.marks.now a.capacity.now a.places c.refused3.result pairing.Short c.refused3.ensures
-    (rw (accepted c.before.before, lt-leb (length a.one.now) a.places c.before.if1.true) refl) refl (λ ps. refl)
+    refusal_works a.n a.one.now a.two.now a.marks.now a.capacity.now a.places c.refused-then-places-one.result pairing.Short c.refused-then-places-one.ensures
+    (rw (accepted c.before.before, lt-leb (length a.one.now) a.places c.before.if-places-one.true) refl) refl (λ ps. refl)
 
-tree : tie.Need-returns-4
-tree c = c.take-apart.ensures _ c.before.if1.false
+tree : tie.Need-returns-else-places-one
+tree c = c.take_apart.ensures _ c.before.if-places-one.false
 
-pub work-out-spec : {M : Type 1} → statement M
-work-out-spec =
+pub work_out_spec : {M : Type 1} → statement M
+work_out_spec =
     tie.close
     (tie.spec
     (λ c κs. tt)

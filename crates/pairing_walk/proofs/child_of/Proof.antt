@@ -4,10 +4,10 @@ use Rattle.pairing_walk.proofs.child_of.Statement.{statement}
 use Rattle.pairing_walk.proofs.child_of.Tie as tie
 
 returns : tie.Need-returns
-returns c = cc c.lesser.ensures
+returns c = cc c.lesser-up.ensures
 
-pub child-of-spec : {M : Type 1} → statement M
-child-of-spec =
+pub child_of_spec : {M : Type 1} → statement M
+child_of_spec =
     tie.close
     (tie.spec
     (λ c. search rules)

@@ -7,13 +7,13 @@ use Rattle.pairing_walk.specs.Visits.{covered}
 use Rattle.pairing_walk.proofs.covered.Statement.{statement}
 use Rattle.pairing_walk.proofs.covered.Tie as tie
 
-ended : tie.Need-returns
+ended : tie.Need-returns-then-ends-v-eq1
 unfolding covered
-ended c = sym (pick_same c.if1.true 1 (look c.before.before.args.done.now c.before.before.args.v))
+ended c = sym (pick_same c.if-ends-v-eq1.true 1 (look c.before.before.before.args.done.now c.before.before.before.args.v))
 
-inner : tie.Need-returns-2
+inner : tie.Need-returns
 unfolding covered
-inner c = let s = c.before.before.before in sym (pick_other c.before.if1.false 1 (look s.args.done.now s.args.v))
+inner c = let s = c.before.before.before.before in sym (pick_other c.before.if-ends-v-eq1.false 1 (look s.args.done.now s.args.v))
 
-pub covered-spec : {M : Type 1} → statement M
-covered-spec = tie.close (tie.spec (λ c. search rules) ended (λ c. search rules) inner)
+pub covered_spec : {M : Type 1} → statement M
+covered_spec = tie.close (tie.spec (λ c. search rules) ended (λ c. search rules) inner)

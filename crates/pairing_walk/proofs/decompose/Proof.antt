@@ -12,22 +12,22 @@ use Rattle.pairing_walk.proofs.decompose.Statement.{statement}
 use Rattle.pairing_walk.proofs.decompose.Tie as tie
 
 -- the pairs of the parts are added
-added : (c : tie.After-join-links) → let a = c.before.before.before.before.before.before.before.before.args in
-    Added (replicate (2 * NUMBERS) 0) 0 c.join-links.new.1.1.1.1.0 c.join-links.result
+added : (c : tie.After-join_links-end) → let a = c.before.before.before.before.before.before.before.before.args in
+    Added (replicate (2 * NUMBERS) 0) 0 c.join_links-end.new.pairs c.join_links-end.result
     (flat_pairs (pairs_of a.n a.ends.now a.one.now a.two.now a.capacity.now))
 added c =
     let w = c.before.before.before in
-    all-added w.before.before.before.before.before.requires w.walk-parts.ensures c.join-links.ensures
+    all-added w.before.before.before.before.before.requires w.walk_parts-walked.ensures c.join_links-end.ensures
 
-pub decompose-spec : {M : Type 1} → statement M
-decompose-spec =
+pub decompose_spec : {M : Type 1} → statement M
+decompose_spec =
     tie.close
     (tie.spec
     (λ c. refl)
     (λ c κs. (all_walkable c.before.before.before.before.requires, omega arith))
     (λ c. search rules)
     (λ c κs. let w = c.before.before in
-    (singles_start w.before.before.before.before.before.requires w.walk-parts.ensures, omega (arith, w.walk-parts.ensures.below.as_long)))
+    (singles_start w.before.before.before.before.before.requires w.walk_parts-walked.ensures, omega (arith, w.walk_parts-walked.ensures.below.as_long)))
     (λ c. search rules)
     (λ c κs. let j = c.before.before in pairs_spell j.before.before.before.before.before.before.before.before.requires (omega arith) (added j))
     (λ c. let j = c.before.before.before in

@@ -4,22 +4,22 @@ use borrow.Author.Rules.{rules}
 use Rattle.pairing_walk.proofs.enter.Statement.{statement}
 use Rattle.pairing_walk.proofs.enter.Tie as tie
 
-next-child-requires : tie.Need-next-child-requires
+next-child-requires : tie.Need-next_child-next-requires
 next-child-requires c κs =
-    let s = c.before.before.before.before in
+    let s = c.before.before.before.before.before.before in
     let p = s.requires in
     record { tree = p.tree; placed = p.placed; afters = p.lists.afters; list = (s.args.v, 0, p.lists.firsts s.args.v) }
 
 returns : tie.Need-returns
 returns c =
-    let s = c.before.before.before.before.before.before in
+    let s = c.before.before.before.before.before.before.before.before in
     record {
       site = refl;
       link = refl;
       comes = refl;
       remains = refl;
       from = refl;
-      first = c.before.next-child.ensures s.args.v 0 (s.requires.lists.firsts s.args.v);
+      first = c.before.next_child-next.ensures s.args.v 0 (s.requires.lists.firsts s.args.v);
     }
 
 pub enter_spec : {M : Type 1} → statement M

@@ -7,47 +7,47 @@ use Rattle.pairing_walk.proofs.Singles.{link-places, inner_first, inner_second, 
 use Rattle.pairing_walk.proofs.join_link.Statement.{statement}
 use Rattle.pairing_walk.proofs.join_link.Tie as tie
 
-first : tie.Need-element-copy-out-if1
-first c = let s = c.before.before.before.before.before.before in omega (arith, link-places s.requires.0 s.args.ends.now)
+first : tie.Need-bounds-ends-a
+first c = let s = c.before.before.before.before.before.before.before in omega (arith, link-places s.requires.0 s.args.ends.now)
 
-no-first : tie.Need-returns
+no-first : tie.Need-returns-then-ends-a-ne1
 unfolding flat_pairs
 no-first c =
-    let s = c.before.before.before.before.before.before.before.before in
-    rw (inner_first s.requires.0 s.args.ends.now c.if1.true) (added-nothing s.args.pairs.now s.args.end)
+    let s = c.before.before.before.before.before.before.before.before.before in
+    rw (inner_first s.requires.0 s.args.ends.now c.if-ends-a-ne1.true) (added-nothing s.args.pairs.now s.args.end)
 
-second : tie.Need-element-copy-out-if2
-second c = let s = c.before.before.before.before.before.before.before.before in omega (arith, link-places s.requires.0 s.args.ends.now)
+second : tie.Need-bounds-ends-b
+second c = let s = c.before.before.before.before.before.before.before.before.before in omega (arith, link-places s.requires.0 s.args.ends.now)
 
-no_second : tie.Need-returns-2
+no_second : tie.Need-returns-then-ends-b-ne1
 unfolding flat_pairs
 no_second c =
-    let s = c.before.before.before.before.before.before.before.before.before.before in
-    rw (inner_second s.requires.0 s.args.ends.now c.if2.true) (added-nothing s.args.pairs.now s.args.end)
+    let s = c.before.before.before.before.before.before.before.before.before.before.before in
+    rw (inner_second s.requires.0 s.args.ends.now c.if-ends-b-ne1.true) (added-nothing s.args.pairs.now s.args.end)
 
-none : tie.Need-returns-3
+none : tie.Need-returns-then-capacity-j-eq0
 unfolding flat_pairs
 none c =
-    let s = c.before.before.before.before.before.before.before.before.before.before.before.before in
-    rw (no_amount s.requires.0 s.args.ends.now c.if3.true) (added-nothing s.args.pairs.now s.args.end)
+    let s = c.before.before.before.before.before.before.before.before.before.before.before.before.before in
+    rw (no_amount s.requires.0 s.args.ends.now c.if-capacity-j-eq0.true) (added-nothing s.args.pairs.now s.args.end)
 
-fits : tie.Need-overflow-mul-push-pair-2
+fits : tie.Need-overflow_mul-capacity
 fits c =
-    let s = c.before.before.before.before.before.before.before.before.before.before.before.before.before.before in
+    let s = c.before.before.before.before.before.before.before.before.before.before.before.before.before.before.before in
     let l = s.requires.0 in
     omega (arith, l.tree.limited s.args.j (omega (arith, l.link, l.tree.capacities)))
 
-its : tie.Need-returns-4
+its : tie.Need-returns
 its c =
     let p = c.before.before in
     let i3 = p.before.before.before in
     let i2 = i3.before.before in
     let i1 = i2.before.before in
-    let s = i1.before.before.before.before.before.before.before.before in
-    rw (its_pair s.requires.0 s.args.ends.now i1.if1.false i2.if2.false (omega (arith, i3.if3))) p.push-pair.ensures
+    let s = i1.before.before.before.before.before.before.before.before.before in
+    rw (its_pair s.requires.0 s.args.ends.now i1.if-ends-a-ne1.false i2.if-ends-b-ne1.false (omega (arith, i3.if-capacity-j-eq0))) p.push_pair.ensures
 
-pub join-link-spec : {M : Type 1} → statement M
-join-link-spec =
+pub join_link_spec : {M : Type 1} → statement M
+join_link_spec =
     tie.close
     (tie.spec
     (λ c. search rules)

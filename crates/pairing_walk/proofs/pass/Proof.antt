@@ -37,22 +37,22 @@ after s =
     let less : f.at - 1 ≡ half ls f.site (between ls f.site f.next) = omega (arith, h.2) in
     rw less (p.afters f.site f.next (omega (arith, p.coming.above)) h.0)
 
-next-child-requires : tie.Need-next-child-requires
+next-child-requires : tie.Need-next_child-next-requires
 next-child-requires c κs =
-    let s = c.before.before.before.before in
+    let s = c.before.before.before.before.before in
     let p = s.requires in
     record { tree = p.tree; placed = p.placed; afters = p.afters; list = (s.args.frame.site, s.args.frame.next, after s) }
 
 returns : tie.Need-returns
 returns c =
-    let s = c.before.before.before.before.before.before in
+    let s = c.before.before.before.before.before.before.before in
     record {
       site = refl;
       link = refl;
       comes = refl;
       remains = refl;
       from = refl;
-      next = c.before.next-child.ensures s.args.frame.site s.args.frame.next (after s);
+      next = c.before.next_child-next.ensures s.args.frame.site s.args.frame.next (after s);
     }
 
 pub pass_spec : {M : Type 1} → statement M
@@ -61,7 +61,7 @@ pass_spec =
     (tie.spec
     (λ c. (place c.before.before.before).0)
     (λ c. omega (arith, place c.before.before.before))
-    (λ c. (place c.before.before.before).1)
+    (λ c. (place c.before.before.before.before).1)
     next-child-requires
-    (λ c. let p = c.before.before.before.before.before.before.requires in omega (arith, p.enough))
+    (λ c. let p = c.before.before.before.before.before.before.before.requires in omega (arith, p.enough))
     returns)

@@ -7,21 +7,21 @@ use Rattle.pairing_walk.proofs.Reading.{Reading, reading-starts, reading_room, r
 use Rattle.pairing_walk.proofs.read_pairs.Statement.{statement}
 use Rattle.pairing_walk.proofs.read_pairs.Tie as tie
 
-abbrev invariant-loop : tie.invariant-loop
+abbrev invariant-loop : tie.invariant-loop-at
 invariant-loop numbers end list₀ count₀ at₀ list count at = Reading numbers end at count list
 
-abbrev decreases-loop : tie.decreases-loop
+abbrev decreases-loop : tie.decreases-loop-at
 decreases-loop numbers end list₀ count₀ at₀ list count at = end - at
 
 -- the next pair lies within the numbers, and there is a place for it
-room : (c : tie.In-loop invariant-loop decreases-loop)
-    → (c.before.loop.at + 3 ≤ length c.before.before.before.args.numbers.now) × (c.before.loop.count < SITES)
+room : (c : tie.In-loop-at invariant-loop decreases-loop)
+    → (c.before.loop-at.at + 3 ≤ length c.before.before.before.args.numbers.now) × (c.before.loop-at.count < SITES)
 room c =
-    let r = reading_room c.before.before.before.requires c.before.loop.invariant c.loop-test.true in
+    let r = reading_room c.before.before.before.requires c.before.loop-at.invariant c.loop-at-test.true in
     (omega (arith, r.0, c.before.before.before.requires.inside), r.1)
 
-pub read-pairs-spec : {M : Type 1} → statement M
-read-pairs-spec =
+pub read_pairs_spec : {M : Type 1} → statement M
+read_pairs_spec =
     tie.close
     (tie.spec
     invariant-loop
@@ -33,5 +33,5 @@ read-pairs-spec =
     (λ c. omega (arith, room c.before))
     (λ c. omega (arith, room c.before))
     (λ c. omega (arith, room c.before))
-    (λ c. rw c.pair-at.ensures (reading-next c.before.before.before.before.requires c.before.before.loop.invariant c.before.loop-test.true))
-    (λ c. reading-ends c.before.before.before.requires c.before.loop.invariant c.loop-test.false))
+    (λ c. rw c.pair_at.ensures (reading-next c.before.before.before.before.requires c.before.before.loop-at.invariant c.before.loop-at-test.true))
+    (λ c. reading-ends c.before.before.before.requires c.before.loop-at.invariant c.loop-at-test.false))

@@ -13,17 +13,17 @@ use Rattle.pairing_walk.proofs.walk_parts.Statement.{statement}
 use Rattle.pairing_walk.proofs.walk_parts.Tie as tie
 
 -- the first root is the lowest inner site
-low : (c : tie.After-next-root) → let a = c.before.before.before.before.before.before.args in
-    c.next-root.result ≡ lowest_inner (covered (look a.ends.now) untouched) 1 (suc (length a.one.now))
+low : (c : tie.After-next_root-lowest) → let a = c.before.before.before.before.before.before.args in
+    c.next_root-lowest.result ≡ lowest_inner (covered (look a.ends.now) untouched) 1 (suc (length a.one.now))
 low c =
     let a = c.before.before.before.before.before.before.args in
     let all : length a.one.now + 1 - 0 ≡ suc (length a.one.now) = omega arith in
-    rw all at c.next-root.ensures.0
+    rw all at c.next_root-lowest.ensures.0
 
 fit : (s : tie.Start) → let a = s.args in Fit (suc (length a.one.now)) a.ends.now a.one.now a.two.now a.capacity.now
 fit s = record { tree = s.requires.0.tree; balanced = s.requires.0.balanced }
 
-none : tie.Need-returns
+none : tie.Need-returns-then-lowest-eq0
 none c =
     let r = c.before.before in
     let s = r.before.before.before.before.before.before in
@@ -32,14 +32,14 @@ none c =
     let p = a.pairs.now in
     between-all (fit s)
     (between-starts a.ends.now a.one.now a.two.now a.capacity.now p p p)
-    (rw all (sym c.if1.true ∙ low r))
+    (rw all (sym c.if-lowest-eq0.true ∙ low r))
 
-list-neighbours-requires : tie.Need-list-neighbours-requires
+list-neighbours-requires : tie.Need-list_neighbours-near-requires
 list-neighbours-requires c κs =
     let w = c.before.before.before.before.before.before.before.before.requires.0 in
     record { tree = w.tree.tree; chained = w.chained }
 
-sums-requires : tie.Need-sums-requires
+sums-requires : tie.Need-sums-sums-requires
 sums-requires c κs = c.before.before.before.before.before.before.before.before.before.before.before.requires.0.tree
 
 visit-requires : tie.Need-visit-requires
@@ -49,19 +49,19 @@ visit-requires c κs =
     let r = i.before.before in
     let s = r.before.before.before.before.before.before in (
       fit s,
-      record { summed = c.before.before.before.before.before.before.before.sums.ensures; lists = l.list-neighbours.ensures },
+      record { summed = c.before.before.before.before.before.before.before.sums-sums.ensures; lists = l.list_neighbours-near.ensures },
       record {
-        some = i.if1.false;
+        some = i.if-lowest-eq0.false;
         lowest = low r;
-        marked = r.next-root.ensures.1 ∙ pick_other i.if1.false untouched (set untouched r.next-root.result 1);
+        marked = r.next_root-lowest.ensures.1 ∙ pick_other i.if-lowest-eq0.false untouched (set untouched r.next_root-lowest.result 1);
         ups_room = omega arith;
         downs_room = omega arith;
         pairs_room = s.requires.1;
       },
     )
 
-pub walk-parts-spec : {M : Type 1} → statement M
-walk-parts-spec =
+pub walk_parts_spec : {M : Type 1} → statement M
+walk_parts_spec =
     tie.close
     (tie.spec
     (λ c. search rules)

@@ -7,35 +7,35 @@ use Rattle.lists.specs.Numbers.{look}
 use Rattle.plan_accounts.proofs.overloaded.Statement.{statement}
 use Rattle.plan_accounts.proofs.overloaded.Tie as tie
 
-abbrev invariant-loop : tie.invariant-loop
+abbrev invariant-loop : tie.invariant-loop-j
 invariant-loop capacity load j₀ j-end j = (j ≤ length capacity) × ((i : ℕ) → i < j → 2 * look capacity i < look load i → ⊥)
 
-abbrev decreases-loop : tie.decreases-loop
+abbrev decreases-loop : tie.decreases-loop-j
 decreases-loop capacity load j₀ j-end j = length capacity - j
 
-loop-holds : tie.Need-loop-init invariant-loop decreases-loop
+loop-holds : tie.Need-loop-j-init invariant-loop decreases-loop
 loop-holds c = (omega arith, λ i l. absurd (omega arith))
 
-mul-if1-2 : tie.Need-overflow-mul-if1-2 invariant-loop decreases-loop
-mul-if1-2 c = let s = c.before.before.before in omega (arith, s.requires.limited c.before.before.loop.j (omega arith))
+mul-if1-2 : tie.Need-overflow_mul-capacity invariant-loop decreases-loop
+mul-if1-2 c = let s = c.before.before.before in omega (arith, s.requires.limited c.before.before.loop-j.j (omega arith))
 
-mul-if1-3 : tie.Need-overflow-mul-if1-3 invariant-loop decreases-loop
+mul-if1-3 : tie.Need-offset_bounds-load-j invariant-loop decreases-loop
 mul-if1-3 c = let s = c.before.before.before in omega (arith, s.requires.few)
 
-element-copy-out-if1 : tie.Need-element-copy-out-if1 invariant-loop decreases-loop
-element-copy-out-if1 c = let s = c.before.before.before in omega (arith, s.requires.few)
+element-copy-out-if1 : tie.Need-bounds-load-j invariant-loop decreases-loop
+element-copy-out-if1 c = let s = c.before.before.before.before in omega (arith, s.requires.few)
 
-returns : tie.Need-returns invariant-loop decreases-loop
-returns c = let top = c.before.before.before.before in record { link = top.loop.j; inside = omega arith; over = c.if1.true }
+returns : tie.Need-returns-then-capacity-j invariant-loop decreases-loop
+returns c = let top = c.before.before.before.before.before in record { link = top.loop-j.j; inside = omega arith; over = c.if-capacity-j.true }
 
-loop-again : tie.Need-loop-preserved invariant-loop decreases-loop
-loop-again c = (omega arith, below_more _ _ c.before.before.before.before.loop.invariant.1 (λ o. omega (arith, c.if1.false)))
+loop-again : tie.Need-loop-j-preserved invariant-loop decreases-loop
+loop-again c = (omega arith, below_more _ _ c.before.before.before.before.before.loop-j.invariant.1 (λ o. omega (arith, c.if-capacity-j.false)))
 
-returns-2 : tie.Need-returns-2 invariant-loop decreases-loop
-returns-2 c o = let top = c.before in top.loop.invariant.1 o.link (omega (arith, o.inside)) o.over
+returns-2 : tie.Need-returns invariant-loop decreases-loop
+returns-2 c o = let top = c.before in top.loop-j.invariant.1 o.link (omega (arith, o.inside)) o.over
 
-pub overloaded-spec : {M : Type 1} → statement M
-overloaded-spec =
+pub overloaded_spec : {M : Type 1} → statement M
+overloaded_spec =
     tie.close
     (tie.spec
     invariant-loop

@@ -6,7 +6,7 @@ use Rattle.planner.proofs.answer.Tie as tie
 
 returns : tie.Need-returns
 unfolding reporter
-returns c = c.before.before.answer-on.ensures
+returns c = c.before.before.answer_on.ensures
 
-pub answer-spec : {M : Type 1} → statement M
-answer-spec = tie.close (tie.spec (λ c κs. search rules) (λ c. search rules) returns)
+pub answer_spec : {M : Type 1} → statement M
+answer_spec = tie.close (tie.spec (λ c κs. search rules) (λ c. search rules) returns)

@@ -12,32 +12,32 @@ fits-requires c κs =
     let s = c.before.before.before.before.before.before.before.before.before.before.before.before.before in
     s.requires
 
-write-requires : tie.Need-write-requires
+write-requires : tie.Need-write-length-requires
 write-requires c κs =
     let s = c.before.before.before.before.before.before.before.before.before.before.before.before.before.before.before.before in
     s.requires
 
-written : tie.Need-returns
+written : tie.Need-returns-then-fits
 written c =
     let fitted = c.before.before.before.before.before in
     let s = fitted.before.before.before.before.before.before.before.before.before.before.before.before.before.before in
-    let w = c.before.before.write in
-    let long = room_enough _ _ (sym fitted.fits2.ensures ∙ c.before.before.before.before.if1.true) (omega (arith, s.requires.room)) in
+    let w = c.before.before.write-length in
+    let long = room_enough _ _ (sym fitted.fits.ensures ∙ c.before.before.before.before.if-fits.true) (omega (arith, s.requires.room)) in
     let e = long-enough _ s.args.report.now _ w.result long w.ensures in
     (sym (ap (λ p. p.outcome) e), sym (ap (λ p. p.buffer) e))
 
-refused : tie.Need-returns-2
+refused : tie.Need-returns
 refused c =
     let s = c.before.before.before.before.before.before.before.before.before.before.before.before.before.before.before in
-    let e = too_long _ s.args.report.now (no_room _ _ (sym c.before.fits2.ensures ∙ c.if1.false)) in
+    let e = too_long _ s.args.report.now (no_room _ _ (sym c.before.fits.ensures ∙ c.if-fits.false)) in
     (sym (ap (λ p. p.outcome) e), sym (ap (λ p. p.buffer) e))
 
-pub deliver-spec : {M : Type 1} → statement M
-deliver-spec =
+pub deliver_spec : {M : Type 1} → statement M
+deliver_spec =
     tie.close
     (tie.spec
     fits-requires
     write-requires
-    (λ c. same_size c.before.before.write.ensures)
+    (λ c. same_size c.before.before.write-length.ensures)
     written
     refused)

@@ -7,15 +7,15 @@ deliver-requires : tie.Need-deliver-requires
 deliver-requires c κs =
     let made = c.before.before.before.before.before in
     let s = c.before.before.before.before.before.before.before.before.before.before.before.before.before.before.before.before in
-    rw made.pair_of.ensures s.requires.2
+    rw made.pair_of-pairs.ensures s.requires.2
 
 returns : tie.Need-returns
 returns c =
     let made = c.before.before.before.before.before.before.before.before in
-    rw made.pair_of.ensures at c.before.before.deliver.ensures
+    rw made.pair_of-pairs.ensures at c.before.before.deliver.ensures
 
-pub deliver-link-spec : {M : Type 1} → statement M
-deliver-link-spec =
+pub deliver_link_spec : {M : Type 1} → statement M
+deliver_link_spec =
     tie.close
     (tie.spec
     (λ c. search rules)

@@ -9,25 +9,25 @@ use Rattle.planner.specs.Fits.{fits}
 use Rattle.planner.proofs.fits.Statement.{statement}
 use Rattle.planner.proofs.fits.Tie as tie
 
-enough : tie.Need-returns
+enough : tie.Need-returns-then-room-ge-REPORT
 unfolding fits
 enough c =
     let s = c.before.before.before.before.before.before.before.before.before.before.before.before.before in
-    rw (le-leb REPORT s.args.room c.if1.true) refl
+    rw (le-leb REPORT s.args.room c.if-room-ge-REPORT.true) refl
 
-write-requires : tie.Need-write-requires
+write-requires : tie.Need-write-length-requires
 write-requires c κs =
     let s = c.before.before.before.before.before.before.before.before.before.before.before.before.before.before in
     s.requires
 
-measured : tie.Need-returns-2
+measured : tie.Need-returns
 unfolding fits
 measured c =
     let s = c.before.before.before.before.before.before.before.before.before.before.before.before.before.before.before.before in
-    rw (lt-leb REPORT s.args.room c.before.before.before.if1.false)
-    (ap (λ k. leb k s.args.room) (c.before.write.ensures.next ∙ zero-add _))
+    rw (lt-leb REPORT s.args.room c.before.before.before.if-room-ge-REPORT.false)
+    (ap (λ k. leb k s.args.room) (c.before.write-length.ensures.next ∙ zero-add _))
 
-pub fits-spec : {M : Type 1} → statement M
-fits-spec =
+pub fits_spec : {M : Type 1} → statement M
+fits_spec =
     tie.close
     (tie.spec enough (λ c. search rules) write-requires measured)

@@ -6,13 +6,13 @@ use Rattle.pairing_walk.specs.Visits.{listing}
 use Rattle.planner.proofs.pair_of.Statement.{statement}
 use Rattle.planner.proofs.pair_of.Tie as tie
 
-returns : tie.Need-returns
+returns : tie.Need-returns-then-capacity-eq0
 unfolding listing
-returns c = rw (c.if1.true, no_pair_lem) refl
+returns c = rw (c.if-capacity-eq0.true, no_pair_lem) refl
 
-returns-2 : tie.Need-returns-2
+returns-2 : tie.Need-returns
 unfolding listing
-returns-2 c = rw (one-pair c.before.args.capacity c.if1.false) refl
+returns-2 c = rw (one-pair c.before.args.capacity c.if-capacity-eq0.false) refl
 
-pub pair-of-spec : {M : Type 1} → statement M
-pair-of-spec = tie.close (tie.spec returns (λ c. search rules) (λ c. search rules) returns-2)
+pub pair_of_spec : {M : Type 1} → statement M
+pair_of_spec = tie.close (tie.spec returns (λ c. search rules) (λ c. search rules) returns-2)

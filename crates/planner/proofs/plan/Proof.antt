@@ -6,7 +6,7 @@ use Rattle.planner.proofs.plan.Tie as tie
 
 returns : tie.Need-returns
 unfolding reporter
-returns c = c.before.before.report-on.ensures
+returns c = c.before.before.report_on.ensures
 
-pub plan-spec : {M : Type 1} → statement M
-plan-spec = tie.close (tie.spec (λ c κs. search rules) (λ c. search rules) returns)
+pub plan_spec : {M : Type 1} → statement M
+plan_spec = tie.close (tie.spec (λ c κs. search rules) (λ c. search rules) returns)

@@ -13,16 +13,16 @@ use Rattle.planner.specs.Taken.{the_network_is_a_marked_tree, the_ends_are_the_n
 use Rattle.planner.proofs.plan_chained.Statement.{statement}
 use Rattle.planner.proofs.plan_chained.Tie as tie
 
-ends-requires : tie.Need-ends-requires
+ends-requires : tie.Need-ends-ends-requires
 ends-requires c κs =
     let s = c.before.before.before.before.before.before.before.before in
     let tree = the_network_is_a_marked_tree s.requires.0 in
     (tree.within.few, tree.marked ∙ ap length (sym s.requires.1), s.requires.3)
 
 -- the lists are charted, with the ends of the network
-charted : (c : tie.After-ends) → let s = c.before.before.before.before.before.before.before.before.before in let a = s.args in
+charted : (c : tie.After-ends-ends) → let s = c.before.before.before.before.before.before.before.before.before in let a = s.args in
     (t : TakenApart a.sheet.now a.start.now a.end.now a.n a.one.now a.two.now a.capacity.now)
-    × Charted t a.order.now c.ends.result a.last.now a.before.now
+    × Charted t a.order.now c.ends-ends.result a.last.now a.before.now
 charted c =
     let s = c.before.before.before.before.before.before.before.before.before in
     let a = s.args in
@@ -30,33 +30,33 @@ charted c =
       t,
       record {
         ordered = s.requires.2;
-        marked = c.ends.ensures ∙ ap (λ marks. look (ends (links a.one.now a.two.now) a.n marks)) s.requires.1 ∙ the_ends_are_the_networks t;
+        marked = c.ends-ends.ensures ∙ ap (λ marks. look (ends (links a.one.now a.two.now) a.n marks)) s.requires.1 ∙ the_ends_are_the_networks t;
         chained = s.requires.3;
       },
     )
 
-returns : tie.Need-returns
+returns : tie.Need-returns-then-whole
 unfolding reporter
 returns c =
     let made = c.before.before in
     let a = c.before.before.before.before.before.before.before.before.before.before.before.before.before.before.before.args in
-    let e : whole_report ≡ reporter a.whole = sym (ap reporter made.before.before.before.if1.true) in (
-      made.whole-charted.ensures.0 ∙ ap (λ text. (planned_by text editions a.sheet.now a.buf.now).outcome) e,
-      made.whole-charted.ensures.1 ∙ ap (λ text. (planned_by text editions a.sheet.now a.buf.now).buffer) e,
+    let e : whole_report ≡ reporter a.whole = sym (ap reporter made.before.before.before.if-whole.true) in (
+      made.whole_charted.ensures.0 ∙ ap (λ text. (planned_by text editions a.sheet.now a.buf.now).outcome) e,
+      made.whole_charted.ensures.1 ∙ ap (λ text. (planned_by text editions a.sheet.now a.buf.now).buffer) e,
     )
 
-returns-2 : tie.Need-returns-2
+returns-2 : tie.Need-returns
 unfolding reporter
 returns-2 c =
     let made = c.before.before in
     let a = c.before.before.before.before.before.before.before.before.before.before.before.before.before.before.before.args in
-    let e : report ≡ reporter a.whole = sym (ap reporter made.before.before.before.if1.false) in (
-      made.plan-charted.ensures.0 ∙ ap (λ text. (planned_by text editions a.sheet.now a.buf.now).outcome) e,
-      made.plan-charted.ensures.1 ∙ ap (λ text. (planned_by text editions a.sheet.now a.buf.now).buffer) e,
+    let e : report ≡ reporter a.whole = sym (ap reporter made.before.before.before.if-whole.false) in (
+      made.plan_charted.ensures.0 ∙ ap (λ text. (planned_by text editions a.sheet.now a.buf.now).outcome) e,
+      made.plan_charted.ensures.1 ∙ ap (λ text. (planned_by text editions a.sheet.now a.buf.now).buffer) e,
     )
 
-pub plan-chained-spec : {M : Type 1} → statement M
-plan-chained-spec =
+pub plan_chained_spec : {M : Type 1} → statement M
+plan_chained_spec =
     tie.close
     (tie.spec
     ends-requires

@@ -5,17 +5,17 @@ use borrow.Author.Rules.{rules}
 use Rattle.planner.proofs.plan_parts.Statement.{statement}
 use Rattle.planner.proofs.plan_parts.Tie as tie
 
-pub plan-parts-spec : {M : Type 1} → statement M
-plan-parts-spec =
+pub plan_parts_spec : {M : Type 1} → statement M
+plan_parts_spec =
     tie.close
     (tie.spec
-    (λ c. let s = c.before.before.before.before.before.before.before.before.before in
+    (λ c. let s = c.before.before.before.before.before.before.before.before in
     sym (length-take-le s.args.m s.args.one.now s.requires.2))
-    (λ c. let s = c.before.before.before.before.before.before.before.before.before.before in
+    (λ c. let s = c.before.before.before.before.before.before.before.before in
     sym (length-take-le s.args.m s.args.two.now s.requires.3))
-    (λ c. let s = c.before.before.before.before.before.before.before.before.before.before.before in
+    (λ c. let s = c.before.before.before.before.before.before.before.before in
     sym (length-take-le s.args.n s.args.mark.now s.requires.5))
-    (λ c. let s = c.before.before.before.before.before.before.before.before.before.before.before.before in
+    (λ c. let s = c.before.before.before.before.before.before.before.before in
     sym (length-take-le s.args.m s.args.capacity.now s.requires.4))
     (λ c κs. search rules)
     (λ c. search rules)

@@ -6,7 +6,7 @@ use Rattle.planner.proofs.whole.Tie as tie
 
 returns : tie.Need-returns
 unfolding reporter
-returns c = c.before.before.report-on.ensures
+returns c = c.before.before.report_on.ensures
 
-pub whole-spec : {M : Type 1} → statement M
-whole-spec = tie.close (tie.spec (λ c κs. search rules) (λ c. search rules) returns)
+pub whole_spec : {M : Type 1} → statement M
+whole_spec = tie.close (tie.spec (λ c κs. search rules) (λ c. search rules) returns)

@@ -10,16 +10,16 @@ use Rattle.region_sharing.specs.Laws.{not_lone_in_both}
 use Rattle.region_sharing.proofs.lone_in_both.Statement.{statement}
 use Rattle.region_sharing.proofs.lone_in_both.Tie as tie
 
-returns : tie.Need-returns
+returns : tie.Need-returns-then-lone
 returns c =
     let a = c.before.before.before.before.before.before.before.before.before.args in
-    c.lone2.ensures
+    c.lone-then-lone.ensures
     ∙ the_other_decides (lone (region_by a.n a.one.now a.two.now a.marks.now []) a.y)
     (lone (region_by a.n2 a.one2.now a.two2.now a.marks2.now []) a.z)
-    (eqb-true _ 1 (sym c.before.before.lone.ensures ∙ c.before.if1.true))
+    (eqb-true _ 1 (sym c.before.before.lone.ensures ∙ c.before.if-lone.true))
 
-returns-2 : tie.Need-returns-2
-returns-2 c = not_lone_in_both _ _ _ (sym c.before.lone.ensures ∙ c.if1.false)
+returns-2 : tie.Need-returns
+returns-2 c = not_lone_in_both _ _ _ (sym c.before.lone.ensures ∙ c.if-lone.false)
 
-pub lone-in-both-spec : {M : Type 1} → statement M
-lone-in-both-spec = tie.close (tie.spec (λ c κs. search rules) (λ c κs. search rules) returns returns-2)
+pub lone_in_both_spec : {M : Type 1} → statement M
+lone_in_both_spec = tie.close (tie.spec (λ c κs. search rules) (λ c κs. search rules) returns returns-2)

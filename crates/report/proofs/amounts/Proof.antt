@@ -8,46 +8,46 @@ use Rattle.report.proofs.Totals.{total-next, total-part}
 use Rattle.report.proofs.amounts.Statement.{statement}
 use Rattle.report.proofs.amounts.Tie as tie
 
-abbrev invariant-loop : tie.invariant-loop
+abbrev invariant-loop : tie.invariant-loop-i
 invariant-loop n pairs sum₀ i₀ sum i = (i ≤ n) × (sum ≡ total (take i pairs))
 
-abbrev decreases-loop : tie.decreases-loop
+abbrev decreases-loop : tie.decreases-loop-i
 decreases-loop n pairs sum₀ i₀ sum i = n - i
 
-loop-holds : tie.Need-loop-init invariant-loop decreases-loop
+loop-holds : tie.Need-loop-i-init invariant-loop decreases-loop
 loop-holds c = (omega arith, unfold total in refl)
 
-mul-pair : tie.Need-overflow-mul-pair invariant-loop decreases-loop
+mul-pair : tie.Need-offset_bounds-pairs-i invariant-loop decreases-loop
 mul-pair c = omega arith
 
-array-copy-out-pair : tie.Need-array-copy-out-pair invariant-loop decreases-loop
+array-copy-out-pair : tie.Need-bounds-pairs-i invariant-loop decreases-loop
 array-copy-out-pair c = omega arith
 
-add-sum : tie.Need-overflow-add-sum invariant-loop decreases-loop
+add-sum : tie.Need-overflow_add-sum invariant-loop decreases-loop
 add-sum c =
     let top = c.before.before.before in
     let s = top.before.args in
-    let next = total-next s.t1 top.loop.i (omega arith) in
-    omega (arith, top.loop.invariant.1, total-part s.t1 (top.loop.i + 1) s.n (omega arith), top.before.requires.2)
+    let next = total-next s.pairs top.loop-i.i (omega arith) in
+    omega (arith, top.loop-i.invariant.1, total-part s.pairs (top.loop-i.i + 1) s.n (omega arith), top.before.requires.2)
 
-add-i : tie.Need-overflow-add-i invariant-loop decreases-loop
+add-i : tie.Need-overflow_add-i invariant-loop decreases-loop
 add-i c = omega arith
 
-loop-less : tie.Need-loop-smaller invariant-loop decreases-loop
+loop-less : tie.Need-loop-i-smaller invariant-loop decreases-loop
 loop-less c = omega arith
 
-loop-again : tie.Need-loop-preserved invariant-loop decreases-loop
+loop-again : tie.Need-loop-i-preserved invariant-loop decreases-loop
 loop-again c =
     let top = c.before.before.before in
-    (omega arith, omega (arith, top.loop.invariant.1, total-next top.before.args.t1 top.loop.i (omega arith)))
+    (omega arith, omega (arith, top.loop-i.invariant.1, total-next top.before.args.pairs top.loop-i.i (omega arith)))
 
 returns : tie.Need-returns invariant-loop decreases-loop
 returns c =
-    let e : c.before.loop.i ≡ c.before.before.args.n = omega arith in
-    rw e at c.before.loop.invariant.1
+    let e : c.before.loop-i.i ≡ c.before.before.args.n = omega arith in
+    rw e at c.before.loop-i.invariant.1
 
-pub amounts-spec : {M : Type 1} → statement M
-amounts-spec =
+pub amounts_spec : {M : Type 1} → statement M
+amounts_spec =
     tie.close
     (tie.spec
     invariant-loop

@@ -6,23 +6,23 @@ use Rattle.report.specs.Shown.{name_by}
 use Rattle.report.proofs.put_two_sites.Statement.{statement}
 use Rattle.report.proofs.put_two_sites.Tie as tie
 
-put-site-requires : tie.Need-put-site-requires
+put-site-requires : tie.Need-put_site-next-requires
 put-site-requires c κs =
     let s = c.before.before.before.before.before in
     let name = name_by s.args.sheet.now s.args.start.now s.args.end.now in
     (room_fields s.args.at ((s.args.letter ∷ []) ∷ name s.args.v ∷ []) (name s.args.w) s.requires.0, s.requires.1)
 
-put-name-requires : tie.Need-put-name-requires
+put-name-requires : tie.Need-put_name-requires
 put-name-requires c κs =
     let s = c.before.before.before.before.before.before.before.before.before in
     let name = name_by s.args.sheet.now s.args.start.now s.args.end.now in
-    (room_next ((s.args.letter ∷ []) ∷ name s.args.v ∷ []) (name s.args.w) c.before.before.before.put-site.ensures s.requires.0, s.requires.2)
+    (room_next ((s.args.letter ∷ []) ∷ name s.args.v ∷ []) (name s.args.w) c.before.before.before.put_site-next.ensures s.requires.0, s.requires.2)
 
-same_length : tie.Need-same-length
-same_length c = same_size c.before.before.put-name.ensures ∙ same_size c.before.before.before.before.before.before.put-site.ensures
+same_length : tie.Need-shape_of-buf
+same_length c = same_size c.before.before.put_name.ensures ∙ same_size c.before.before.before.before.before.before.put_site-next.ensures
 
 returns : tie.Need-returns
-returns c = next_field _ _ c.before.before.before.before.before.before.put-site.ensures c.before.before.put-name.ensures
+returns c = next_field _ _ c.before.before.before.before.before.before.put_site-next.ensures c.before.before.put_name.ensures
 
-pub put-two-sites-spec : {M : Type 1} → statement M
-put-two-sites-spec = tie.close (tie.spec put-site-requires put-name-requires same_length returns)
+pub put_two_sites_spec : {M : Type 1} → statement M
+put_two_sites_spec = tie.close (tie.spec put-site-requires put-name-requires same_length returns)

@@ -19,17 +19,17 @@ returns : tie.Need-returns
 unfolding odd_line
 returns c =
     let s = c.before.before.before.before.before.before.before.before.before.args in
-    let number = c.before.before.put-number.ensures in
-    let letter = c.before.before.before.before.before.before.put-letter.ensures in
+    let number = c.before.before.put_number.ensures in
+    let letter = c.before.before.before.before.before.before.put_letter-next.ensures in
     (line_ended _ _ _ (first_field _ letter) (last_field_lem _ number), omega (arith, letter.next, number.next, short s.count (omega arith)))
 
-pub write-odd-spec : {M : Type 1} → statement M
-write-odd-spec =
+pub write_odd_spec : {M : Type 1} → statement M
+write_odd_spec =
     tie.close
     (tie.spec
     (λ c κs. omega arith)
     (λ c κs.
     let s = c.before.before.before.before.before.before.args in
-    omega (arith, c.before.before.before.put-letter.ensures.next, short s.count (omega arith)))
-    (λ c. same_size c.before.before.put-number.ensures ∙ same_size c.before.before.before.before.before.before.put-letter.ensures)
+    omega (arith, c.before.before.before.put_letter-next.ensures.next, short s.count (omega arith)))
+    (λ c. same_size c.before.before.put_number.ensures ∙ same_size c.before.before.before.before.before.before.put_letter-next.ensures)
     returns)

@@ -10,19 +10,19 @@ use Rattle.sheet.proofs.edition_of.Statement.{statement}
 use Rattle.sheet.proofs.edition_of.Tie as tie
 
 -- what line 1 is found to be
-found : (c : tie.After-is-heading) → c.is-heading.result ≡ is_heading edition2 (fields (line_at c.before.before.before.before.args.sheet.now 0))
-found c = rw (c.before.line.ensures.bytes, c.before.before.second.ensures) at c.is-heading.ensures
+found : (c : tie.After-is_heading) → c.is_heading.result ≡ is_heading edition2 (fields (line_at c.before.before.before.before.args.sheet.now 0))
+found c = rw (c.before.line.ensures.bytes, c.before.before.second-second.ensures) at c.is_heading.ensures
 
-returns : tie.Need-returns
+returns : tie.Need-returns-then-is_heading
 returns c =
-    let second = c.before.before.before.second.ensures in
-    second ∙ sym (headed_as_edition_2 _ (sym (found c.before) ∙ c.if1.true))
+    let second = c.before.before.before.second-second.ensures in
+    second ∙ sym (headed_as_edition_2 _ (sym (found c.before) ∙ c.if-is_heading.true))
 
-returns-2 : tie.Need-returns-2
-returns-2 c = c.first.ensures ∙ sym (not_headed_as_edition_2 _ (λ e. false≢true (sym c.before.if1.false ∙ found c.before.before ∙ e)))
+returns-2 : tie.Need-returns
+returns-2 c = c.first.ensures ∙ sym (not_headed_as_edition_2 _ (λ e. false≢true (sym c.before.if-is_heading.false ∙ found c.before.before ∙ e)))
 
-pub edition-of-spec : {M : Type 1} → statement M
-edition-of-spec =
+pub edition_of_spec : {M : Type 1} → statement M
+edition_of_spec =
     tie.close
     (tie.spec
     (λ c κs. search rules)

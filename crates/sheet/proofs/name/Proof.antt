@@ -8,7 +8,7 @@ use Rattle.sheet.proofs.name.Tie as tie
 returns : tie.Need-returns
 returns c =
     let named = c.before in
-    subst (λ r. IsPart named.before.before.args.sheet r c.part.result) named.name-range.ensures c.part.ensures
+    subst (λ r. IsPart named.before.before.args.sheet r c.part.result) named.name_range-range.ensures c.part.ensures
 
-pub name-spec : {M : Type 1} → statement M
-name-spec = tie.close (tie.spec (λ c κs. search rules) (λ c κs. search rules) returns)
+pub name_spec : {M : Type 1} → statement M
+name_spec = tie.close (tie.spec (λ c κs. search rules) (λ c κs. search rules) returns)

@@ -7,11 +7,11 @@ use borrow.Author.Rules.{rules}
 use Rattle.sheet.proofs.read_low.Statement.{statement}
 use Rattle.sheet.proofs.read_low.Tie as tie
 
-read-as-requires : tie.Need-read-as-requires
+read-as-requires : tie.Need-read_as-requires
 read-as-requires c κs = rw c.low.ensures (omega arith)
 
 returns : tie.Need-returns
 returns c = c.read_as.ensures ∙ ap (λ e. reading (read_as e c.before.before.before.args.sheet.now)) c.before.low.ensures
 
-pub read-low-spec : {M : Type 1} → statement M
-read-low-spec = tie.close (tie.spec (λ c κs. search rules) read-as-requires returns)
+pub read_low_spec : {M : Type 1} → statement M
+read_low_spec = tie.close (tie.spec (λ c κs. search rules) read-as-requires returns)

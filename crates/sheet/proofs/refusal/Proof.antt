@@ -11,5 +11,5 @@ returns : tie.Need-returns
 unfolding reading
 returns c = rw c.nothing.ensures
 
-pub refusal-spec : {M : Type 1} → statement M
-refusal-spec = tie.close (tie.spec nothing-requires returns)
+pub refusal_spec : {M : Type 1} → statement M
+refusal_spec = tie.close (tie.spec nothing-requires returns)

@@ -6,14 +6,14 @@ use borrow.Author.Rules.{rules}
 use Rattle.sheet_test.proofs.marks.Statement.{statement}
 use Rattle.sheet_test.proofs.marks.Tie as tie
 
-abbrev invariant-loop : tie.invariant-loop
+abbrev invariant-loop : tie.invariant-loop-i
 invariant-loop mark i₀ i = Unit {0}
 
-abbrev decreases-loop : tie.decreases-loop
+abbrev decreases-loop : tie.decreases-loop-i
 decreases-loop mark i₀ i = length mark - i
 
-pub marks-spec : {M : Type 1} → statement M
-marks-spec =
+pub marks_spec : {M : Type 1} → statement M
+marks_spec =
     tie.close
     (tie.spec
     invariant-loop

@@ -12,13 +12,13 @@ returns : tie.Need-returns
 returns c =
     let found2 = c.before.before.before in
     let a = c.before.before.before.before.before.before.before.before.before.before.before.before.before.before.args in
-    c.link_of_lem.ensures
+    c.link_of.ensures
     ∙ ap₂ (link_of (region_by a.n a.one.now a.two.now a.marks.now []))
-    (c.before.before.site-found.ensures ∙ ap site_found found2.before.before.find.ensures)
-    (c.before.site-found2.ensures ∙ ap site_found found2.find2.ensures)
+    (c.before.before.site_found-x.ensures ∙ ap site_found found2.before.before.find-found.ensures)
+    (c.before.site_found-y.ensures ∙ ap site_found found2.find-found2.ensures)
 
-pub named-link-spec : {M : Type 1} → statement M
-named-link-spec =
+pub named_link_spec : {M : Type 1} → statement M
+named_link_spec =
     tie.close
     (tie.spec
     (λ c κs. search rules)

@@ -4,5 +4,5 @@ use native.Mathlib.Omega.{arith}
 use Rattle.pairing.proofs.weighing.is_heavy.Statement.{statement}
 use Rattle.pairing.proofs.weighing.is_heavy.Tie as tie
 
-pub is-heavy-spec : {M : Type 1} → statement M
-is-heavy-spec = tie.close (tie.spec (λ c. omega arith) (λ c. refl))
+pub is_heavy_spec : {M : Type 1} → statement M
+is_heavy_spec = tie.close (tie.spec (λ c. omega arith) (λ c. refl))

@@ -5,13 +5,13 @@ use Rattle.sheet.specs.Sheet.{heading_step}
 use Rattle.sheet.proofs.stepping.heading_step.Statement.{statement}
 use Rattle.sheet.proofs.stepping.heading_step.Tie as tie
 
-returns : tie.Need-returns
+returns : tie.Need-returns-then-is_heading
 unfolding heading_step
-returns c = rw (sym c.before.is-heading.ensures ∙ c.if1.true)
+returns c = rw (sym c.before.is_heading.ensures ∙ c.if-is_heading.true)
 
-returns-2 : tie.Need-returns-2
+returns-2 : tie.Need-returns
 unfolding heading_step
-returns-2 c = rw (sym c.before.is-heading.ensures ∙ c.if1.false)
+returns-2 c = rw (sym c.before.is_heading.ensures ∙ c.if-is_heading.false)
 
-pub heading-step-spec : {M : Type 1} → statement M
-heading-step-spec = tie.close (tie.spec (λ c κs. search rules) returns returns-2)
+pub heading_step_spec : {M : Type 1} → statement M
+heading_step_spec = tie.close (tie.spec (λ c κs. search rules) returns returns-2)

@@ -12,52 +12,52 @@ use Rattle.sheet.proofs.stepping.link_step.Statement.{statement}
 use Rattle.sheet.proofs.stepping.link_step.Tie as tie
 
 -- the sites found have places
-first-site : (c : tie.After-known-told) → c.before.first.given.0.0 < PLACES
-first-site c = subst (Labelled PLACES) c.before.first.given.1 c.before.before.before.requires.0
+first-site : (c : tie.In-At) → c.in-At.one < PLACES
+first-site c = subst (Labelled PLACES) c.in-At.is c.before.requires.0
 
-second-site : (c : tie.After-known-told2) → c.before.second.given.0.0 < PLACES
-second-site c = subst (Labelled PLACES) c.before.second.given.1 c.before.before.before.before.before.before.requires.1
+second-site : (c : tie.In-At-second) → c.in-At-second.two < PLACES
+second-site c = subst (Labelled PLACES) c.in-At-second.is c.before.before.requires.1
 
-returns : tie.Need-returns
+returns : tie.Need-returns-in_default
 unfolding link_step
-returns c = λ ls h. rw c.enum_told.given.1
+returns c = λ ls h. rw c.in_default.is
 
-returns-2 : tie.Need-returns-2
+returns-2 : tie.Need-returns-in_default-second
 unfolding link_step
-returns-2 c = λ ls h. rw (c.before.before.before.first.given.1, c.enum-told2.given.1)
+returns-2 c = λ ls h. rw (c.before.in-At.is, c.in_default-second.is)
 
 root-requires : tie.Need-root-requires
-root-requires c κs = omega (arith, first-site c.before.before.before.before, c.root-arg.given.0)
+root-requires c κs = omega (arith, first-site c.before.before, c.root-arg-1.given)
 
 root-requires-2 : tie.Need-root-requires-2
-root-requires-2 c κs = omega (arith, second-site c.before.before.before, c.root-arg2.given.0)
+root-requires-2 c κs = omega (arith, second-site c.before.before.before, c.root-arg-2-1.given)
 
-returns-3 : tie.Need-returns-3
+returns-3 : tie.Need-returns-then-root
 unfolding link_step
 returns-3 c = λ ls h.
     let second = c.before in
     let first = second.before.before in
     rw (
-      first.before.before.before.before.before.before.first.given.1,
-      first.before.before.before.second.given.1,
-      roots_tell h (first.root.ensures h.lower) (second.root2.ensures h.lower),
-      eq-eqb _ _ c.if1.true,
+      first.before.before.before.in-At.is,
+      first.before.before.in-At-second.is,
+      roots_tell h (first.root.ensures h.lower) (second.root-2.ensures h.lower),
+      eq-eqb _ _ c.if-root.true,
     )
 
-returns-4 : tie.Need-returns-4
+returns-4 : tie.Need-returns
 unfolding link_step
 returns-4 c = λ ls h.
     let second = c.before in
     let first = second.before.before in
     rw (
-      first.before.before.before.before.before.before.first.given.1,
-      first.before.before.before.second.given.1,
-      roots_tell h (first.root.ensures h.lower) (second.root2.ensures h.lower),
-      ne_eqb _ _ c.if1.false,
+      first.before.before.before.in-At.is,
+      first.before.before.in-At-second.is,
+      roots_tell h (first.root.ensures h.lower) (second.root-2.ensures h.lower),
+      ne_eqb _ _ c.if-root.false,
     )
 
-pub link-step-spec : {M : Type 1} → statement M
-link-step-spec =
+pub link_step_spec : {M : Type 1} → statement M
+link_step_spec =
     tie.close
     (tie.spec
     (λ c. search rules)

@@ -16,62 +16,62 @@ use Rattle.sheet.proofs.stepping.record_step.Statement.{statement}
 use Rattle.sheet.proofs.stepping.record_step.Tie as tie
 
 -- the names of a line stand on it
-formed : (c : tie.After-shared-slice-known) (w : Line) → c.before.args.line ≡ w
+formed : (c : tie.After-shared_slice_known-1) (w : Line) → c.before.args.line ≡ w
     → Formed c.before.args.edition.size (line_at c.before.args.sheet.now c.before.args.at) w
 formed c w e = subst (Formed c.before.args.edition.size (line_at c.before.args.sheet.now c.before.args.at)) e c.before.requires.3
 
-link-step-requires : tie.Need-link-step-requires
+link-step-requires : tie.Need-link_step-requires
 link-step-requires c κs =
-    let a = c.before.before.before.before.before.before.before.before.args in
+    let a = c.before.before.before.before.before.before.args in
     let names = ranges a.starts.now a.ends.now 0 a.sites in
     let few : length names < PLACES = omega (arith, length-ranges a.starts.now a.ends.now 0 a.sites) in (
-      subst (Labelled PLACES) (sym c.before.before.find2.ensures) (labelled a.sheet.now _ names PLACES few),
-      subst (Labelled PLACES) (sym c.find3.ensures) (labelled a.sheet.now _ names PLACES few),
+      subst (Labelled PLACES) (sym c.before.before.find-first.ensures) (labelled a.sheet.now _ names PLACES few),
+      subst (Labelled PLACES) (sym c.find-second.ensures) (labelled a.sheet.now _ names PLACES few),
     )
 
-returns : tie.Need-returns
+returns : tie.Need-returns-in-Site
 unfolding record_step
 returns c = λ net h.
-    let a = c.before.before.before.before.before.before.before.args in
+    let a = c.before.before.before.before.before.args in
     let few : length net.names ≡ a.sites = ap length (sym h.names) ∙ length-ranges a.starts.now a.ends.now 0 a.sites in
-    rw (c.before.before.before.before.line.given.1, few, ← h.names, ← c.before.find.ensures)
-    c.site-step.ensures
+    rw (c.before.before.before.in-Site.is, few, ← h.names, ← c.before.find-found.ensures)
+    c.site_step.ensures
 
-returns-2 : tie.Need-returns-2
+returns-2 : tie.Need-returns-in-Link
 unfolding record_step
 returns-2 c = λ net h.
     let find = c.before.before.before in
-    rw (find.before.before.before.line2.given.1, ← h.names, ← find.find2.ensures, ← c.before.find3.ensures)
-    (c.link-step.ensures net.links h.labels_are)
+    rw (find.before.before.in-Link.is, ← h.names, ← find.find-first.ensures, ← c.before.find-second.ensures)
+    (c.link_step.ensures net.links h.labels_are)
 
-returns-3 : tie.Need-returns-3
+returns-3 : tie.Need-returns-in-Fault
 unfolding record_step
-returns-3 c = λ net h. rw c.before.line3.given.1
+returns-3 c = λ net h. rw c.in-Fault.is
 
-pub record-step-spec : {M : Type 1} → statement M
-record-step-spec =
+pub record_step_spec : {M : Type 1} → statement M
+record_step_spec =
     tie.close
     (tie.spec
     (λ c. search rules)
-    (λ c. omega (arith, formed c.before.before.before _ c.before.line.given.1))
-    (λ c. omega (arith, formed c.before.before.before _ c.before.line.given.1))
-    (λ c. omega (arith, formed c.before.before.before _ c.before.line.given.1))
-    (λ c. omega (arith, formed c.before.before.before _ c.before.line.given.1))
-    (λ c. omega (arith, formed c.before.before.before _ c.before.line.given.1))
+    (λ c. omega (arith, formed c.before _ c.in-Site.is))
+    (λ c. omega (arith, formed c.before _ c.in-Site.is))
+    (λ c. omega (arith, formed c.before _ c.in-Site.is))
+    (λ c. omega (arith, formed c.before _ c.in-Site.is))
+    (λ c. omega (arith, formed c.before _ c.in-Site.is))
     (λ c κs. search rules)
     (λ c κs. search rules)
     (λ c. search rules)
-    (λ c. omega (arith, formed c.before.before.before _ c.before.line2.given.1))
-    (λ c. omega (arith, formed c.before.before.before _ c.before.line2.given.1))
-    (λ c. omega (arith, formed c.before.before.before _ c.before.line2.given.1))
-    (λ c. omega (arith, formed c.before.before.before _ c.before.line2.given.1))
-    (λ c. omega (arith, formed c.before.before.before _ c.before.line2.given.1))
-    (λ c. omega (arith, formed c.before.before.before _ c.before.line2.given.1))
-    (λ c. omega (arith, formed c.before.before.before _ c.before.line2.given.1))
+    (λ c. omega (arith, formed c.before _ c.in-Link.is))
+    (λ c. omega (arith, formed c.before _ c.in-Link.is))
+    (λ c. omega (arith, formed c.before _ c.in-Link.is))
+    (λ c. omega (arith, formed c.before _ c.in-Link.is))
+    (λ c. omega (arith, formed c.before _ c.in-Link.is))
+    (λ c. omega (arith, formed c.before _ c.in-Link.is))
+    (λ c. omega (arith, formed c.before _ c.in-Link.is))
     (λ c κs. search rules)
-    (λ c. omega (arith, formed c.before.before.before.before.before _ c.before.before.before.line2.given.1))
-    (λ c. omega (arith, formed c.before.before.before.before.before _ c.before.before.before.line2.given.1))
-    (λ c. omega (arith, formed c.before.before.before.before.before _ c.before.before.before.line2.given.1))
+    (λ c. omega (arith, formed c.before.before.before _ c.before.before.in-Link.is))
+    (λ c. omega (arith, formed c.before.before.before _ c.before.before.in-Link.is))
+    (λ c. omega (arith, formed c.before.before.before _ c.before.before.in-Link.is))
     (λ c κs. search rules)
     link-step-requires
     (λ c. search rules)

@@ -22,17 +22,17 @@ unfolding scanned
 kind-is c = ap (λ f. f.line) c.requires.3
 
 -- the line is ended
-ended : (c : tie.Else1) → let a = c.before.before.before.args in a.at + length (line_at a.sheet.now a.at) < length a.sheet.now
-ended c = rw (end_is c.before.before.before) at c.if1.false
+ended : (c : tie.Else-found-sheet) → let a = c.before.before.before.args in a.at + length (line_at a.sheet.now a.at) < length a.sheet.now
+ended c = rw (end_is c.before.before.before) at c.if-found-sheet.false
 
-returns : tie.Need-returns
-returns c = λ net h. sym (unended_step _ _ _ _ _ (rw (end_is c.before.before.before) at c.if1.true))
+returns : tie.Need-returns-then-found-sheet
+returns c = λ net h. sym (unended_step _ _ _ _ _ (rw (end_is c.before.before.before) at c.if-found-sheet.true))
 
-returns-2 : tie.Need-returns-2
-returns-2 c = λ net h. c.heading_step_lem.ensures ∙ ap (heading_step _) c.before.line.ensures.bytes
-    ∙ sym (first_step _ _ _ _ _ (ended c.before.before.before) c.before.before.if2.true)
+returns-2 : tie.Need-returns-then-number-eq1
+returns-2 c = λ net h. c.heading_step.ensures ∙ ap (heading_step _) c.before.line-line.ensures.bytes
+    ∙ sym (first_step _ _ _ _ _ (ended c.before.before.before) c.before.before.if-number-eq1.true)
 
-record-step-requires : tie.Need-record-step-requires
+record-step-requires : tie.Need-record_step-requires
 record-step-requires c κs =
     let s = c.before.before.before.before in
     let l = line_at s.args.sheet.now s.args.at in (
@@ -42,12 +42,12 @@ record-step-requires c κs =
       subst (Formed s.args.edition.size l) (sym (kind-is s)) (kinds_are_formed s.args.edition l),
     )
 
-returns-3 : tie.Need-returns-3
-returns-3 c = λ net h. c.record-step.ensures net h
-    ∙ rw (kind-is c.before.before.before.before.before) (sym (later_step _ _ _ _ _ (ended c.before.before) c.before.if2.false))
+returns-3 : tie.Need-returns
+returns-3 c = λ net h. c.record_step.ensures net h
+    ∙ rw (kind-is c.before.before.before.before.before) (sym (later_step _ _ _ _ _ (ended c.before.before) c.before.if-number-eq1.false))
 
-pub step-at-spec : {M : Type 1} → statement M
-step-at-spec =
+pub step_at_spec : {M : Type 1} → statement M
+step_at_spec =
     tie.close
     (tie.spec
     returns
