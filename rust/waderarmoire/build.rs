@@ -12,7 +12,7 @@ fn main() {
     println!("cargo::rerun-if-changed={}", archive.display());
     if !archive.is_file() {
         eprintln!(
-            "{} is missing: build it with `rt staticlib waderarmoire`, \
+            "{} is missing: build it with `scripts/build waderarmoire`, \
              or name its folder in WADERARMOIRE_LIB_DIR",
             archive.display()
         );

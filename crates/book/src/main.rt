@@ -3,34 +3,43 @@
 #![tactic(auto)]
 
 use books::Outcome;
+use std::io::Write;
+use std::process::ExitCode;
 
 // Writes the page of a choice of links between so many sites; whether all of it went.
-fn write_page(sites: usize, choice: usize) -> bool {
-    let mut text = io::buffer();
+fn write_page<W: Write, E: Write>(out: &mut W, err: &mut E, sites: usize, choice: usize) -> bool {
+    let mut text = [0u8; 4096];
     let outcome = books::page(sites, choice, &mut text);
     match outcome {
-        Outcome::Page { length } => text_streams::write(&text[..length]),
+        Outcome::Page { length } => text_streams::write(out, err, &text[..length]),
         Outcome::Refused { number, line } => {
-            text_refusals::refuse(number, line);
+            text_refusals::refuse(out, err, number, line);
             false
         }
     }
 }
 
 // Writes the pages for so many sites; whether all of them went.
-fn write_pages(sites: usize) -> bool {
+fn write_pages<W: Write, E: Write>(out: &mut W, err: &mut E, sites: usize) -> bool {
     for choice in 0..books::choices(sites) {
-        if !write_page(sites, choice) {
+        if !write_page(out, err, sites, choice) {
             return false;
         }
     }
     true
 }
 
-fn main() {
+// Writes the pages of the whole book; whether all of them went.
+fn run<W: Write, E: Write>(out: &mut W, err: &mut E) -> bool {
     for sites in 2..6 {
-        if !write_pages(sites) {
-            return;
+        if !write_pages(out, err, sites) {
+            return false;
         }
     }
+    true
+}
+
+fn main(rt: HostRuntime) -> ExitCode {
+    let went = run(&mut rt.stdout(), &mut rt.stderr());
+    text_streams::status(went)
 }

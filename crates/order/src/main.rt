@@ -7,52 +7,58 @@ ghost use Rattle.model.specs.Limits.{BYTES};
 
 use model::{BYTES, SITES};
 use orders::Outcome;
+use std::io::{Read, Write};
+use std::process::ExitCode;
 
 // Writes the line of a site, its number and its name, to standard output; whether all of it went.
-fn write_site(site: usize, name: &[u8]) -> bool
+fn write_site<W: Write, E: Write>(out: &mut W, err: &mut E, site: usize, name: &[u8]) -> bool
     requires { length name.now ≤ BYTES + 1 }
 {
-    let mut text = io::large_buffer();
+    let mut text = [0u8; 65536];
     let next = text_writers::put_number(&mut text, 0, site as u64, 9);
     let length = text_writers::put_bytes(&mut text, next, name, 10);
-    text_streams::write(&text[..length])
+    text_streams::write(out, err, &text[..length])
 }
 
-// Writes the lines of the first `count` sites of a list, whose names are ranges of the sheet.
-fn write_sites(
+// Writes the lines of the first `count` sites of a list, whose names are ranges of the sheet; whether all of them went.
+fn write_sites<W: Write, E: Write>(
+    out: &mut W,
+    err: &mut E,
     sheet: &[u8],
     start: &[usize; SITES],
     end: &[usize; SITES],
     list: &[usize; SITES],
     count: usize,
-)
+) -> bool
     requires { length sheet.now ≤ BYTES + 1 }
 {
     for i in 0..SITES {
         if i >= count {
-            return;
+            return true;
         }
         let site = list[i];
         if site < 1 {
-            return;
+            return true;
         }
         if site > SITES {
-            return;
+            return true;
         }
         let name = sheet_names::part(sheet, start[site - 1], end[site - 1]);
-        if !write_site(site, name) {
-            return;
+        if !write_site(out, err, site, name) {
+            return false;
         }
     }
+    true
 }
 
-fn main() {
+// Lists the sites of the sheet on standard input in the order of work; whether the sheet was read and its answer written.
+fn run<R: Read, W: Write, E: Write>(input: &mut R, out: &mut W, err: &mut E) -> bool {
     let mut text = [0u8; BYTES + 1];
-    let input = text_streams::read(&mut text);
-    if !input.whole {
-        return;
+    let given = text_streams::read(input, err, &mut text);
+    if !given.whole {
+        return false;
     }
-    let n = input.count;
+    let n = given.count;
     let sheet = &text[..n];
     let mut list = [0usize; SITES];
     let outcome = orders::order(sheet, &mut list);
@@ -62,10 +68,13 @@ fn main() {
             let network = reading.network;
             let start = network.start;
             let end = network.end;
-            write_sites(sheet, &start, &end, &list, count);
+            write_sites(out, err, sheet, &start, &end, &list, count)
         }
-        Outcome::Refused { number, line } => {
-            text_refusals::refuse(number, line);
-        }
+        Outcome::Refused { number, line } => text_refusals::refuse(out, err, number, line),
     }
+}
+
+fn main(rt: HostRuntime) -> ExitCode {
+    let went = run(&mut rt.stdin(), &mut rt.stdout(), &mut rt.stderr());
+    text_streams::status(went)
 }

@@ -8,6 +8,10 @@ ghost use Rattle.region.specs.NumberText.{within, written};
 
 use model::{BYTES, SITES, SIZE};
 use sides::{First, Outcome};
+use std::env::Env;
+use std::io::Write;
+use std::process::ExitCode;
+use std::rt::Files;
 use text_grammar::Size;
 
 // What the text of a number comes to: its value, or the number of a refusal.
@@ -37,109 +41,145 @@ fn written(text: &[u8]) -> Number
     within(text_grammar::size_of(text, SIZE))
 }
 
-// Writes what is printed for the first step to standard output.
-fn write_first(size: u64) {
-    let mut text = io::buffer();
+// Writes what is printed for the first step to standard output; whether all of it went.
+fn write_first<W: Write, E: Write>(out: &mut W, err: &mut E, size: u64) -> bool {
+    let mut text = [0u8; 4096];
     let length = region_report::write_first(size, &mut text);
-    text_streams::write(&text[..length]);
+    text_streams::write(out, err, &text[..length])
 }
 
-// Writes what is printed for the second step to standard output.
-fn write_answer(sum: u64, sheet: &[u8], sizes: &[u64; SITES]) {
-    let mut text = io::large_buffer();
+// Writes what is printed for the second step to standard output; whether all of it went.
+fn write_answer<W: Write, E: Write>(
+    out: &mut W,
+    err: &mut E,
+    sum: u64,
+    sheet: &[u8],
+    sizes: &[u64; SITES],
+) -> bool {
+    let mut text = [0u8; 65536];
     let length = region_report::write_answer(sum, sheet, sizes, &mut text);
-    text_streams::write(&text[..length]);
+    text_streams::write(out, err, &text[..length])
 }
 
-// The second step, for the neighbour's number.
-fn answer(sheet: &[u8], name: &[u8], name2: &[u8], number: u64) {
+// The second step, for the neighbour's number; whether its answer was written.
+fn answer<W: Write, E: Write>(
+    out: &mut W,
+    err: &mut E,
+    sheet: &[u8],
+    name: &[u8],
+    name2: &[u8],
+    number: u64,
+) -> bool {
     let mut sizes = [0u64; SITES];
     let outcome = sides::answer(sheet, name, name2, number, &mut sizes);
     match outcome {
-        Outcome::Answered { count: _, sum } => {
-            write_answer(sum, sheet, &sizes);
-        }
+        Outcome::Answered { count: _, sum } => write_answer(out, err, sum, sheet, &sizes),
         Outcome::Refused { number, line } => {
             if number == 18 {
-                text_refusals::refuse_in_words(
+                return text_refusals::refuse_in_words(
+                    out,
+                    err,
                     number,
                     b"the number is above the usable size of the shared link\n",
                 );
-                return;
             }
-            text_refusals::refuse(number, line);
+            text_refusals::refuse(out, err, number, line)
         }
     }
 }
 
-// The second step, for the number that the fourth argument tells; its refusals come after those of the first step.
-fn second_step(sheet: &[u8], name: &[u8], name2: &[u8]) {
-    let mut text = io::buffer();
-    let input = text_streams::read_argument(4, &mut text);
+// The second step, for the number that the fourth argument tells; its refusals come after those of the first step. Whether its answer was written.
+fn second_step<R: Env, W: Write, E: Write>(
+    rt: &R,
+    out: &mut W,
+    err: &mut E,
+    sheet: &[u8],
+    name: &[u8],
+    name2: &[u8],
+) -> bool {
+    let mut text = [0u8; 4096];
+    let input = text_streams::read_argument(rt, err, 4, &mut text);
     if !input.whole {
-        return;
+        return false;
     }
     let n = input.count;
     let number = written(&text[..n]);
     match number {
-        Number::Told(value) => {
-            answer(sheet, name, name2, value);
-        }
+        Number::Told(value) => answer(out, err, sheet, name, name2, value),
         Number::Wrong(refusal) => {
             if refusal == 3 {
-                text_refusals::refuse_in_words(refusal, b"the number is above 1,000,000\n");
-                return;
+                return text_refusals::refuse_in_words(
+                    out,
+                    err,
+                    refusal,
+                    b"the number is above 1,000,000\n",
+                );
             }
             text_refusals::refuse_in_words(
+                out,
+                err,
                 refusal,
                 b"the number is not written in decimal without a leading zero\n",
-            );
+            )
         }
     }
 }
 
-// The first step, and where there is a fourth argument the second.
-fn steps(sheet: &[u8], name: &[u8], name2: &[u8]) {
+// The first step, and where there is a fourth argument the second; whether the answer was written.
+fn steps<R: Env, W: Write, E: Write>(
+    rt: &R,
+    out: &mut W,
+    err: &mut E,
+    sheet: &[u8],
+    name: &[u8],
+    name2: &[u8],
+) -> bool {
     let shown = sides::first_size(sheet, name, name2);
     match shown {
         First::Shown { size } => {
-            if os::arg_count() > 4 {
-                second_step(sheet, name, name2);
-                return;
+            if text_streams::is_given(rt, 4) {
+                return second_step(rt, out, err, sheet, name, name2);
             }
-            write_first(size);
+            write_first(out, err, size)
         }
         First::Refused { number, line } => {
             if number == 18 {
-                text_refusals::refuse_in_words(
+                return text_refusals::refuse_in_words(
+                    out,
+                    err,
                     number,
                     b"no link joins the two names, or neither has a single link and no mark\n",
                 );
-                return;
             }
-            text_refusals::refuse(number, line);
+            text_refusals::refuse(out, err, number, line)
         }
     }
 }
 
-fn main() {
+// Reads the sheet and the two names, and takes the steps; whether all was read and the answer written.
+fn run<R: Env + Files, W: Write, E: Write>(rt: &R, out: &mut W, err: &mut E) -> bool {
     let mut text = [0u8; BYTES + 1];
-    let input = text_streams::read_file(1, &mut text);
+    let input = text_streams::read_file(rt, err, 1, &mut text);
     if !input.whole {
-        return;
+        return false;
     }
-    let mut name = io::buffer();
-    let first = text_streams::read_argument(2, &mut name);
+    let mut name = [0u8; 4096];
+    let first = text_streams::read_argument(rt, err, 2, &mut name);
     if !first.whole {
-        return;
+        return false;
     }
-    let mut name2 = io::buffer();
-    let second = text_streams::read_argument(3, &mut name2);
+    let mut name2 = [0u8; 4096];
+    let second = text_streams::read_argument(rt, err, 3, &mut name2);
     if !second.whole {
-        return;
+        return false;
     }
     let n = input.count;
     let a = first.count;
     let b = second.count;
-    steps(&text[..n], &name[..a], &name2[..b]);
+    steps(rt, out, err, &text[..n], &name[..a], &name2[..b])
+}
+
+fn main(rt: HostRuntime) -> ExitCode {
+    let went = run(&rt, &mut rt.stdout(), &mut rt.stderr());
+    text_streams::status(went)
 }

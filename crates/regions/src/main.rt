@@ -4,24 +4,36 @@
 
 use exchanges::Outcome;
 use model::{BYTES, SITES};
+use std::env::Env;
+use std::io::Write;
+use std::process::ExitCode;
+use std::rt::Files;
 
 // Writes what is printed for one region to standard output; whether all of it went.
-fn write_region(number: u64, sum: u64, sheet: &[u8], sizes: &[u64; SITES]) -> bool {
-    let mut text = io::large_buffer();
+fn write_region<W: Write, E: Write>(
+    out: &mut W,
+    err: &mut E,
+    number: u64,
+    sum: u64,
+    sheet: &[u8],
+    sizes: &[u64; SITES],
+) -> bool {
+    let mut text = [0u8; 65536];
     let length = region_report::write_region(number, sum, sheet, sizes, &mut text);
-    text_streams::write(&text[..length])
+    text_streams::write(out, err, &text[..length])
 }
 
-fn main() {
+// Exchanges between the regions of the two sheets; whether both were read and the answer written.
+fn run<R: Env + Files, W: Write, E: Write>(rt: &R, out: &mut W, err: &mut E) -> bool {
     let mut text = [0u8; BYTES + 1];
-    let input = text_streams::read_file(1, &mut text);
+    let input = text_streams::read_file(rt, err, 1, &mut text);
     if !input.whole {
-        return;
+        return false;
     }
     let mut text2 = [0u8; BYTES + 1];
-    let input2 = text_streams::read_file(2, &mut text2);
+    let input2 = text_streams::read_file(rt, err, 2, &mut text2);
     if !input2.whole {
-        return;
+        return false;
     }
     let n = input.count;
     let n2 = input2.count;
@@ -30,16 +42,18 @@ fn main() {
     let outcome = exchanges::exchange(&text[..n], &text2[..n2], &mut sizes, &mut sizes2);
     match outcome {
         Outcome::Answered { first, second } => {
-            if write_region(1, first.sum, &text[..n], &sizes) {
-                write_region(2, second.sum, &text2[..n2], &sizes2);
-            }
+            write_region(out, err, 1, first.sum, &text[..n], &sizes)
+                && write_region(out, err, 2, second.sum, &text2[..n2], &sizes2)
         }
         Outcome::Refused {
             sheet,
             number,
             line,
-        } => {
-            text_refusals::refuse_sheets(sheet, number, line);
-        }
+        } => text_refusals::refuse_sheets(out, err, sheet, number, line),
     }
+}
+
+fn main(rt: HostRuntime) -> ExitCode {
+    let went = run(&rt, &mut rt.stdout(), &mut rt.stderr());
+    text_streams::status(went)
 }

@@ -6,6 +6,10 @@ ghost use Rattle.std.specs.Prelude.{◌+◌, ◌≤◌, min, length, ◌≡◌};
 
 use logs::Outcome;
 use model::{BYTES, LOGBYTES, LOGLINES};
+use std::env::Env;
+use std::io::Write;
+use std::process::ExitCode;
+use std::rt::Files;
 
 // How many answers are written at a time.
 const SOME: usize = 2048;
@@ -18,51 +22,67 @@ fn lesser(a: usize, b: usize) -> usize
 }
 
 // Writes the answers from one place to another, a line each, to standard output; whether all went.
-fn write_some(answers: &[u64], from: usize, to: usize) -> bool
+fn write_some<W: Write, E: Write>(
+    out: &mut W,
+    err: &mut E,
+    answers: &[u64],
+    from: usize,
+    to: usize,
+) -> bool
     requires { (from ≤ to) × (to ≤ from + 2048) × (to ≤ length answers.now) }
 {
-    let mut text = io::large_buffer();
+    let mut text = [0u8; 65536];
     let mut length = 0;
     for i in from..to {
         length = text_writers::put_number(&mut text, length, answers[i], 10);
     }
-    text_streams::write(&text[..length])
+    text_streams::write(out, err, &text[..length])
 }
 
-// Writes the first `count` answers, a line each, to standard output.
-fn write_answers(answers: &[u64], count: usize) {
+// Writes the first `count` answers, a line each, to standard output; whether all went.
+fn write_answers<W: Write, E: Write>(
+    out: &mut W,
+    err: &mut E,
+    answers: &[u64],
+    count: usize,
+) -> bool {
     let end = lesser(count, answers.len());
     let mut from = 0;
     while from < end {
         let to = lesser(end, from + SOME);
-        if !write_some(answers, from, to) {
-            return;
+        if !write_some(out, err, answers, from, to) {
+            return false;
         }
         from = to;
     }
+    true
 }
 
-fn main() {
+// Replays the log of the second argument over the sheet of the first; whether both were read and the answers written.
+fn run<R: Env + Files, W: Write, E: Write>(rt: &R, out: &mut W, err: &mut E) -> bool {
     let mut sheet = [0u8; BYTES + 1];
-    let first = text_streams::read_file(1, &mut sheet);
+    let first = text_streams::read_file(rt, err, 1, &mut sheet);
     if !first.whole {
-        return;
+        return false;
     }
     let mut log = [0u8; LOGBYTES + 1];
-    let second = text_streams::read_file(2, &mut log);
+    let second = text_streams::read_file(rt, err, 2, &mut log);
     if !second.whole {
-        return;
+        return false;
     }
     let n = first.count;
     let m = second.count;
     let mut answers = [0u64; LOGLINES];
     let outcome = logs::replay(&sheet[..n], &log[..m], &mut answers);
     match outcome {
-        Outcome::Answered { count } => {
-            write_answers(&answers, count);
-        }
+        Outcome::Answered { count } => write_answers(out, err, &answers, count),
         Outcome::Refused { text, number, line } => {
-            text_refusals::refuse_text(text, number, line);
+            text_refusals::refuse_text(out, err, text, number, line)
         }
     }
+}
+
+fn main(rt: HostRuntime) -> ExitCode {
+    let went = run(&rt, &mut rt.stdout(), &mut rt.stderr());
+    text_streams::status(went)
 }

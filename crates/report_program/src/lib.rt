@@ -1,46 +1,55 @@
 // Inner: only the planner's own programs call it. A program that reads one sheet on standard input and writes its report, or the line of its refusal, to
-// standard output. What a refusal means, and what could not be read or written, it says on standard error.
+// standard output. What a refusal means, and what could not be read or written, it says on standard error. Each function tells whether the sheet was read and its
+// answer written.
 #![tactic(auto)]
 
-use model::BYTES;
+ghost use Rattle.std.specs.Prelude.{IsTrue, IfSome};
+ghost use Rattle.std.specs.Io.KnownBytes.{Appends};
+ghost use Rattle.report_program.specs.Printed.{sheet_in, plan_printed, span_printed};
+
+use model::{BYTES, REPORT};
 use planner::Outcome;
+use std::io::{Read, Write};
 
 // Plans the sheet on standard input, in whole circuits or in halves. One byte more than a sheet may have is enough to see that it has too many.
-pub fn run(whole: bool) {
+pub fn run<R: Read, W: Write, E: Write>(
+    input: &mut R,
+    out: &mut W,
+    err: &mut E,
+    whole: bool,
+) -> bool
+    ensures { IsTrue result → IfSome (R.remaining input.old) (λ given.
+        Appends (W.contents out.old) (W.contents out.new) (plan_printed whole (sheet_in given))) }
+{
     let mut sheet = [0u8; BYTES + 1];
-    let input = text_streams::read(&mut sheet);
-    if !input.whole {
-        return;
+    let given = text_streams::read(input, err, &mut sheet);
+    if !given.whole {
+        return false;
     }
-    let n = input.count;
-    let mut printed = io::large_buffer();
+    let n = given.count;
+    let mut printed = [0u8; REPORT];
     let outcome = planner::report_on(whole, &sheet[..n], &mut printed);
     match outcome {
-        Outcome::Report { length } => {
-            text_streams::write(&printed[..length]);
-        }
-        Outcome::Refused { number, line } => {
-            text_refusals::refuse(number, line);
-        }
+        Outcome::Report { length } => text_streams::write(out, err, &printed[..length]),
+        Outcome::Refused { number, line } => text_refusals::refuse(out, err, number, line),
     }
 }
 
 // Tells the span of the range sheet on standard input (02, Card 11).
-pub fn span() {
+pub fn span<R: Read, W: Write, E: Write>(input: &mut R, out: &mut W, err: &mut E) -> bool
+    ensures { IsTrue result → IfSome (R.remaining input.old) (λ given.
+        Appends (W.contents out.old) (W.contents out.new) (span_printed (sheet_in given))) }
+{
     let mut sheet = [0u8; BYTES + 1];
-    let input = text_streams::read(&mut sheet);
-    if !input.whole {
-        return;
+    let given = text_streams::read(input, err, &mut sheet);
+    if !given.whole {
+        return false;
     }
-    let n = input.count;
-    let mut printed = io::large_buffer();
+    let n = given.count;
+    let mut printed = [0u8; REPORT];
     let outcome = spans::span(&sheet[..n], &mut printed);
     match outcome {
-        Outcome::Report { length } => {
-            text_streams::write(&printed[..length]);
-        }
-        Outcome::Refused { number, line } => {
-            text_refusals::refuse(number, line);
-        }
+        Outcome::Report { length } => text_streams::write(out, err, &printed[..length]),
+        Outcome::Refused { number, line } => text_refusals::refuse(out, err, number, line),
     }
 }

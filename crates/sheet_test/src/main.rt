@@ -4,8 +4,9 @@
 
 ghost use Rattle.std.specs.Prelude.{◌≤◌, length};
 
-use libc::STDOUT_FILENO;
 use sheet::Answer;
+use std::io;
+use std::io::Write;
 
 // Where the part of a text that starts at `from` ends: at the next byte 12, or with the text.
 fn part_end(text: &[u8], from: usize) -> usize
@@ -23,67 +24,69 @@ fn part_end(text: &[u8], from: usize) -> usize
 }
 
 // Writes a tab and a number.
-fn number(n: u64) {
-    io::write_all(STDOUT_FILENO, b"\t");
-    io::print_decimal(STDOUT_FILENO, n);
+fn number<W: Write>(out: &mut W, n: u64) -> io::Result<()> {
+    write!(out, "\t{n}")
 }
 
 // Writes the numbers of the marked sites.
-fn marks(mark: &[u8]) {
+fn marks<W: Write>(out: &mut W, mark: &[u8]) -> io::Result<()> {
     let mut i = 0;
     while i < mark.len() {
         if mark[i] != 0 {
-            number((i + 1) as u64);
+            number(out, (i + 1) as u64)?;
         }
         i += 1;
     }
+    Ok(())
 }
 
 // Writes the answer to a sheet.
-fn answer(text: &[u8]) {
+fn answer<W: Write>(out: &mut W, text: &[u8]) -> io::Result<()> {
     let reading = sheet::read(text);
     let answer = reading.answer;
     match answer {
         Answer::Accepted => {
             let network = reading.network;
-            io::write_all(STDOUT_FILENO, b"\taccepted");
-            number(network.sites as u64);
-            number(network.links as u64);
-            io::write_all(STDOUT_FILENO, b"\t");
-            io::write_all(STDOUT_FILENO, sheet::name(text, network.sites));
-            marks(&network.mark);
+            out.write_all(b"\taccepted")?;
+            number(out, network.sites as u64)?;
+            number(out, network.links as u64)?;
+            out.write_all(b"\t")?;
+            out.write_all(sheet::name(text, network.sites))?;
+            marks(out, &network.mark)?;
         }
         Answer::Refused { number: n, line } => {
-            io::write_all(STDOUT_FILENO, b"\trefused");
-            number(n);
-            number(line as u64);
+            out.write_all(b"\trefused")?;
+            number(out, n)?;
+            number(out, line as u64)?;
         }
     }
-    io::write_all(STDOUT_FILENO, b"\n");
+    out.write_all(b"\n")
 }
 
 // Writes the title of a part and the answer to its sheet.
-fn trial(text: &[u8]) {
+fn trial<W: Write>(out: &mut W, text: &[u8]) -> io::Result<()> {
     let title = text_lines::line(text, 0);
-    io::write_all(STDOUT_FILENO, title);
+    out.write_all(title)?;
     if title.len() < text.len() {
         let sheet = title.len() + 1;
-        answer(&text[sheet..]);
+        answer(out, &text[sheet..])?;
     }
+    Ok(())
 }
 
 // Writes the titles and answers of all parts.
-fn trials(text: &[u8]) {
+fn trials<W: Write>(out: &mut W, text: &[u8]) -> io::Result<()> {
     let mut from = 0;
     while from < text.len() {
         let end = part_end(text, from);
-        trial(&text[from..end]);
+        trial(out, &text[from..end])?;
         from = end + 1;
     }
+    Ok(())
 }
 
-fn main() {
-    let mut buffer = io::large_buffer();
-    let n = io::read_full(0, &mut buffer);
-    trials(&buffer[..n]);
+fn main(rt: HostRuntime) -> io::Result<()> {
+    let mut buffer = [0u8; 65536];
+    let n = text_streams::read(&mut rt.stdin(), &mut rt.stderr(), &mut buffer).count;
+    trials(&mut rt.stdout(), &buffer[..n])
 }

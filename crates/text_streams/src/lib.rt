@@ -1,10 +1,18 @@
 // Inner: only the planner's own programs call it. Standard input, files and standard output of a program; what fails is told on standard error in a line that
-// begins with `standard` or `file`, by which the script that runs the program knows it.
+// begins with `standard` or `file`.
 #![tactic(auto)]
 
-ghost use Rattle.io.specs.Counts.{IsPrefixLen};
+ghost use Rattle.std.specs.Prelude.{◌≡◌, ◌<◌, length, take, IsTrue, IfSome, false, if◌then◌else◌};
+ghost use Rattle.std.specs.Io.KnownBytes.{Appends, Consumes, IsAtEnd};
+ghost use Rattle.std.specs.Process.{exit_status};
+ghost use Rattle.text_streams.specs.Counts.{IsPrefixLen, HoldsFront};
 
-use libc::{STDERR_FILENO, STDIN_FILENO, STDOUT_FILENO};
+use std::env::{Env, FillError};
+use std::fmt::InlineText;
+use std::fs;
+use std::io::{Error, ErrorKind, Read, Write};
+use std::process::ExitCode;
+use std::rt::Files;
 
 // What standard input or a file came to: so many bytes, and whether each read went well.
 #[derive(Clone, Copy)]
@@ -13,35 +21,62 @@ pub struct Input {
     pub whole: bool,
 }
 
-// Says on standard error what failed, behind a word for its kind, and why. (A write that goes well leaves errno as it is.)
-fn fail(kind: &[u8], what: &[u8]) {
-    io::write_all(STDERR_FILENO, kind);
-    os::fail(what);
+// The numbers that the system has for an argument that is missing, for one that is too long, and for one whose bytes are no text.
+const EINVAL: i32 = 22;
+
+const ENAMETOOLONG: i32 = 36;
+
+const EILSEQ: i32 = 84;
+
+// Says on standard error what failed, behind a word for its kind, and why, in the system's words alone: its number for them, which an error prints behind them,
+// is left out.
+fn fail<E: Write>(err: &mut E, kind: &str, what: &str, why: Error) {
+    let text = InlineText::<256>::of(why);
+    let words = text.as_str();
+    let (words, _) = words.split_once(" (os error ").unwrap_or((words, ""));
+    let _ = writeln!(err, "{kind}{what}: {words}");
 }
 
-// Reads once from a descriptor, no bytes at the end; where the read fails, says so of what is read.
-fn read_once(from: i32, kind: &[u8], what: &[u8], buf: &mut [u8]) -> Input
-    ensures { IsPrefixLen result.count buf.new }
+// Reads once, no bytes at the end; where the read fails, says so of what is read.
+fn read_once<R: Read, E: Write>(
+    from: &mut R,
+    err: &mut E,
+    kind: &str,
+    what: &str,
+    buf: &mut [u8],
+) -> Input
+    ensures count { IsPrefixLen result.count buf.new }
+    ensures bytes { Consumes (R.remaining from.old) (R.remaining from.new) (take result.count buf.new) }
+    ensures failed { result.whole ≡ false → result.count ≡ 0 }
+    ensures end { IsTrue result.whole → result.count ≡ 0 → 0 < length buf.new → IsAtEnd (R.remaining from.new) }
 {
-    let got = libc::read(from, buf);
-    if got < 0 {
-        fail(kind, what);
-        return Input {
-            count: 0,
-            whole: false,
-        };
+    match from.read(buf) {
+        Ok(count) => Input { count, whole: true },
+        Err(why) => {
+            fail(err, kind, what, why);
+            Input {
+                count: 0,
+                whole: false,
+            }
+        }
     }
-    let count = io::count(got, buf);
-    Input { count, whole: true }
 }
 
-// Reads from a descriptor until the buffer is full or the input ends; where a read fails, says so of what is read.
-fn read_from(from: i32, kind: &[u8], what: &[u8], buf: &mut [u8]) -> Input
-    ensures { IsPrefixLen result.count buf.new }
+// Reads until the buffer is full or the input ends; where a read fails, says so of what is read.
+fn read_from<R: Read, E: Write>(
+    from: &mut R,
+    err: &mut E,
+    kind: &str,
+    what: &str,
+    buf: &mut [u8],
+) -> Input
+    ensures count { IsPrefixLen result.count buf.new }
+    ensures bytes { Consumes (R.remaining from.old) (R.remaining from.new) (take result.count buf.new) }
+    ensures end { IsTrue result.whole → result.count < length buf.new → IsAtEnd (R.remaining from.new) }
 {
     let mut count = 0;
     while count < buf.len() {
-        let some = read_once(from, kind, what, &mut buf[count..]);
+        let some = read_once(from, err, kind, what, &mut buf[count..]);
         if !some.whole {
             return Input {
                 count,
@@ -58,10 +93,13 @@ fn read_from(from: i32, kind: &[u8], what: &[u8], buf: &mut [u8]) -> Input
 }
 
 // Reads standard input until the buffer is full or the input ends; where a read fails, says so.
-pub fn read(buf: &mut [u8]) -> Input
-    ensures { IsPrefixLen result.count buf.new }
+pub fn read<R: Read, E: Write>(input: &mut R, err: &mut E, buf: &mut [u8]) -> Input
+    ensures count { IsPrefixLen result.count buf.new }
+    ensures bytes { Consumes (R.remaining input.old) (R.remaining input.new) (take result.count buf.new) }
+    ensures end { IsTrue result.whole → result.count < length buf.new → IsAtEnd (R.remaining input.new) }
+    ensures front { IsTrue result.whole → IfSome (R.remaining input.old) (HoldsFront result.count buf.new) }
 {
-    read_from(STDIN_FILENO, b"standard ", b"input", buf)
+    read_from(input, err, "standard ", "input", buf)
 }
 
 // Nothing is read.
@@ -69,49 +107,92 @@ fn none_of(buf: &[u8]) -> Input
     ensures { IsPrefixLen result.count buf.now }
 {
     Input {
-        count: io::count(0, buf),
+        count: 0,
         whole: false,
     }
 }
 
-// Reads the file that an argument names until the buffer is full or the file ends; where that fails, says so.
-pub fn read_file(argument: usize, buf: &mut [u8]) -> Input
+// Reads the file of a name until the buffer is full or the file ends; where that fails, says so.
+fn read_path<R: Files, E: Write>(files: &R, err: &mut E, path: &str, buf: &mut [u8]) -> Input
     ensures { IsPrefixLen result.count buf.new }
 {
-    let mut name = io::buffer();
-    let length = os::arg(argument, &mut name);
-    if os::errno() != 0 {
-        fail(b"file ", b"argument");
+    match fs::open(files, path) {
+        Ok(mut file) => read_from(&mut file, err, "file ", path, buf),
+        Err(why) => {
+            fail(err, "file ", path, why);
+            none_of(buf)
+        }
+    }
+}
+
+// Reads the file that an argument names until the buffer is full or the file ends; where that fails, says so.
+pub fn read_file<R: Env + Files, E: Write>(
+    rt: &R,
+    err: &mut E,
+    argument: usize,
+    buf: &mut [u8],
+) -> Input
+    ensures { IsPrefixLen result.count buf.new }
+{
+    let mut name = [0u8; 4096];
+    let named = read_argument(rt, err, argument, &mut name);
+    if !named.whole {
         return none_of(buf);
     }
-    let path = &name[..length];
-    let file = os::open_read(path);
-    if file < 0 {
-        fail(b"file ", path);
-        return none_of(buf);
+    match str::from_utf8(&name[..named.count]) {
+        Ok(path) => read_path(rt, err, path, buf),
+        Err(_) => {
+            fail(err, "file ", "argument", Error::from_raw_os_error(EILSEQ));
+            none_of(buf)
+        }
     }
-    let input = read_from(file, b"file ", path, buf);
-    libc::close(file);
-    input
 }
 
 // Puts an argument at the start of the buffer; where it is missing or longer than the buffer, says so.
-pub fn read_argument(argument: usize, buf: &mut [u8]) -> Input
+pub fn read_argument<R: Env, E: Write>(
+    rt: &R,
+    err: &mut E,
+    argument: usize,
+    buf: &mut [u8],
+) -> Input
     ensures { IsPrefixLen result.count buf.new }
 {
-    let count = os::arg(argument, buf);
-    if os::errno() != 0 {
-        fail(b"file ", b"argument");
-        return none_of(buf);
-    }
-    Input { count, whole: true }
+    let why = match rt.arg(argument, buf) {
+        Ok(count) => return Input { count, whole: true },
+        Err(FillError::NotPresent) => EINVAL,
+        Err(FillError::TooLong) => ENAMETOOLONG,
+    };
+    fail(err, "file ", "argument", Error::from_raw_os_error(why));
+    none_of(buf)
 }
 
-// Writes a text to standard output and tells whether all of it went; where not, says so.
-pub fn write(text: &[u8]) -> bool {
-    if io::write_all(STDOUT_FILENO, text) {
-        return true;
+// Writes a text to standard output and tells whether all of it went; where not, says so, unless it is a pipe that nobody reads any more.
+pub fn write<W: Write, E: Write>(out: &mut W, err: &mut E, text: &[u8]) -> bool
+    ensures { IsTrue result → Appends (W.contents out.old) (W.contents out.new) text.now }
+{
+    match out.write_all(text) {
+        Ok(()) => true,
+        Err(why) => {
+            if why.kind() != ErrorKind::BrokenPipe {
+                fail(err, "standard ", "output", why);
+            }
+            false
+        }
     }
-    os::fail(b"standard output");
-    false
+}
+
+// Whether the program was started with so many arguments.
+pub fn is_given<R: Env>(rt: &R, argument: usize) -> bool {
+    !matches!(rt.arg(argument, &mut []), Err(FillError::NotPresent))
+}
+
+// What a program ends with: 0 where all of its input was read and all of its output written, else 1.
+pub fn status(whole: bool) -> ExitCode
+    ensures { exit_status result ≡ (if whole then 0 else 1) }
+{
+    if whole {
+        ExitCode::SUCCESS
+    } else {
+        ExitCode::FAILURE
+    }
 }

@@ -2,10 +2,11 @@
 // its answer, and into one a byte shorter, and prints number, line and length.
 #![tactic(auto)]
 
-ghost use Rattle.std.specs.Prelude.{◌≤◌, length};
+ghost use Rattle.std.specs.Prelude.{◌≤◌, length, IfOk};
 
-use libc::{STDIN_FILENO, STDOUT_FILENO};
 use planner::Outcome;
+use std::io;
+use std::io::Write;
 
 // The place of the first byte 0 from a place on, or the end.
 fn sheet_end(text: &[u8], from: usize) -> usize
@@ -23,64 +24,71 @@ fn sheet_end(text: &[u8], from: usize) -> usize
 }
 
 // Prints the answer to one sheet, and tells its length.
-fn answer(sheet: &[u8]) -> usize
-    ensures { result ≤ 65536 }
+fn answer<W: Write>(out: &mut W, sheet: &[u8]) -> io::Result<usize>
+    ensures { IfOk result (λ length. length ≤ 65536) }
 {
-    let mut printed = io::large_buffer();
+    let mut printed = [0u8; 65536];
     let length = planner::answer(sheet, &mut printed);
-    io::write_all(STDOUT_FILENO, &printed[..length]);
-    length
+    out.write_all(&printed[..length])?;
+    Ok(length)
 }
 
 // Prints a number and a byte after it.
-fn tell(n: u64, stop: u8) {
-    io::print_decimal(STDOUT_FILENO, n);
-    let end = [stop];
-    io::write_all(STDOUT_FILENO, &end);
+fn tell<W: Write>(out: &mut W, n: u64, stop: u8) -> io::Result<()> {
+    write!(out, "{n}")?;
+    out.write_all(&[stop])
 }
 
 // Prints the number, line and length of planning a sheet into a buffer.
-fn tell_plan(sheet: &[u8], buf: &mut [u8]) {
+fn tell_plan<W: Write>(out: &mut W, sheet: &[u8], buf: &mut [u8]) -> io::Result<()> {
     match planner::plan(sheet, buf) {
         Outcome::Report { length } => {
-            tell(0, 9);
-            tell(0, 9);
-            tell(length as u64, 10);
+            tell(out, 0, 9)?;
+            tell(out, 0, 9)?;
+            tell(out, length as u64, 10)
         }
         Outcome::Refused { number, line } => {
-            tell(number, 9);
-            tell(line as u64, 9);
-            tell(0, 10);
+            tell(out, number, 9)?;
+            tell(out, line as u64, 9)?;
+            tell(out, 0, 10)
         }
     }
 }
 
 // Plans a sheet into a buffer of so many bytes.
-fn plan_into(sheet: &[u8], length: usize)
+fn plan_into<W: Write>(out: &mut W, sheet: &[u8], length: usize) -> io::Result<()>
     requires { length ≤ 65536 }
 {
-    let mut buf = io::large_buffer();
-    tell_plan(sheet, &mut buf[..length]);
+    let mut buf = [0u8; 65536];
+    tell_plan(out, sheet, &mut buf[..length])
 }
 
 // Answers the sheets of a text, one after the other.
-fn answer_all(text: &[u8]) {
+fn answer_all<W: Write>(out: &mut W, text: &[u8]) -> io::Result<()> {
     let mut at = 0;
     while at < text.len() {
         let end = sheet_end(text, at);
-        answer(&text[at..end]);
+        answer(out, &text[at..end])?;
         at = end + 1;
     }
+    Ok(())
 }
 
-fn main() {
-    let mut text = io::large_buffer();
-    let n = io::read_full(STDIN_FILENO, &mut text);
-    answer_all(&text[..n]);
-    let end = sheet_end(&text[..n], 0);
-    let length = answer(&text[..end]);
-    plan_into(&text[..end], length);
+// Tries the sheets of a text.
+fn try_all<W: Write>(out: &mut W, text: &[u8]) -> io::Result<()> {
+    answer_all(out, text)?;
+    let end = sheet_end(text, 0);
+    let first = &text[..end];
+    let length = answer(out, first)?;
+    plan_into(out, first, length)?;
     if 0 < length {
-        plan_into(&text[..end], length - 1);
+        plan_into(out, first, length - 1)?;
     }
+    Ok(())
+}
+
+fn main(rt: HostRuntime) -> io::Result<()> {
+    let mut text = [0u8; 65536];
+    let n = text_streams::read(&mut rt.stdin(), &mut rt.stderr(), &mut text).count;
+    try_all(&mut rt.stdout(), &text[..n])
 }

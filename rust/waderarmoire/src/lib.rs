@@ -161,7 +161,7 @@
 //! The library is built for x86-64 Linux.
 //! The archive `libwaderarmoire.a` is looked for in the folder named by the environment variable
 //! `WADERARMOIRE_LIB_DIR`, or else in `target/staticlib` at the root of the repository, where
-//! `rt staticlib waderarmoire` puts it.
+//! `scripts/build waderarmoire` puts it.
 
 mod judge;
 mod names;

@@ -1,0 +1,31 @@
+-- A report lies within the buffer, and what goes to standard output is the answer to the sheet that the input has.
+use Rattle.std.proofs.Common.{rules, sym, length-take-le}
+use Rattle.std.proofs.lemmas.Bool.{not-false}
+use Rattle.planner.specs.Outcome.{answered_by}
+use Rattle.report_program.specs.Printed.{plan_printed}
+use Rattle.report_program.proofs.Printing.{report_is_within, report_is_printed, refusal_is_printed, prints_of_input}
+use Rattle.report_program.proofs.run.Goals as goal
+
+pub slice_bounds-printed-end : goal.slice_bounds-printed-end
+slice_bounds-printed-end g c = report_is_within _ _ _ _ _ _ c.report_on-outcome.ensures.told c.report_on-outcome.ensures.left c.in-Report.is
+
+pub slice_bounds-write-end : goal.slice_bounds-write-end
+slice_bounds-write-end g c = sym (length-take-le _ _ (report_is_within _ _ _ _ _ _ c.report_on-outcome.ensures.told c.report_on-outcome.ensures.left c.in-Report.is))
+
+pub returns-in-Report : goal.returns-in-Report
+unfolding answered_by
+returns-in-Report g c went =
+    let p = c.report_on-outcome.ensures in
+    prints_of_input (g.R.Read.remaining c.args.input.now) (g.W.Write.contents c.args.out.now) (g.W.Write.contents c.write.new.out)
+    c.read-given.result.count c.read-given.new.buf _ (plan_printed c.args.whole) (search rules)
+    (c.read-given.ensures.front (not-false _ c.if-not-given.false)) (c.write.ensures went)
+    (report_is_printed _ _ _ _ _ p.told p.left c.in-Report.is)
+
+pub returns-in-Refused : goal.returns-in-Refused
+unfolding answered_by
+returns-in-Refused g c went =
+    let p = c.report_on-outcome.ensures in
+    prints_of_input (g.R.Read.remaining c.args.input.now) (g.W.Write.contents c.args.out.now) (g.W.Write.contents c.refuse.new.out)
+    c.read-given.result.count c.read-given.new.buf _ (plan_printed c.args.whole) (search rules)
+    (c.read-given.ensures.front (not-false _ c.if-not-given.false)) (c.refuse.ensures.line went)
+    (refusal_is_printed _ _ _ _ _ _ p.told p.left c.in-Refused.is c.refuse.ensures.short (search rules))
