@@ -33,9 +33,13 @@ def blocks(text):
 DECL=re.compile(r"^((?:(?:unfoldable|abbrev|pub)\s+)*)(?:(data|record)\s+)?("+T+r")")
 def names_of(b):
     out=[]
-    sec=False
+    sec=False; inner=None
     for l in b:
         if l.startswith('--') or not l.strip(): continue
+        ind=len(l)-len(l.lstrip())
+        if inner is not None and ind<inner: inner=None
+        if l.strip()=='where' and inner is None: inner=ind; continue
+        if inner is not None and ind>=inner and l[0].isspace(): continue
         if not l[0].isspace():
             m=re.match(r"^((?:(?:unfoldable|abbrev|pub)\s+)*)(data|record|module|ruleset|open)\s+("+T+")",l)
             if m:
@@ -45,14 +49,14 @@ def names_of(b):
             m=re.match(r"^((?:(?:unfoldable|abbrev|pub)\s+)*)("+T+r")\s+:\s",l) or re.match(r"^((?:(?:unfoldable|abbrev|pub)\s+)*)("+T+r")\s+:$",l)
             if m: out.append((m[2],'unfoldable' in m[1] or 'abbrev' in m[1],m[1]))
         elif sec:
-            m=re.match(r"^\s{2,}((?:(?:unfoldable|abbrev|pub)\s+)*)("+T+r")\s+:\s",l)
-            if m and (m[1] or re.match(r"^  \S",l)): out.append((m[2],'unfoldable' in m[1] or 'abbrev' in m[1],m[1]))
+            m=re.match(r"^\s{2,}((?:(?:unfoldable|abbrev|pub)\s+)*)("+T+r")\s+:(?:\s|$)",l)
+            if m and (m[1] or re.match(r"^  \S",l) or any(re.match(r"^\s+"+re.escape(m[2])+r"(?=[ =])(?! :)",x) for x in b)): out.append((m[2],'unfoldable' in m[1] or 'abbrev' in m[1],m[1]))
             m=re.match(r"^  (?:pub )?(data|record)\s+("+T+")",l)
             if m: out.append((m[2],True,'pub '))
         else:
             # fields and constructors
             m=re.match(r"^\s+(?:pub )?("+T+r")\s*:\s",l)
-            if m and b and re.match(r"^(?:--.*|(?:(?:abbrev|pub)\s+)*(?:data|record)\b.*)",next((x for x in b if not x.startswith('--')),'')): out.append((m[1],True,'pub '))
+            if m and b and re.match(r"^(?:--.*|(?:(?:abbrev|pub)\s+)*data\b.*)",next((x for x in b if not x.startswith('--')),'')): out.append((m[1],True,'pub '))
     return out
 def toks(b):
     return set(t for l in b if not l.lstrip().startswith('--') for t in TOK.findall(l))
@@ -114,13 +118,22 @@ for c in crates:
             slib=re.sub(r"pub mod "+f+r"\n","",slib); lib+=f'pub mod {f}\n'; continue
         used=set().union(*[toks(bl[i]) for i in go])
         need=sorted(n for n in keepn if n in used)
+        opened=set(x for i in go for l in bl[i] if l.strip().startswith('unfolding ') for x in l.split()[1:])
         # what is needed is offered
         out=[]
         for i in keep:
-            b=list(bl[i])
+            b=list(bl[i]); hidden=None
             for q,l in enumerate(b):
-                m=re.match(r"^((?:unfoldable |abbrev )?)("+T+r")( :.*)$",l)
-                if m and m[2] in need and not l.startswith('--'): b[q]=f"{m[1]}pub {m[2]}{m[3]}"
+                ind=len(l)-len(l.lstrip())
+                if l.strip():
+                    if hidden is not None and ind<hidden: hidden=None
+                    if hidden is None and re.match(r"\s*(?:(?:abbrev|pub)\s+)*(?:data|record)\b",l): hidden=ind+1; continue
+                    if l.strip()=='where' and hidden is None: hidden=ind
+                if hidden is not None: continue
+                m=re.match(r"^(\s*(?:unfoldable |abbrev )?)("+T+r")( :.*)$",l)
+                if m and m[2] in need and not l.lstrip().startswith('--'): b[q]=f"{m[1]}pub {m[2]}{m[3]}"
+                m=re.match(r"^(\s*)pub ("+T+r")( :.*)$",b[q])
+                if m and m[2] in opened and not any(x.lstrip().startswith('--') for x in [b[q]]) and not re.search(r'data|record',b[0]): b[q]=f"{m[1]}unfoldable pub {m[2]}{m[3]}"
             out.append('\n'.join(b))
         title=head[0] if head and head[0].startswith('--') else ''
         open(f'{S}/{f}.antt','w').write('\n'.join(head).rstrip('\n')+'\n\n'+'\n\n'.join(out).rstrip('\n')+'\n')
