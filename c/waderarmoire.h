@@ -12,8 +12,8 @@
  * or list of its own. It reads the sheet and writes the buffer or list within their lengths and
  * touches no other memory of the caller's. Every call ends, whatever the sheet holds.
  *
- * A plan or an order needs at most 144 KiB of stack, whatever the shape of the tree, two regions, a
- * step of one or a judgement at most 160 KiB, a replay or a report on ranges at most 128 KiB: nothing
+ * A plan or an order needs at most 208 KiB of stack, whatever the shape of the tree, two regions, a
+ * step of one or a judgement at most 192 KiB, a replay or a report on ranges at most 128 KiB: nothing
  * recurses but the digits of a number of nine or more, twenty deep at most (measured on the largest trees, with
  * what a new thread itself needs). A thread of WADERARMOIRE_STACK_BYTES has enough for every sheet and log.
  *
@@ -57,7 +57,7 @@ extern "C" {
 #define WADERARMOIRE_WORDS_BYTES 256
 
 /* A thread with a stack of this length can plan every sheet. */
-#define WADERARMOIRE_STACK_BYTES 196608
+#define WADERARMOIRE_STACK_BYTES 229376
 
 /*
  * Plans the network of a sheet of sheet_len bytes in halves of a circuit and writes the report

@@ -151,8 +151,8 @@
 //! once, each with a buffer or list of its own. The caller of this crate owes nothing more; what the
 //! library below asks, pointers that are not null and areas that do not overlap, slices have.
 //!
-//! A plan or an order needs at most 144 KiB of stack, whatever the shape of the tree, two regions, a step of
-//! one or a judgement at most 160 KiB, a replay or a report on ranges at most 128 KiB: nothing recurses but the digits of a number
+//! A plan or an order needs at most 208 KiB of stack, whatever the shape of the tree, two regions, a step of
+//! one or a judgement at most 192 KiB, a replay or a report on ranges at most 128 KiB: nothing recurses but the digits of a number
 //! of nine or more, twenty deep at most (measured on the largest trees, with what a new thread itself needs). A thread of [`STACK_BYTES`] has enough for every
 //! sheet and log.
 //!
@@ -188,7 +188,7 @@ pub const REPORT_BYTES: usize = 65_536;
 pub const SITES: usize = 384;
 
 /// A thread with a stack of this many bytes can plan every sheet.
-pub const STACK_BYTES: usize = 196_608;
+pub const STACK_BYTES: usize = 229_376;
 
 /// A function of the library: the sheet and what is lent for the answer, each with its length.
 type Function<Place> = unsafe extern "C" fn(*const u8, usize, *mut Place, usize) -> u64;
