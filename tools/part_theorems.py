@@ -66,6 +66,9 @@ cited=collections.defaultdict(set)
 for p in glob.glob(f'{root}/crates/*/src/**/*.rt',recursive=True):
     for m in re.finditer(r"ghost use Rattle\.([a-z_0-9]+)\.specs\.([A-Za-z]+)(?:\.\{([^}]*)\})?",open(p).read()):
         for n in (m[3] or '*').split(','): cited[(m[1],m[2])].add(n.strip())
+# names of modules that rattle makes
+taken={'Met','Goals','Given','Reads','Tie','Kinds','Lts','Code','Statement','Proof','Symbol','Layout'}
+laws=lambda f: f+'Laws' if f in taken else f
 moved=collections.defaultdict(set)  # (crate,file) -> names
 whole=set()                          # (crate,file) moved whole
 for c in crates:
@@ -109,13 +112,13 @@ for c in crates:
         go=[i for i in range(len(bl)) if (f,i) not in stay and nm[i]]
         # comment blocks that head a part go with what follows
         if not go: continue
-        if os.path.exists(f'{P}/{f}.antt'): print('exists',c,f); continue
+        if os.path.exists(f'{P}/{laws(f)}.antt'): print('exists',c,f); continue
         gonames={n for i in go for n,_,_ in nm[i]}
         keep=[i for i in range(len(bl)) if i not in go]
         keepn={n for i in keep for n,_,_ in nm[i]}
         if not keepn:
-            os.rename(f'{S}/{f}.antt',f'{P}/{f}.antt'); whole.add((c,f)); moved[(c,f)]=gonames
-            slib=re.sub(r"pub mod "+f+r"\n","",slib); lib+=f'pub mod {f}\n'; continue
+            os.rename(f'{S}/{f}.antt',f'{P}/{laws(f)}.antt'); whole.add((c,f)); moved[(c,f)]=gonames
+            slib=re.sub(r"pub mod "+f+r"\n","",slib); lib+=f'pub mod {laws(f)}\n'; continue
         used=set().union(*[toks(bl[i]) for i in go])
         need=sorted(n for n in keepn if n in used)
         opened=set(x for i in go for l in bl[i] if l.strip().startswith('unfolding ') for x in l.split()[1:])
@@ -127,7 +130,10 @@ for c in crates:
                 ind=len(l)-len(l.lstrip())
                 if l.strip():
                     if hidden is not None and ind<hidden: hidden=None
-                    if hidden is None and re.match(r"\s*(?:(?:abbrev|pub)\s+)*(?:data|record)\b",l): hidden=ind+1; continue
+                    dm=re.match(r"(\s*)((?:(?:abbrev|pub)\s+)*)((?:data|record)\s+("+T+"))",l)
+                    if hidden is None and dm:
+                        if dm[4] in need and 'pub' not in dm[2]: b[q]=l.replace(dm[3],'pub '+dm[3],1)
+                        hidden=ind+1; continue
                     if l.strip()=='where' and hidden is None: hidden=ind
                 if hidden is not None: continue
                 m=re.match(r"^(\s*(?:unfoldable |abbrev )?)("+T+r")( :.*)$",l)
@@ -139,8 +145,8 @@ for c in crates:
         open(f'{S}/{f}.antt','w').write('\n'.join(head).rstrip('\n')+'\n\n'+'\n\n'.join(out).rstrip('\n')+'\n')
         imp=[l for l in head if l.startswith(('use ','pub use '))]
         if need: imp.append(f"use Rattle.{c}.specs.{f}.{{{', '.join(need)}}}")
-        open(f'{P}/{f}.antt','w').write((title+'\n' if title else '')+'\n'.join(imp)+'\n\n'+'\n\n'.join('\n'.join(bl[i]) for i in go).rstrip('\n')+'\n')
-        moved[(c,f)]=gonames; lib+=f'pub mod {f}\n'
+        open(f'{P}/{laws(f)}.antt','w').write((title+'\n' if title else '')+'\n'.join(imp)+'\n\n'+'\n\n'.join('\n'.join(bl[i]) for i in go).rstrip('\n')+'\n')
+        moved[(c,f)]=gonames; lib+=f'pub mod {laws(f)}\n'
     open(P+'/Lib.antt','w').write(lib); 
     if slib.strip(): open(S+'/Lib.antt','w').write(slib)
     elif os.path.exists(S+'/Lib.antt'): os.remove(S+'/Lib.antt')
@@ -148,22 +154,27 @@ for c in crates:
 n=0
 for p in glob.glob(f'{root}/crates/*/specs/**/*.antt',recursive=True)+glob.glob(f'{root}/crates/*/proofs/**/*.antt',recursive=True):
     if '/out/' in p: continue
-    L=open(p).read().split('\n'); out=[]; ch=False
+    L=open(p).read().split('\n'); out=[]; ch=False; renamed=[]
     for l in L:
         m=USE.match(l)
         k=(m[3],m[4]) if m else None
         if m and k in moved and not m[5]:
             if m[6] is None:
-                if k in whole: l=l.replace(f'Rattle.{k[0]}.specs.{k[1]}',f'Rattle.{k[0]}.proofs.{k[1]}'); ch=True
-                else: print('module import of a split file',p,l)
+                cited_=set(re.findall(r"(?<![\w.])"+re.escape(m[7] or k[1])+r"\.("+T+")",'\n'.join(x for x in L if not x.startswith(('use ','pub use ')))))
+                if k in whole or cited_ and cited_<=moved[k]: l=l.replace(f'Rattle.{k[0]}.specs.{k[1]}',f'Rattle.{k[0]}.proofs.{laws(k[1])}'); ch=True
+                elif cited_&moved[k]:
+                    a_=m[7] or k[1]; ch=True
+                    out.append(f"use Rattle.{k[0]}.proofs.{laws(k[1])} as {a_}_laws"); renamed.append((a_,cited_&moved[k]))
                 out.append(l); continue
             ns=[x.strip() for x in m[6].split(',') if x.strip()]
             a=[x for x in ns if x.split(' as ')[0] in moved[k]]; b=[x for x in ns if x not in a]
             if a:
                 ch=True
                 if b: out.append(f"{m[1] or ''}use Rattle.{k[0]}.specs.{k[1]}.{{{', '.join(b)}}}")
-                out.append(f"{m[1] or ''}use Rattle.{k[0]}.proofs.{k[1]}.{{{', '.join(a)}}}"); continue
+                out.append(f"{m[1] or ''}use Rattle.{k[0]}.proofs.{laws(k[1])}.{{{', '.join(a)}}}"); continue
         out.append(l)
+    for a_,ns_ in renamed:
+        out=[x if x.startswith('use ') else re.sub(r"(?<![\w.])"+re.escape(a_)+r"\.("+T+")",lambda q:f'{a_}_laws.{q[1]}' if q[1] in ns_ else q[0],x) for x in out]
     own=re.search(r'/crates/([a-z_0-9]+)/specs/',p)
     if own:
         body=set(x for l in out if not l.startswith(('use ','pub use ')) and not l.lstrip().startswith('--') for x in TOK.findall(l))
