@@ -1,9 +1,9 @@
 #!/usr/bin/env python3
 """Moves the theorems of specs/ of crates to proofs/, statements unchanged: what is a definition stays, with what it rests on.
-usage: split.py ROOT CRATE.."""
+usage: part_theorems.py ROOT CRATE.. (CRATE/FILE,FILE: of these files alone; +CRATE/NAME: this theorem stays)"""
 import re,os,sys,glob,collections
 T=r"[^\s(){}\[\],.;:@\"]+"
-root=sys.argv[1]; crates=sys.argv[2:]
+root=sys.argv[1]; only={a.split('/')[0]:set(a.split('/')[1].split(',')) for a in sys.argv[2:] if '/' in a and a[0]!='+'}; crates=[a.split('/')[0] for a in sys.argv[2:] if a[0]!='+']; stays={a[1:] for a in sys.argv[2:] if a[0]=='+'}
 TOK=re.compile(T)
 def blocks(text):
     """header use-lines, and blocks: (comment+decl lines)."""
@@ -82,11 +82,11 @@ for c in crates:
     for f in files:
         for i,ns in enumerate(info[f][2]):
             for n,_,_ in ns: where.setdefault(n,[]).append((f,i))
-    # which blocks stay: definitions, what sources cite, and what they rest on
+    # which blocks stay: definitions (and all of the files that are not to be parted), what sources cite, and what they rest on
     stay=set(); todo=[]
     for f in files:
         for i,ns in enumerate(info[f][2]):
-            isdef=any(d for _,d,_ in ns)
+            isdef=any(d for _,d,_ in ns) or c in only and f not in only[c] or any(f'{c}/{n}' in stays for n,_,_ in ns)
             first=next((l for l in info[f][1][i] if not l.startswith('--')),'')
             if isdef or any(n in cited[(c,f)] for n,_,_ in ns) or '*' in cited[(c,f)] or not ns: 
                 if not ns and not first.startswith(('open','syntax','infix')): continue

@@ -13,10 +13,10 @@ use Rattle.text_writers.specs.Fields.{decimal, line}
 use Rattle.text_writers.specs.Decimal.{decimal-length}
 use Rattle.text_writers.specs.Wrote.{Room}
 use Rattle.theory_book.specs.Book.{possible, joins_all, halves}
-use Rattle.theory_book.specs.Trees.{possible_in}
+use Rattle.theory_book.proofs.Trees.{possible_in}
 use Rattle.theory_book.specs.FlatLaws.{flat_round, flat-same, flat-none}
 use Rattle.theory_book.specs.Numbered.{word, chosen, page_of}
-use Rattle.theory_book.specs.Counting.{chosen_in}
+use Rattle.theory_book.proofs.Counting.{chosen_in}
 use Rattle.theory_book.specs.Pages.{a_page_of_another_number_of_links_is_empty, a-page-without-a-tree-is-empty, a_page_of_a_tree_is_counted}
 use Rattle.book_totals.specs.Total.{Few, total_of}
 use Rattle.book_totals.specs.declared.Outcome.TheVariants.{NoTree, Halves}

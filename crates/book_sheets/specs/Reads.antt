@@ -15,7 +15,7 @@ use Rattle.model.specs.Flows.{Links, Site, Tree, sites, label, joined}
 use Rattle.model.specs.declared.Edition.{Edition}
 use Rattle.model.specs.declared.Sizing.TheVariants.{Reserved}
 use Rattle.theory_trees.specs.Labels.{Fresh}
-use Rattle.theory_trees.specs.Fresh.{tree_links_are_fresh, tree_reversed, joined_reversed}
+use Rattle.theory_trees.proofs.Fresh.{tree_links_are_fresh, tree_reversed, joined_reversed}
 use Rattle.text_writers.specs.Fields.{decimal, line}
 use Rattle.text_writers.specs.Decimal.{decimal-within}
 use Rattle.sheet_names.specs.Names.{name_at}

@@ -9,7 +9,7 @@ use Rattle.lists.specs.Sums.{pick_same, pick_other}
 use Rattle.model.specs.Edition.{largest}
 use Rattle.model.specs.Flows.{Links, sites, sum_at, ends, at_terminals}
 use Rattle.model.specs.Trimming.{balanced}
-use Rattle.theory_trees.specs.Greatest.{greatest_is_balanced}
+use Rattle.theory_trees.proofs.Greatest.{greatest_is_balanced}
 use Rattle.tree.specs.Accepted.{MarkedTree}
 use Rattle.tree.specs.Links.{length-links}
 use Rattle.tree.specs.Offer.{links}
@@ -19,7 +19,7 @@ use Rattle.trimming.specs.Promise.{Promise, promised_within, trimming_keeps_its_
 use Rattle.trimming.specs.declared.Trimming.{Trimming}
 use Rattle.trimming.specs.declared.Trimming.TheVariants.{Balanced}
 use Rattle.theory_book.specs.Book.{joins_all, halves}
-use Rattle.theory_book.specs.Trees.{a_choice_that_joins_all_is_a_tree, a-tree-joins-all}
+use Rattle.theory_book.proofs.Trees.{a_choice_that_joins_all_is_a_tree, a-tree-joins-all}
 use Rattle.book_totals.specs.Total.{Few, total_of}
 use Rattle.book_totals.specs.declared.Outcome.TheVariants.{NoTree, Halves}
 

@@ -12,16 +12,17 @@ use Rattle.lists.specs.Numbers.{is, sum, upfrom, look}
 use Rattle.lists.specs.Sums.{same?, cases, is_le, sum-le}
 use Rattle.lists.specs.Places.{over-le}
 use Rattle.model.specs.Flows.{Links, Tree, sites, sum_at, at_terminals}
-use Rattle.theory_trees.specs.Greatest.{balanced_is_greatest}
-use Rattle.theory_trees.specs.Leaves.{sums_at_sites_count_links_twice}
+use Rattle.theory_trees.proofs.Greatest.{balanced_is_greatest}
+use Rattle.theory_trees.proofs.Leaves.{sums_at_sites_count_links_twice}
 use Rattle.text_writers.specs.Fields.{decimal, line}
 use Rattle.text_writers.specs.Decimal.{decimal-within}
 use Rattle.theory_book.specs.Listing.{In}
-use Rattle.theory_book.specs.ListLaws.{get_d_in}
+use Rattle.theory_book.proofs.ListLaws.{get_d_in}
 use Rattle.theory_book.specs.Book.{Entry, possible, joins_all, ends_in, trimmed_in, halves}
-use Rattle.theory_book.specs.Trees.{Between, possible_in, a_choice_that_joins_all_is_a_tree}
+use Rattle.theory_book.specs.Trees.{Between}
+use Rattle.theory_book.proofs.Trees.{possible_in, a_choice_that_joins_all_is_a_tree}
 use Rattle.theory_book.specs.Numbered.{word, chosen, page_of}
-use Rattle.theory_book.specs.Counting.{chosen_in}
+use Rattle.theory_book.proofs.Counting.{chosen_in}
 use Rattle.theory_book.specs.Pages.{a_page_of_another_number_of_links_is_empty, a-page-without-a-tree-is-empty, a_page_of_a_tree_is_counted}
 use Rattle.book_lines.specs.Line.{link_text, commas, line_with, line_of, text}
 use Rattle.book_lines.specs.Laws.{word-length, word_small}

@@ -10,7 +10,7 @@ use Rattle.theory_book.specs.Book.{exercise_book}
 use Rattle.theory_book.specs.FlatLaws.{flat-flat, flat-same}
 use Rattle.theory_book.specs.ListLaws.{from_in}
 use Rattle.theory_book.specs.Numbered.{choices_of, page_of}
-use Rattle.theory_book.specs.Pages.{the_pages_are_the_book}
+use Rattle.theory_book.proofs.Pages.{the_pages_are_the_book}
 use Rattle.book_lines.specs.Line.{line_of, text}
 use Rattle.books.specs.Outcome.{Paged, number, line_told, length_told, choices, page, page_into}
 use Rattle.books.specs.Steps.{counted, too_short, long-enough, a_page_is_its_text}

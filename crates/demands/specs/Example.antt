@@ -6,10 +6,10 @@ use Rattle.sheet.specs.Sheet.{Network, capitals, lookup_from}
 use Rattle.demands.specs.Printed.{lines_of, records, headed, first_line, number_read, line_read, dash, site_found, site_named, read_records, read_report}
 
 -- the sites `hub`, `a`, `b`, `c` and their names on the sheet
-abbrev sheet : List ℕ
+abbrev pub sheet : List ℕ
 sheet = bytes "network\t1\nN\thub\nN\ta\nN\tb\nN\tc\nL\thub\ta\t5\nL\thub\tb\t1\nL\thub\tc\t1\n"
 
-abbrev net : Network
+abbrev pub net : Network
 net = record {
   names = (12, 15) ∷ (18, 19) ∷ (22, 23) ∷ (26, 27) ∷ [];
   marks = 0 ∷ 0 ∷ 0 ∷ 0 ∷ [];
@@ -17,50 +17,11 @@ net = record {
   capacities = 5 ∷ 1 ∷ 1 ∷ [];
 }
 
-abbrev worked : List ℕ
+abbrev pub worked : List ℕ
 worked = bytes "plan\t4\t2\nL\thub\ta\t5\t2\nL\thub\tb\t1\t1\nL\thub\tc\t1\t1\nN\thub\ta\nN\ta\ta\nN\tb\tb\nN\tc\tc\nX\ta\t2\t2\n"
     ++ bytes "X\tb\t1\t1\nX\tc\t1\t1\nP\ta\tb\t2\nP\ta\tc\t2\n"
 
-what_it_says : read_report sheet net worked ≡ record {
-  heading = bytes "plan";
-  total = 4;
-  pair_count = 2;
-  links = (1, 2) ∷ (1, 3) ∷ (1, 4) ∷ [];
-  sizes = 5 ∷ 1 ∷ 1 ∷ [];
-  shown = 2 ∷ 1 ∷ 1 ∷ [];
-  sites = 1 ∷ 2 ∷ 3 ∷ 4 ∷ [];
-  owners = 2 ∷ 2 ∷ 3 ∷ 4 ∷ [];
-  dashes = 0 ∷ 0 ∷ 0 ∷ 0 ∷ [];
-  sets = record { end = 2; size = 2; count = 2 } ∷ record { end = 3; size = 1; count = 1 } ∷ record { end = 4; size = 1; count = 1 } ∷ [];
-  pieces = [];
-  plan = record { first = 2; second = 3; amount = 2 } ∷ record { first = 2; second = 4; amount = 2 } ∷ [];
-}
-unfolding read_report read_records records lines_of headed dash site_named site_found capitals lookup_from same push fields value_from
-what_it_says = refl
-
 -- the same sites in whole circuits, star 1, 1, 1
-abbrev whole : List ℕ
+abbrev pub whole : List ℕ
 whole = bytes "whole\t2\t1\nL\thub\ta\t1\t1\nL\thub\tb\t1\t1\nL\thub\tc\t1\t0\nN\thub\t-\nN\ta\ta\nN\tb\tb\nN\tc\tc\nX\ta\t1\t1\n"
     ++ bytes "X\tb\t1\t1\nX\tc\t1\t1\nQ\t1\nP\ta\tb\t2\n"
-
-what_the_whole_report_says : read_report sheet net whole ≡ record {
-  heading = bytes "whole";
-  total = 2;
-  pair_count = 1;
-  links = (1, 2) ∷ (1, 3) ∷ (1, 4) ∷ [];
-  sizes = 1 ∷ 1 ∷ 1 ∷ [];
-  shown = 1 ∷ 1 ∷ 0 ∷ [];
-  sites = 1 ∷ 2 ∷ 3 ∷ 4 ∷ [];
-  owners = 0 ∷ 2 ∷ 3 ∷ 4 ∷ [];
-  dashes = 1 ∷ 0 ∷ 0 ∷ 0 ∷ [];
-  sets = record { end = 2; size = 1; count = 1 } ∷ record { end = 3; size = 1; count = 1 } ∷ record { end = 4; size = 1; count = 1 } ∷ [];
-  pieces = 1 ∷ [];
-  plan = record { first = 2; second = 3; amount = 2 } ∷ [];
-}
-unfolding read_report read_records records lines_of headed dash site_named site_found capitals lookup_from same push fields value_from
-what_the_whole_report_says = refl
-
--- refused with 7 at line 12
-what_a_refusal_says : (number_read (bytes "refused\t7\t12\n") ≡ 7) × (line_read (bytes "refused\t7\t12\n") ≡ 12)
-unfolding first_line records lines_of push fields value_from
-what_a_refusal_says = (refl, refl)

@@ -1,6 +1,4 @@
-pub mod Demands
 pub mod Asked
-pub mod WholeDemands
 pub mod AskedWhole
 pub mod Printed
 pub mod Example

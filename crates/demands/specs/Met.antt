@@ -12,12 +12,12 @@ use Rattle.model.specs.declared.Edition.{Edition}
 use Rattle.lists.specs.Sums.{contradiction}
 use Rattle.lists.specs.Maps.{map-map}
 use Rattle.theory_trees.specs.TerminalCuts.{cut_sizes_sum_to_the_terminals}
-use Rattle.theory_trees.specs.Bounds.{what_fits_fits_the_balanced, a_full_multiflow_has_the_greatest_total}
+use Rattle.theory_trees.proofs.Bounds.{what_fits_fits_the_balanced, a_full_multiflow_has_the_greatest_total}
 use Rattle.theory_walk.specs.PartsTheorem.{pair_list_of_parts_ascends, pair_list_of_parts_lower_first}
 use Rattle.sheet_kinds.specs.LineKinds.{field}
 use Rattle.sheet.specs.Sheet.{Network, Read, refused, accepted, read_sheet, edition_of}
 use Rattle.sheet.specs.OwnLines.{a_link_stands_on_its_own_line}
-use Rattle.sheet.specs.Editions.{a_line_at_fault_is_within_the_limit}
+use Rattle.sheet.proofs.Editions.{a_line_at_fault_is_within_the_limit}
 use Rattle.sheet.specs.SheetTheorem.{IsNetwork, an_accepted_sheet_is_a_tree, a_sheet_is_refused_for_its_cause}
 use Rattle.report.specs.Report.{report, refusal_line}
 use Rattle.planner.specs.Outcome.{number, Reporter, planned, Answer, answered_by}
@@ -28,7 +28,7 @@ use Rattle.demands.specs.Asked.{faulty_sheet, long-report, full_report, Prints, 
 use Rattle.demands.specs.Lists.{map-own}
 use Rattle.demands.specs.Plans.{full_plan, trimmed_is_greatest, full_plan_is_sound, full_plan_fits}
 use Rattle.demands.specs.Records.{refusal-line, refusal-fields, refusal-number, refusal-at}
-use Rattle.demands.specs.ReadBack.{figures_say, plan_says, report_read_back}
+use Rattle.demands.specs.ReadBack.{figures_say, plan_says}
 use Rattle.demands.specs.Spelling.{the_report_spells_names_as_given}
 use Rattle.demands.specs.Sets.{set_by, TellsSets, sizes_summed, told_sets_are_owned, owners_tell_the_cuts}
 use Rattle.demands.specs.Sets.{cut_sizes_are_set_sizes, cut_counts_are_set_counts}
@@ -43,125 +43,12 @@ use Rattle.demands.specs.Outcomes.{fronted, the_front_is_printed, report-answere
 pub accepted_without_cause : (known : List Edition) (s : List ℕ) (net : Network) → read_sheet known s ≡ accepted net → WithoutCause known s
 accepted_without_cause known s net read k l c = contradiction (cc (read, (a_sheet_is_refused_for_its_cause (edition_of known s) s k l).1 c))
 
-module _ (text : Reporter) (known : List Edition) (s b : List ℕ) where
-  pub a_refused_sheet_meets_demand_1 : (k l : ℕ) → read_sheet known s ≡ refused k l → Demand1 text known s b
-  a_refused_sheet_meets_demand_1 k l e =
-      faulty_sheet k l e ((a_sheet_is_refused_for_its_cause (edition_of known s) s k l).0 e) (sheets_are_refused_with_a_sheet_number known s k l e)
-      (rw (sheet_refused text known s b k l e) (record { number-told = refl; line-told = refl; length-told = refl; buffer_kept = refl }))
-
-  module _ (net : Network) (read : read_sheet known s ≡ accepted net) where
-    pub a_long_report_meets_demand_1 : length b < length (text s net) → Demand1 text known s b
-    a_long_report_meets_demand_1 h = long-report (accepted_without_cause known s net read) net read (omega arith)
-        (rw (report_too_long text known s b net read h) (record { number-told = refl; line-told = refl; length-told = refl; buffer_kept = refl }))
-
-    pub a_delivered_report_meets_demand_1 : length (text s net) ≤ length b → Demand1 text known s b
-    a_delivered_report_meets_demand_1 h = full_report (accepted_without_cause known s net read) net read (omega arith)
-        (rw (report-delivered text known s b net read h) (record { number-told = refl; line-told = refl; length-told = refl; buffer_filled = refl }))
-
 -- ---- either report
-
-pub figures_show_sheet : (net : Network) (f : Figures) → ShowsSheet f.word net (figures_say net f)
-unfolding figures_say
-figures_show_sheet net f = record { heading = refl; links = refl; sizes = refl; sites-shown = refl }
-
-pub figures_show_usable_sizes : (known : List Edition) (s : List ℕ) (net : Network) → read_sheet known s ≡ accepted net → (f : Figures)
-    → SizesAsGiven known s net (figures_say net f)
-unfolding figures_say
-figures_show_usable_sizes known s net read f = a_link_stands_on_its_own_line (edition_of known s) s net read
 
 -- the `X` lines are those of the ends
 pub a_set_is_told_for_each_end : (net : Network) (f : Figures) → let ends = ends_among (is_end net) (sites (site_count net)) in
     map (λ x. x.end) (map (set_by f) ends) ≡ ends
 a_set_is_told_for_each_end net f = map-map _ _ (ends_among (is_end net) (sites (site_count net))) ∙ map-own (ends_among (is_end net) (sites (site_count net)))
-
-module _ {ed : Edition} {s : List ℕ} {net : Network} (N : IsNetwork ed s net) where
-  pub figures_are_in_order : (f : Figures) → Showable net f → InOrder net (figures_say net f)
-  unfolding figures_say
-  figures_are_in_order f h = record {
-    positive = (figures_have_sound_pairs net N.tree f h).positive;
-    lower-first = pair_list_of_parts_lower_first N.tree (is_end net) (look f.shown) h.balanced;
-    ascending = pair_list_of_parts_ascends N.tree (is_end net) (look f.shown) h.balanced;
-    owner_of_each_site = an_owner_is_told_for_each_site (site_count net) f.owner;
-    dash-or-end = λ x q. owners_are_told_or_dashes (site_count net) f.owner x q (is_end net) (h.owned x q);
-    dash-is-none = a_dash_tells_no_owner (site_count net) f.owner;
-  }
-
-  -- ---- the report in halves
-
-  pub plan_shows_sheet : ShowsSheet (bytes "plan") net (plan_says net)
-  plan_shows_sheet = figures_show_sheet net (halves net)
-
-  halves_tell_sets : TellsSets net.links (site_count net) (is_end net) (look net.capacities) (halves net)
-  halves_tell_sets =
-      let g = trimmed_are_greatest net N.tree in
-      record { sized = cut_sizes_are_set_sizes N.tree (is_end net) g; counted = cut_counts_are_set_counts N.tree (is_end net) g }
-
-  pub plan_meets_demand_2 : Demand2 net (plan_says net)
-  unfolding figures_say
-  plan_meets_demand_2 =
-      let T = N.tree in
-      let ls = net.links in
-      let n = site_count net in
-      let end = is_end net in
-      let plan = full_plan T end net.capacities in
-      let greatest = trimmed_is_greatest T end net.capacities in
-      let full = full_plan_is_sound T end net.capacities in
-      record {
-        largest =
-            λ fs h k _ f. a_full_multiflow_has_the_greatest_total T end greatest plan full.routes 2 full.loads fs h k f;
-        printed_plan = full.routes;
-        once = full.once;
-        printed_plan_fits = full_plan_fits T end net.capacities;
-        reached = refl;
-        few = full.few;
-        counted = refl;
-        set-members = owners_tell_the_cuts T end greatest;
-        dash-without-set = a_dash_tells_that_no_cut_holds_the_site T end greatest;
-        set_of_each_end = a_set_is_told_for_each_end net (halves net);
-        size_of_each_set = told_sets_are_owned T end (look net.capacities) (halves net) halves_tell_sets;
-        sizes-sum = sizes_summed end (set_by (halves net)) (sites n) ∙ cut_sizes_sum_to_the_terminals T end greatest ∙ sym full.sums;
-      }
-
-  pub plan_is_in_order : InOrder net (plan_says net)
-  plan_is_in_order = figures_are_in_order (halves net) (halves_can_be_shown net N.tree)
-
-  pub plan_meets_demand_3 : Demand3 net (plan_says net)
-  unfolding figures_say
-  plan_meets_demand_3 =
-      let T = N.tree in
-      let end = is_end net in
-      let full = full_plan_is_sound T end net.capacities in
-      record {
-        bounded = λ fs h k _ f. what_fits_fits_the_balanced T end (trimmed_is_greatest T end net.capacities) fs h k f;
-        printed_plan = full.routes;
-        printed_plan_fits = full_plan_fits T end net.capacities;
-        filled = full.loads;
-        trimmed = refl;
-      }
-
-pub the_report_is_full : (known : List Edition) (s : List ℕ) (net : Network) → read_sheet known s ≡ accepted net → IsReport known s (report s net)
-the_report_is_full known s net read =
-    let N = an_accepted_sheet_is_a_tree (edition_of known s) s net read in
-    let said = report_read_back N in
-    record {
-      net = net;
-      read = read;
-      network = N;
-      whole = refl;
-      shows_the_sheet = rw said (plan_shows_sheet N);
-      sizes = rw said (figures_show_usable_sizes known s net read (halves net));
-      names = the_report_spells_names_as_given known s net read;
-      meets_demand_2 = rw said (plan_meets_demand_2 N);
-      is_in_order = rw said (plan_is_in_order N);
-      meets_demand_3 = rw said (plan_meets_demand_3 N);
-    }
-
--- where planning tells success, what is printed is the plan
-pub the_plan_is_printed : (known : List Edition) (s b : List ℕ) (net : Network) → read_sheet known s ≡ accepted net → number (planned known s b).outcome ≡ 0
-    → printed_by s net (planned known s b) ≡ plan_says net
-the_plan_is_printed known s b net read success =
-    ap (read_report s net) (the_report_is_told report known s b net read success)
-    ∙ report_read_back (an_accepted_sheet_is_a_tree (edition_of known s) s net read)
 
 -- ---- the line of a refusal
 

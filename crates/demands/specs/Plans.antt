@@ -8,9 +8,10 @@ use Rattle.model.specs.Flows.{Links, Site, Tree, Route, Fits}
 use Rattle.model.specs.Trimming.{Greatest, balanced}
 use Rattle.model.specs.Parts.{pair_list_of_parts}
 use Rattle.model.specs.declared.Pair.{Pair}
-use Rattle.theory_trees.specs.Greatest.{balanced_is_greatest}
-use Rattle.theory_trees.specs.Leaves.{Outer, outer_route}
-use Rattle.theory_trees.specs.Bounds.{the_same_multiflows_fit_iff_the_balanced_agree}
+use Rattle.theory_trees.proofs.Greatest.{balanced_is_greatest}
+use Rattle.theory_trees.specs.Leaves.{Outer}
+use Rattle.theory_trees.proofs.Leaves.{outer_route}
+use Rattle.theory_trees.proofs.Bounds.{the_same_multiflows_fit_iff_the_balanced_agree}
 use Rattle.lists.specs.Tallies.{each_map}
 use Rattle.theory_walk.specs.PartsTheorem.{pair_list_of_parts_is_sound}
 use Rattle.theory_walk.specs.Sound.{Sound}

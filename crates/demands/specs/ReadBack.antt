@@ -27,7 +27,7 @@ use Rattle.demands.specs.Records.{head_fields, link_fields, site_fields, cut_fie
 use Rattle.demands.specs.Records.{first-line, link-lines, site-lines, cut-lines, odd_lines, pair-lines}
 use Rattle.demands.specs.Names.{name_read_back, dash_read_back, site-name-is-plain}
 use Rattle.demands.specs.Sets.{set_by}
-use Rattle.theory_trees.specs.Sites.{look-site}
+use Rattle.theory_trees.proofs.Sites.{look-site}
 use Rattle.lists.specs.Maps.{map-map, map_same}
 use Rattle.demands.specs.Lists.{map-own, map-places, each-site}
 
@@ -225,7 +225,3 @@ module _ {ed : Edition} {s : List ℕ} {net : Network} (N : IsNetwork ed s net) 
 -- what the report of a network says: the plan of the network
 abbrev pub plan_says : Network → Printed
 plan_says net = figures_say net (halves net)
-
-pub report_read_back : {ed : Edition} {s : List ℕ} {net : Network} → IsNetwork ed s net → read_report s net (report s net) ≡ plan_says net
-report_read_back {ed} {s} {net} N = ap (read_report s net) (the_report_shows_halves net s)
-    ∙ figures_read_back N (halves net) (halves_can_be_shown net N.tree)

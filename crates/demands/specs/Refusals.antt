@@ -6,7 +6,8 @@ use Rattle.model.specs.declared.Edition.{Edition}
 use Rattle.sheet.specs.Sheet.{refused, read_sheet, edition_of}
 use Rattle.sheet.specs.Causes.{Refusal}
 use Rattle.sheet.specs.SheetTheorem.{a_sheet_is_refused_for_its_cause}
-use Rattle.sheet.specs.Answers.{SheetNumber, refusals_have_sheet_numbers, a_line_at_fault_is_on_the_sheet}
+use Rattle.sheet.specs.Answers.{SheetNumber}
+use Rattle.sheet.proofs.Answers.{refusals_have_sheet_numbers, a_line_at_fault_is_on_the_sheet}
 
 module _ (known : List Edition) (s : List ℕ) (k l : ℕ) (e : read_sheet known s ≡ refused k l) where
   cause : Refusal (edition_of known s) s k l

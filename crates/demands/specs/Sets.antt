@@ -11,8 +11,9 @@ use Rattle.model.specs.Cuts.{group, in_cut, cut_size, cut_count, owner, in_stopp
 use Rattle.model.specs.Whole.{set_size, set_count}
 use Rattle.lists.specs.Sums.{same?, pick_same, pick_other, is_same, is-other, is_one, is_iff, sum-eq}
 use Rattle.lists.specs.Places.{over-eq, length-upfrom}
-use Rattle.theory_trees.specs.Sites.{look-site}
-use Rattle.theory_trees.specs.Owners.{owner-or-none, without_owner_in_no_cut, owner_iff_in_cut}
+use Rattle.theory_trees.proofs.Sites.{look-site}
+use Rattle.theory_trees.specs.Owners.{owner-or-none, without_owner_in_no_cut}
+use Rattle.theory_trees.proofs.Owners.{owner_iff_in_cut}
 use Rattle.theory_trees.specs.Stopping.{stopping_changes_nothing}
 use Rattle.planner.specs.Figures.{Figures}
 use Rattle.demands.specs.Printed.{EndSet, size_sum, ends_among}

@@ -13,7 +13,7 @@ use Rattle.lists.specs.Tallies.{each_map}
 use Rattle.model.specs.Flows.{Site, Route, sites, one, two}
 use Rattle.model.specs.Text.{bytes}
 use Rattle.model.specs.declared.Edition.{Edition}
-use Rattle.theory_trees.specs.Sites.{look-site}
+use Rattle.theory_trees.proofs.Sites.{look-site}
 use Rattle.sheet_kinds.specs.LineKinds.{field}
 use Rattle.sheet_names.specs.Names.{name_at}
 use Rattle.sheet.specs.Sheet.{Network, accepted, read_sheet, edition_of}

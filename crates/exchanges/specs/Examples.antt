@@ -18,50 +18,16 @@ use Rattle.exchanges.specs.Outcome.{Exchanged, refusal, deliver, exchange_over, 
 use Rattle.exchanges.specs.declared.Outcome.TheVariants.{Answered}
 
 -- `hill` joined to `dale`, over the shared link, and to a and b
-abbrev hill : List ℕ
+abbrev pub hill : List ℕ
 hill = bytes "network\t1\nN\thill\nN\ta\nN\tb\nN\tdale\nL\thill\tdale\t10\nL\thill\ta\t5\nL\thill\tb\t1\n"
 
 -- `Dale` joined to c, to d and, over the shared link, to `HILL`
-abbrev dale : List ℕ
+abbrev pub dale : List ℕ
 dale = bytes "network\t2\nN\tc\nN\tDale\nN\tHILL\nN\td\nL\tc\tDALE\t1\nL\tHill\tDale\t12\t2\nL\tdale\td\t1\n"
 
 -- the same with a mark of `HILL`, and without the reserve
-abbrev marked : List ℕ
+abbrev pub marked : List ℕ
 marked = bytes "network\t2\nN\tc\nN\tDale\nT\tHILL\nN\td\nL\tc\tDALE\t1\nL\tHill\tDale\t12\t2\nL\tdale\td\t1\n"
 
-abbrev unreserved : List ℕ
+abbrev pub unreserved : List ℕ
 unreserved = bytes "network\t2\nN\tc\nN\tDale\nN\tHILL\nN\td\nL\tc\tDALE\t1\nL\tHill\tDale\t12\nL\tdale\td\t1\n"
-
-exchange : List ℕ → List ℕ → List ℕ → List ℕ → Exchanged
-unfolding exchanged exchange_read exchange_over deliver partner first_size trimmed_again lone far_site own own_sum given first_from commons shared_first shared_second
-    may_be_far chosen shared_at sharing_of ℕ_discrete dec_le dec_lt pick is differ less sum over count upfrom at sum_at leaf end_at ends relabel label joined
-    at_terminals cut_at cut_site cut_sites unvisited first remove taken elimination balanced_along balanced line_length line_at after_line has_line same push fields all
-    is_name is_number value_from is_heading checked_fields checked fault_of judged size_of capacity_of site_line sized_link link_line kind_of kind capitals lookup_from
-    site_step link_step heading_step record_step step_of read_line and_then read_lines all_joined finish read_as edition_of
-exchange s t l m = exchanged editions s t l m
-
--- 6 and 2 are shown, and the lesser goes to both; a place past the answer keeps its value
-both_are_given : exchange hill dale (7 ∷ 7 ∷ 7 ∷ 7 ∷ []) (8 ∷ 8 ∷ 8 ∷ []) ≡ record {
-  outcome = Answered (record { count = 3; sum = 4 }) (record { count = 3; sum = 2 });
-  first = 2 ∷ 3 ∷ 1 ∷ 7 ∷ [];
-  second = 1 ∷ 2 ∷ 1 ∷ [];
-}
-unfolding exchange
-both_are_given = refl
-
--- 9 names the first region whose list is too short
-lists_too_short : (exchange hill dale (7 ∷ 7 ∷ []) (8 ∷ []) ≡ refusal 1 9 0 (7 ∷ 7 ∷ []) (8 ∷ []))
-    × (exchange hill dale (7 ∷ 7 ∷ 7 ∷ []) (8 ∷ []) ≡ refusal 2 9 0 (7 ∷ 7 ∷ 7 ∷ []) (8 ∷ []))
-unfolding exchange
-lists_too_short = (refl, refl)
-
--- 18 comes before 9: a sheet has all names in common with itself; a mark of the far site; a shared link of another usable size
-not_one_shared_link : (exchange hill hill [] [] ≡ refusal 0 18 0 [] []) × (exchange hill marked [] [] ≡ refusal 0 18 0 [] [])
-    × (exchange hill unreserved [] [] ≡ refusal 0 18 0 [] [])
-unfolding exchange
-not_one_shared_link = (refl, refl, refl)
-
--- faults of the first sheet, then of the second, then 18
-faults_come_first : (exchange [] (bytes "network\t3\n") [] [] ≡ refusal 1 1 0 [] []) × (exchange hill (bytes "network\t3\n") [] [] ≡ refusal 2 2 1 [] [])
-unfolding exchange
-faults_come_first = (refl, refl)

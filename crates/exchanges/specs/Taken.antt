@@ -16,7 +16,7 @@ use Rattle.region_sizes.specs.Laws.{trimmed_again_for_each_link}
 use Rattle.region_sizes.specs.Offered.{region_by}
 use Rattle.sheet.specs.ListLaws.{names_are}
 use Rattle.sheet.specs.Sound.{distinct_names}
-use Rattle.sheet.specs.Editions.{an_accepted_sheet_is_within_the_largest}
+use Rattle.sheet.proofs.Editions.{an_accepted_sheet_is_within_the_largest}
 use Rattle.sheet.specs.Reading.{lists, reading}
 use Rattle.sheet.specs.Sheet.{Network, Read, refused, accepted, read_sheet}
 use Rattle.sheet_names.specs.LookupLaws.{length-ranges}
@@ -49,43 +49,11 @@ pub record Taken (s starts stops : List ℕ) (n : ℕ) (one two marks c : List �
   pub read : read_sheet editions s ≡ accepted (network_by starts stops n one two marks c)
   pub tree : MarkedTree largest n one two marks c
 
--- the lists of an accepted sheet are taken
-pub the_lists_are_taken : {s : List ℕ} {network : Lists} → Listed s network → let m = network.links in let n = network.sites in
-    Taken s network.start network.end n (take m network.one) (take m network.two) (take n network.mark) (take m network.capacity)
-unfolding lists
-the_lists_are_taken {s} {network} r =
-    let a = the_lists_are_taken_apart r in
-    let marks = the_marks_are_taken_apart r in
-    let told : accepted a.net ≡ accepted r.net = sym a.read ∙ r.read in
-    let same : a.net ≡ r.net = cc in
-    let names : ranges network.start network.end 0 network.sites ≡ a.net.names =
-    rw r.listed (names_are SITES r.net.names) ∙ ap (λ x. x.names) (sym same) in
-    record {
-      read = rw (names, marks, the_links_are_the_networks a, a.sizes) a.read;
-      tree = rw marks (the_network_is_a_marked_tree a);
-    }
-
--- its names are different, and lie on the sheet
-pub names_are_distinct : {s starts stops : List ℕ} {n : ℕ} {one two marks c : List ℕ} → Taken s starts stops n one two marks c
-    → Distinct s (ranges starts stops 0 n)
-names_are_distinct {s} {starts} {stops} {n} {one} {two} {marks} {c} r =
-    let net = an_accepted_sheet_is_within_the_largest s (network_by starts stops n one two marks c) r.read in
-    distinct_names net.names net.different
-
--- a refusal that the code reads is one of the sheet
-pub refusal_is_read : (s : List ℕ) {k line : ℕ} → (reading (read_sheet editions s)).answer ≡ answered.Refused k line → read_sheet editions s ≡ refused k line
-unfolding reading
-refusal_is_read s {k} {line} e = by (read_sheet editions s) e
-  where
-    by : (r : Read) → (reading r).answer ≡ answered.Refused k line → r ≡ refused k line
-    by (refused n j) e = let p : n ≡ k = cc in let q : j ≡ line = cc in rw (p, q) refl
-    by (accepted net) e = contradiction cc
-
 -- ---- the answers for two regions that share one link
 
 module _ {n : ℕ} {one two marks c : List ℕ} {n2 : ℕ} {one2 two2 marks2 c2 : List ℕ} (w : MarkedTree largest n one two marks c)
     (v : MarkedTree largest n2 one2 two2 marks2 c2) (j k : ℕ) (here : j < length one) (there : k < length one2) (l m : List ℕ) where
-  abbrev a : Region
+  abbrev pub a : Region
   a = region_by n one two marks c
 
   abbrev b : Region
@@ -138,7 +106,7 @@ module _ {n : ℕ} {one two marks c : List ℕ} {n2 : ℕ} {one2 two2 marks2 c2 
 
 module _ {s starts stops : List ℕ} {n : ℕ} {one two marks c : List ℕ} {t starts2 stops2 : List ℕ} {n2 : ℕ} {one2 two2 marks2 c2 : List ℕ}
     (T : Taken s starts stops n one two marks c) (W : Taken t starts2 stops2 n2 one2 two2 marks2 c2) where
-  abbrev net : Network
+  abbrev pub net : Network
   net = network_by starts stops n one two marks c
 
   abbrev other : Network

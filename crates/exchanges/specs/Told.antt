@@ -8,7 +8,7 @@ use borrow.Author.Tests.{le-leb, lt-leb}
 use Rattle.lists.specs.Sums.{cases, contradiction}
 use Rattle.model.specs.declared.Edition.{Edition}
 use Rattle.sheet.specs.Sheet.{Network, Read, refused, accepted, read_sheet, edition_of}
-use Rattle.sheet.specs.Answers.{refusals_have_sheet_numbers}
+use Rattle.sheet.proofs.Answers.{refusals_have_sheet_numbers}
 use Rattle.sheet.specs.SheetTheorem.{a_sheet_is_refused_for_its_cause}
 use Rattle.theory_regions.specs.Regions.{Given}
 use Rattle.theory_regions.specs.JoinedTree.{Border}

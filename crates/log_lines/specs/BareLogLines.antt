@@ -17,11 +17,3 @@ line_as_bare opens fs = judged (checked_bare (log_form opens) fs) (booking opens
 -- what a line was
 unfoldable pub log_line_bare : List ℕ → Line
 log_line_bare l = line_as_bare (same (field (fields l) 0) (bytes "+")) (fields l)
-
--- a line is what it was, or a name of it is of digits alone
-pub a_log_line_is_as_before_or_bare : (l : List ℕ) → (log_line_bare l ≡ log_line l) ⊎ Broken BareName l
-unfolding log_line_bare log_line line_as
-a_log_line_is_as_before_or_bare l =
-    let opens = same (field (fields l) 0) (bytes "+") in
-    ⊎_elim (λ e. inl (ap (λ c. judged c (booking opens (fields l))) e)) (λ h. inr (record { opens = opens; rule = h }))
-    (checked_as_before (log_form opens) (fields l))

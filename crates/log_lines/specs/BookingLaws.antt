@@ -54,76 +54,9 @@ unfolding log_line same
 letter_tells true l e = rw e
 letter_tells false l e = rw e
 
-module _ (l : List ℕ) where
-  -- a line that asks is one
-  asks_as : (letter : ℕ) (opens : Bool) → Asks letter l → line_as letter opens (fields l) ≡ asking opens l
-  unfolding line_as booking judged fault_of
-  asks_as letter opens h = rw (h.formed, le-leb _ _ h.some, le-leb _ _ h.limited)
-
-  pub asks_makes : (opens : Bool) → Asks (sign opens) l → log_line l ≡ asking opens l
-  asks_makes opens h =
-      letter_tells opens l (formed_keeps (sign opens) (fields l) h.formed).counted.letter ∙ asks_as (sign opens) opens h
-
-  pub asks_makes_plan : Asks plan_letter l → plan_line l ≡ asking true l
-  unfolding plan_line
-  asks_makes_plan h = asks_as plan_letter true h
-
-  -- its names
-  module _ (letter : ℕ) (h : IsFormed letter (fields l)) where
-    counted : length (fields l) ≡ 4
-    counted = let k = (formed_keeps letter (fields l) h).counted in omega (arith, k.enough, k.no_more)
-
-    short : length (field (fields l) 0) ≡ 1
-    short = ap length (formed_keeps letter (fields l) h).counted.letter
-
-    pub name_is_field_1 : take (2 + length (field (fields l) 1) - 2) (drop 2 l) ≡ field (fields l) 1
-    name_is_field_1 = part_of_field_1 l (omega (arith, counted)) short
-
-    pub name_is_field_2 : let a = length (field (fields l) 1) in let b = length (field (fields l) 2) in
-        take (3 + a + b - (3 + a)) (drop (3 + a) l) ≡ field (fields l) 2
-    name_is_field_2 = part_of_field_2 l (omega (arith, counted)) short
-
-    -- the ends of the names, as the code holds them, and that they lie within the line
-    pub ends_of_names : (found : Fields) → found ≡ split l → let a = length (field (fields l) 1) in let b = length (field (fields l) 2) in
-        (found.count ≡ 4) × (get_or found.end 1 0 ≡ 2 + a) × (get_or found.end 2 0 ≡ 3 + a + b) × (3 + a + b ≤ length l)
-    unfolding split
-    ends_of_names found e =
-        let n : 2 < length (fields l) = omega (arith, counted) in
-        let m : 1 < length (fields l) = omega arith in
-        rw e (
-          counted,
-          end_of_split l 1 (omega arith) m ∙ second-end l m short,
-          end_of_split l 2 (omega arith) n ∙ third_end l n short,
-          omega (arith, third_end l n short, (field_lies 2 l 0 n).within),
-        )
-
 -- ---- as the code finds it
-
--- by the number of the fault
-pub judged_wrong : (c : Check) (w : Line) (n : ℕ) → n ≡ fault_of c → n ≢ 0 → judged c w ≡ Fault n
-unfolding judged
-judged_wrong c w n e d = rw (← e, ne_eqb n 0 d)
-
-pub judged_right : (c : Check) (w : Line) (n : ℕ) → n ≡ fault_of c → n ≡ 0 → (c ≡ check.Formed) × (judged c w ≡ w)
-unfolding judged
-judged_right c w n e z = (
-  ⊎_elim (λ f. f) (λ h. absurd (false≢true (sym h.1 ∙ eq-eqb (fault_of c) 0 (sym e ∙ z)))) (formed_or_faulty c),
-  rw (← e, z),
-)
 
 -- by what the amount is found to be, the names having a and b bytes
 abbrev pub booking_of : Bool → ℕ → ℕ → Size → Line
 booking_of opens a b (Within x) = cond (leb 1 x) (Booking opens 2 (2 + a) (3 + a) (3 + a + b) x) (Fault 3)
 booking_of opens a b Above = Fault 3
-
-pub booking_by_size : (opens : Bool) (fs : List (List ℕ))
-    → booking opens fs ≡ booking_of opens (length (field fs 1)) (length (field fs 2)) (size_of AMOUNT (field fs 3))
-unfolding booking size_of
-booking_by_size opens fs = by (leb (value (field fs 3)) AMOUNT) (leb 1 (value (field fs 3))) refl
-  where
-    by : (u t : Bool) → leb 1 (value (field fs 3)) ≡ t → let a = length (field fs 1) in let b = length (field fs 2) in let x = value (field fs 3) in
-        cond (t && u) (Booking opens 2 (2 + a) (3 + a) (3 + a + b) x) (Fault 3) ≡ booking_of opens a b (cond u (Within x) Above)
-    by true true e = rw e
-    by true false e = rw e
-    by false true e = refl
-    by false false e = refl

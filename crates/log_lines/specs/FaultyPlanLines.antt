@@ -77,7 +77,7 @@ module _ (l : List ℕ) where
 
   -- ---- a cause makes its fault
 
-  amount : WrongAmount l → plan_line l ≡ Fault 3
+  pub amount : WrongAmount l → plan_line l ≡ Fault 3
   unfolding plan_line line_as judged fault_of booking
   amount h = rw h.formed (⊎_elim few many h.amount)
     where
@@ -106,15 +106,3 @@ module _ (l : List ℕ) where
 abbrev pub AmountTold : Line → Type 0
 AmountTold (Booking opens a e b f x) = (1 ≤ x) × (x ≤ AMOUNT)
 AmountTold (Fault n) = Unit {0}
-
-pub a_line_tells_its_amount : (plan : Bool) (l : List ℕ) → AmountTold (line_by plan l)
-a_line_tells_its_amount true l = by (plan_line l) (a_plan_line_tells l)
-  where
-    by : (w : Line) → Tells l w → AmountTold w
-    by (Booking opens a e b f x) (k, q) = let amount : x ≡ value (field (fields l) 3) = cc in (omega (arith, k.some), omega (arith, k.limited))
-    by (Fault n) h = tt
-a_line_tells_its_amount false l = by (log_line l) (log.a-line-tells l)
-  where
-    by : (w : Line) → log.Tells l w → AmountTold w
-    by (Booking opens a e b f x) (k, q) = let amount : x ≡ value (field (fields l) 3) = cc in (omega (arith, k.some), omega (arith, k.limited))
-    by (Fault n) h = tt

@@ -3,7 +3,7 @@ use Rattle.std.specs.Prelude.{List, ◌≡◌, ℕ}
 use Rattle.model.specs.Limits.{SITES}
 use Rattle.sheet_names.specs.Names.{ranges, Distinct}
 use Rattle.sheet.specs.Sound.{distinct_names}
-use Rattle.sheet.specs.Editions.{an_accepted_sheet_is_within_the_largest}
+use Rattle.sheet.proofs.Editions.{an_accepted_sheet_is_within_the_largest}
 use Rattle.sheet.specs.Reading.{lists}
 use Rattle.sheet.specs.ListLaws.{names_are}
 use Rattle.sheet.specs.declared.Lists.{Lists}

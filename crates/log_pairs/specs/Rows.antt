@@ -12,7 +12,8 @@ use Rattle.model.specs.declared.Pair.{Pair}
 use Rattle.lists.specs.Sums.{pick_same, pick_other, same?}
 use Rattle.lists.specs.Places.{length-upfrom, look-upfrom}
 use Rattle.model.specs.Booking.{pair, same, grow, shrink, moved, last_of, front_of}
-use Rattle.theory_log.specs.Pairs.{same-one, same-is}
+use Rattle.theory_log.specs.Pairs.{same-one}
+use Rattle.theory_log.proofs.Pairs.{same-is}
 use Rattle.model.specs.Limits.{OPEN, PLACES, SITES}
 use Rattle.log_pairs.specs.Arrays.{none, packed, row, entries, Held, FirstPlace, Growing, Shrinking}
 

@@ -7,7 +7,8 @@ use Rattle.std.proofs.Math.Decide.{dec_lt}
 use Rattle.lists.specs.Numbers.{differ}
 use Rattle.lists.specs.Sums.{same?, cases, differ_same, differ-other, differ_triangle}
 use Rattle.model.specs.Flows.{Links, Site, Tree, side, separates}
-use Rattle.theory_trees.specs.Trees.{separates-le, separates_comm, separates_triple, separates-same, without-none}
+use Rattle.theory_trees.specs.Trees.{separates-le, separates_comm, separates_triple, separates-same}
+use Rattle.theory_trees.proofs.Trees.{without-none}
 use Rattle.tree_sets.specs.Members.{member}
 use Rattle.tree_sets.specs.declared.Set.{Set}
 use Rattle.log_paths.specs.Tables.{Table, PathBy}

@@ -9,7 +9,3 @@ use Rattle.sheet.specs.SheetTheorem.{a_sheet_is_refused_for_its_cause}
 pub record Sheet (known : List Edition) (s : List ℕ) (net : Network) : Type 0 where
   pub no_cause : (k line : ℕ) → ¬ (Refusal (edition_of known s) s k line)
   pub read : read_sheet known s ≡ accepted net
-
-pub an_accepted_sheet : (known : List Edition) (s : List ℕ) (net : Network) → read_sheet known s ≡ accepted net → Sheet known s net
-an_accepted_sheet known s net e =
-    record { no_cause = λ k line c. let r = (a_sheet_is_refused_for_its_cause (edition_of known s) s k line).1 c in contradiction cc; read = e }

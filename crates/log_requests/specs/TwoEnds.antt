@@ -15,7 +15,8 @@ use Rattle.sheet_names.specs.declared.Found.{Found}
 use Rattle.sheet_names.specs.declared.Found.TheVariants.{At, Absent}
 use Rattle.sheet.specs.Sheet.{lookup}
 use Rattle.log_lines.specs.LogLines.{line_by}
-use Rattle.log_lines.specs.BookingLaws.{Asks, asking, name_is_field_1, name_is_field_2}
+use Rattle.log_lines.specs.BookingLaws.{Asks, asking}
+use Rattle.log_lines.proofs.BookingLaws.{name_is_field_1, name_is_field_2}
 use Rattle.log_requests.specs.Requests.{request_for, between, request_by, request_at}
 use Rattle.log_requests.specs.RequestLaws.{ended_line, a_free_pair_is_asked_for, a_pair_that_is_not_free_gets_6}
 

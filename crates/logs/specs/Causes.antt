@@ -16,7 +16,7 @@ use Rattle.theory_log.specs.Answers.{Overfilled, NoPlace, Opening, overfills, cr
 use Rattle.theory_log.specs.Answers.{answered_16_exactly_where_nothing_is_overfilled_and_there_is_no_place}
 use Rattle.text_lines.specs.Lines.{line_at}
 use Rattle.log_lines.specs.LogLines.{sign, log_line}
-use Rattle.log_lines.specs.BookingLaws.{asks_makes}
+use Rattle.log_lines.proofs.BookingLaws.{asks_makes}
 use Rattle.log_lines.specs.FaultyLogLines.{LineFault, no_sign, wrong_count, bad_name, bare_name, bad_number, wrong_amount, Tells, a-line-tells}
 use Rattle.log_lines.specs.FaultyLogLines.{a_log_line_is_a_fault_just_for_its_cause}
 use Rattle.log_lines.specs.declared.Line.{Line}

@@ -9,24 +9,12 @@ use Rattle.model.specs.declared.Request.TheVariants.{Open, Fault}
 use Rattle.sheet_names.specs.declared.Found.TheVariants.{At}
 use Rattle.log_requests.specs.Requests.{between}
 
-abbrev path : Links
+abbrev pub path : Links
 path = (1, 2) ∷ (2, 3) ∷ []
 
-abbrev ends : ℕ → ℕ
+abbrev pub ends : ℕ → ℕ
 ends = look (0 ∷ 1 ∷ 1 ∷ 1 ∷ [])
 
-neighbours_are_joined : between path ends true 4 (At 1) (At 2) ≡ Open (pair 1 2 4)
-unfolding ℕ_discrete pick is differ sum relabel label without side separates another crossed free_pair between
-neighbours_are_joined = refl
-
-another_end_stands_between : between path ends true 4 (At 3) (At 1) ≡ Fault 6
-unfolding ℕ_discrete pick is differ sum relabel label without side separates another crossed free_pair between
-another_end_stands_between = refl
-
 -- without the mark they may be joined
-abbrev outer : ℕ → ℕ
+abbrev pub outer : ℕ → ℕ
 outer = look (0 ∷ 1 ∷ 0 ∷ 1 ∷ [])
-
-the_outer_ends_are_joined : between path outer true 4 (At 3) (At 1) ≡ Open (pair 3 1 4)
-unfolding ℕ_discrete pick is differ sum relabel label without side separates another crossed free_pair between
-the_outer_ends_are_joined = refl

@@ -6,4 +6,3 @@ pub mod Examples
 pub mod Told
 pub mod AfterLines
 pub mod Progress
-pub mod OverNetwork

@@ -18,7 +18,8 @@ use Rattle.log_steps.specs.Steps.{Standing, Answered}
 use Rattle.log_steps.specs.Replays as replays
 use Rattle.log_steps.specs.declared.Replied.{Replied}
 use Rattle.log_requests.specs.Requests.{lines_from, lines, request_at, requests}
-use Rattle.log_requests.specs.RequestLaws.{after-within, lines_end, lines_step, all_lines, a_request_can_be_asked}
+use Rattle.log_requests.specs.RequestLaws.{after-within, lines_end, lines_step, all_lines}
+use Rattle.log_requests.proofs.RequestLaws.{a_request_can_be_asked}
 
 -- a place of a list is set, behind those before it
 set_behind : (a b : List ℕ) (x v : ℕ) → set (a ++ (x ∷ b)) (length a) v ≡ (a ++ (v ∷ [])) ++ b

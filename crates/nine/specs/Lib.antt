@@ -1,3 +1,2 @@
 pub mod Sheets
 pub mod Planned
-pub mod PlannedWhole

@@ -28,15 +28,3 @@ planned_for text e = planned_by text editions e.sheet (replicate (length e.repor
 -- success, with the report's length and exactly the report's bytes
 unfoldable pub expected : Example → Planned
 expected e = record { outcome = Report (length e.report); buffer = e.report }
-
-nine_sheets : map (planned_for report) sheets ≡ map expected sheets
-unfolding planned_for expected planned_by plan_read deliver ℕ_discrete dec_le dec_lt pick is differ less sum over count upfrom at sum_at leaf end_at ends relabel
-    label joined total cut_at cut_site cut_sites unvisited first remove taken elimination balanced_along balanced kept group in_cut cut_size cut_count owner_among
-    owner put take_halves drop_halves halves give match joins between children gather alone settle walk pairs_from lowest_inner lower_first before insert ordered
-    within single region member home lowest root pairs_of_part pair_of_link pairs_of_parts pair_list_of_parts flat_map
-    line_length line_at after_line has_line same push fields all is_name is_number value_from is_heading checked_fields checked fault_of judged
-    size_of capacity_of sheetSite sized_link sheetLink kind_of kind capitals lookup_from site_step link_step heading_step record_step step_of read_line and_then
-    read_lines all_joined finish read_as edition_of digits decimal line lines plan_of
-    owner_name head_record link_record link_line site_record site_line cut_record cut_line pair_line
-    report_of report
-nine_sheets = refl

@@ -8,12 +8,14 @@ use Rattle.model.specs.Trimming.{elimination}
 use Rattle.model.specs.Edition.{edition1, edition2, editions}
 use Rattle.model.specs.declared.Edition.{Edition}
 use Rattle.lists.specs.Sums.{cases, contradiction}
-use Rattle.theory_trees.specs.TreeTest.{length-elimination}
+use Rattle.theory_trees.proofs.TreeTest.{length-elimination}
 use Rattle.sheet.specs.Sheet.{Network, Read, refused, accepted, read_sheet, edition_of}
 use Rattle.sheet.specs.Causes.{Refusal}
-use Rattle.sheet.specs.Editions.{Headed, editions_before, other_sheets_are_read_as_before}
-use Rattle.sheet.specs.Editions.{the_new_heading_was_refused_with_2, the_new_heading_was_refused_with_1}
-use Rattle.sheet.specs.Answers.{SheetNumber, refusals_have_sheet_numbers}
+use Rattle.sheet.specs.Editions.{Headed, editions_before}
+use Rattle.sheet.proofs.Editions.{other_sheets_are_read_as_before}
+use Rattle.sheet.proofs.Editions.{the_new_heading_was_refused_with_2, the_new_heading_was_refused_with_1}
+use Rattle.sheet.specs.Answers.{SheetNumber}
+use Rattle.sheet.proofs.Answers.{refusals_have_sheet_numbers}
 use Rattle.sheet.specs.SheetTheorem.{a_sheet_is_refused_for_its_cause}
 use Rattle.orders.specs.Outcome.{Ordered, number, line_of, count_of, store, order_read, order_of}
 use Rattle.orders.specs.declared.Outcome.TheVariants.{Refused}

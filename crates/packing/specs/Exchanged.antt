@@ -4,8 +4,8 @@ use Rattle.std.specs.Prelude.{◌≡◌, List, ℕ, ◌≤◌, length}
 use Rattle.std.proofs.Common.{ap, arith}
 use Rattle.model.specs.Limits.{BYTES, LINKS}
 use Rattle.model.specs.Edition.{editions}
-use Rattle.sheet.specs.Answers.{refusals_have_sheet_numbers}
-use Rattle.sheet.specs.Editions.{an_accepted_sheet_is_within_the_largest, a_line_at_fault_is_within_the_limit}
+use Rattle.sheet.proofs.Answers.{refusals_have_sheet_numbers}
+use Rattle.sheet.proofs.Editions.{an_accepted_sheet_is_within_the_largest, a_line_at_fault_is_within_the_limit}
 use Rattle.sheet.specs.Sheet.{Network, accepted, read_sheet, edition_of}
 use Rattle.exchanges.specs.Outcome.{sheet_of, number, line_of, first_of, second_of, exchanged}
 use Rattle.exchanges.specs.Causes.{Cause, of_the_first, of_the_second, no_shared_link, first_list_too_short, second_list_too_short}

@@ -5,7 +5,7 @@ use Rattle.std.specs.Prelude.{true, false, cond, ◌≡◌, ◌≢◌, List, ℕ
 use Rattle.std.proofs.Common.{arith}
 use Rattle.model.specs.Limits.{AMOUNT, BYTES, PLANLINES}
 use Rattle.model.specs.Edition.{editions}
-use Rattle.sheet.specs.Editions.{a_line_at_fault_is_within_the_limit}
+use Rattle.sheet.proofs.Editions.{a_line_at_fault_is_within_the_limit}
 use Rattle.verdicts.specs.Outcome.{judged}
 use Rattle.verdicts.specs.Causes.{a_cause_is_small}
 use Rattle.verdicts.specs.Told.{JudgeTold, faulty_sheet, long_plan, faulty_line, heavy_plan, accepted_plan, the_verdict_is_told_or_its_cause}
@@ -14,7 +14,7 @@ use Rattle.verdicts.specs.declared.Outcome.TheVariants.{Judged, Refused}
 use Rattle.packing.specs.Packed.{packed_verdict, unpacked_text, unpacked_number, unpacked_line, unpacked_total, unpacked_yes}
 
 -- how large the numbers of an outcome are
-abbrev Bounded : Outcome → Type 0
+abbrev pub Bounded : Outcome → Type 0
 Bounded (Judged x largest) = x ≤ PLANLINES * AMOUNT
 Bounded (Refused t k l) = (1 ≤ t) × (t ≤ 2) × (k ≤ 21) × (l ≤ BYTES)
 
@@ -22,25 +22,3 @@ Bounded (Refused t k l) = (1 ≤ t) × (t ≤ 2) × (k ≤ 21) × (l ≤ BYTES)
 abbrev pub TellsVerdict : ℕ → Outcome → Type 0
 TellsVerdict value (Judged x largest) = (unpacked_text value ≡ 0) × (unpacked_total value ≡ x) × (unpacked_yes value ≡ cond largest 1 0)
 TellsVerdict value (Refused t k l) = (unpacked_text value ≢ 0) × (unpacked_text value ≡ t) × (unpacked_number value ≡ k) × (unpacked_line value ≡ l)
-
-a_bounded_verdict_is_told : (o : Outcome) → Bounded o → TellsVerdict (packed_verdict o) o
-unfolding packed_verdict unpacked_text unpacked_number unpacked_line unpacked_total unpacked_yes
-a_bounded_verdict_is_told (Judged x true) b = (omega arith, omega arith, omega arith)
-a_bounded_verdict_is_told (Judged x false) b = (omega arith, omega arith, omega arith)
-a_bounded_verdict_is_told (Refused t k l) b = (λ z. omega arith, omega arith, omega arith, omega arith)
-
-module _ (s plan : List ℕ) where
-  bounded : JudgeTold editions s plan → Bounded (judged editions s plan)
-  bounded (faulty_sheet k line c n r) =
-      let near = a_line_at_fault_is_within_the_limit s c in
-      rw r (omega arith, omega arith, omega (arith, n.known), omega arith)
-  bounded (long_plan net a h r) = rw r (omega arith, omega arith, omega arith, omega arith)
-  bounded (faulty_line net a short p k here c none r) =
-      let small = a_cause_is_small s net plan p here c in
-      rw r (omega arith, omega arith, omega arith, omega (arith, short.few))
-  bounded (heavy_plan net a short clean o r) = rw r (omega arith, omega arith, omega arith, omega arith)
-  bounded (accepted_plan net a short clean o w) = rw w.judged-told (omega (arith, w.total-told, w.small))
-
-  -- the number returned, taken apart as the C header does, is the outcome
-  pub the_packed_number_tells_the_verdict : TellsVerdict (packed_verdict (judged editions s plan)) (judged editions s plan)
-  the_packed_number_tells_the_verdict = a_bounded_verdict_is_told (judged editions s plan) (bounded (the_verdict_is_told_or_its_cause editions s plan))

@@ -4,15 +4,16 @@ use Rattle.std.specs.Prelude.{◌≡◌, List, ℕ, ◌≤◌}
 use Rattle.std.proofs.Common.{arith}
 use Rattle.model.specs.Limits.{BYTES, LOGLINES}
 use Rattle.model.specs.Edition.{editions}
-use Rattle.sheet.specs.Editions.{a_line_at_fault_is_within_the_limit}
+use Rattle.sheet.proofs.Editions.{a_line_at_fault_is_within_the_limit}
 use Rattle.logs.specs.Outcome.{text_of, number, line_of, count_of, replayed}
-use Rattle.logs.specs.Told.{ReplayTold, faulty_sheet, long-log, few_places, all-answered, the_replay_is_told_or_its_cause}
+use Rattle.logs.specs.Told.{ReplayTold, faulty_sheet, long-log, few_places, all-answered}
+use Rattle.logs.proofs.Told.{the_replay_is_told_or_its_cause}
 use Rattle.logs.specs.declared.Outcome.{Outcome}
 use Rattle.logs.specs.declared.Outcome.TheVariants.{Answered, Refused}
 use Rattle.packing.specs.Packed.{packed_replay, unpacked_text, unpacked_number, unpacked_line, unpacked_length}
 
 -- how large the numbers of an outcome are
-record Bounded (o : Outcome) : Type 0 where
+pub record Bounded (o : Outcome) : Type 0 where
   pub text_small : text_of o ≤ 2
   pub number_small : number o ≤ 19
   pub line_small : line_of o ≤ BYTES
@@ -24,48 +25,3 @@ pub record TellsReplay (value : ℕ) (o : Outcome) : Type 0 where
   pub told-number : unpacked_number value ≡ number o
   pub told_line : unpacked_line value ≡ line_of o
   pub told-count : unpacked_length value ≡ count_of o
-
-a_bounded_replay_is_told : (o : Outcome) → Bounded o → TellsReplay (packed_replay o) o
-unfolding packed_replay unpacked_text unpacked_number unpacked_line unpacked_length
-a_bounded_replay_is_told (Answered n) b =
-    let small : n ≤ LOGLINES = b.count_small in
-    record { told_text = omega arith; told-number = omega arith; told_line = omega arith; told-count = omega arith }
-a_bounded_replay_is_told (Refused t k l) b =
-    let two : t ≤ 2 = b.text_small in
-    let few : k ≤ 19 = b.number_small in
-    let near : l ≤ BYTES = b.line_small in
-    record { told_text = omega arith; told-number = omega arith; told_line = omega arith; told-count = omega arith }
-
-module _ (s log l : List ℕ) where
-  bounded : ReplayTold editions s log l → Bounded (replayed editions s log l).outcome
-  bounded (faulty_sheet k line c n r) =
-      let near = a_line_at_fault_is_within_the_limit s c in
-      record {
-        text_small = omega (arith, r.text-told);
-        number_small = omega (arith, r.number-told, n.known);
-        line_small = omega (arith, r.line-told);
-        count_small = omega (arith, r.count-told);
-      }
-  bounded (long-log net a h r) = record {
-    text_small = omega (arith, r.text-told);
-    number_small = omega (arith, r.number-told);
-    line_small = omega (arith, r.line-told);
-    count_small = omega (arith, r.count-told);
-  }
-  bounded (few_places net a short h r) = record {
-    text_small = omega (arith, r.text-told);
-    number_small = omega (arith, r.number-told);
-    line_small = omega (arith, r.line-told);
-    count_small = omega (arith, r.count-told);
-  }
-  bounded (all-answered net a short h r) = record {
-    text_small = omega (arith, r.text-told);
-    number_small = omega (arith, r.number-told);
-    line_small = omega (arith, r.line-told);
-    count_small = omega (arith, r.count-told, short.few);
-  }
-
-  -- the number returned, taken apart as the C header does, is the outcome's text, number, line and count
-  pub the_packed_number_tells_the_replay : TellsReplay (packed_replay (replayed editions s log l).outcome) (replayed editions s log l).outcome
-  the_packed_number_tells_the_replay =
-      a_bounded_replay_is_told (replayed editions s log l).outcome (bounded (the_replay_is_told_or_its_cause editions s log l))

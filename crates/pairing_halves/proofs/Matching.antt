@@ -8,7 +8,7 @@ use Rattle.lists.specs.Numbers.{look}
 use Rattle.model.specs.Pairing.{Halves, put, drop_halves, halves, match}
 use Rattle.model.specs.declared.Pair.{Pair}
 use Rattle.theory_walk.specs.Halves.{halves-put, drop-drop}
-use Rattle.theory_walk.specs.Steps.{drop-none, match_none, match_step}
+use Rattle.theory_walk.proofs.Steps.{drop-none, match_none, match_step}
 use Rattle.pairing_halves.specs.declared.Place.{Place}
 use Rattle.pairing_halves.specs.declared.Tops.{Tops}
 use Rattle.pairing_halves.specs.Arrays.{flat_pairs, listed, opened, rest, Added, Lies, onward, Fronts, Matchable}

@@ -5,7 +5,7 @@ use Prim.Native.Nat.{ℕ, zero, suc, ◌+◌, ◌-◌, ◌≤◌, min}
 use native.Mathlib.Omega.{arith}
 use Rattle.model.specs.Pairing.{Halves, put, take_halves, drop_halves, halves, give, match}
 use Rattle.theory_walk.specs.Halves.{Filled, halves-drop, drop_thins, thinned_filled}
-use Rattle.theory_walk.specs.Steps.{take_none, drop-none}
+use Rattle.theory_walk.proofs.Steps.{take_none, drop-none}
 
 pub put_some : (x a : ℕ) (l : Halves) → 1 ≤ a → put x a l ≡ (x, a) ∷ l
 unfolding put

@@ -23,9 +23,10 @@ use Rattle.theory_trees.specs.Sites.{at-site}
 use Rattle.theory_trees.specs.TerminalCuts.{kept_induct}
 use Rattle.theory_walk.specs.Subtrees.{Joins}
 use Rattle.theory_walk.specs.Children.{between_is, between-joins}
-use Rattle.theory_walk.specs.Lowest.{lowest-none, lowest-some, lowest_least}
+use Rattle.theory_walk.specs.Lowest.{lowest-none, lowest-some}
+use Rattle.theory_walk.proofs.Lowest.{lowest_least}
 use Rattle.theory_walk.specs.Regions.{region-ends, not_within, root_inner}
-use Rattle.theory_walk.specs.PartsMeaning.{root_iff_lowest}
+use Rattle.theory_walk.proofs.PartsMeaning.{root_iff_lowest}
 use Rattle.theory_walk.specs.PartsLoops.{flat-next}
 use Rattle.pairing_children.specs.Neighbours.{NoChild}
 use Rattle.pairing_halves.specs.declared.Tops.{Tops}

@@ -14,8 +14,9 @@ use Rattle.theory_walk.specs.Halves.{Filled, halves-drop, drop_thins, thinned_fi
 use Rattle.theory_walk.specs.Subtrees.{Child, child}
 use Rattle.theory_walk.specs.Children.{size, sizes, size-children, between-joins, child-taken}
 use Rattle.theory_walk.specs.Walk.{Start, start-entered}
-use Rattle.theory_walk.specs.Bounds.{walk_short, gather_short, gather-filled, walk-filled}
-use Rattle.theory_walk.specs.Steps.{walk-terminal, walk_inner, gather-push}
+use Rattle.theory_walk.specs.Bounds.{walk_short, gather_short}
+use Rattle.theory_walk.proofs.Bounds.{gather-filled, walk-filled}
+use Rattle.theory_walk.proofs.Steps.{walk-terminal, walk_inner, gather-push}
 use Rattle.pairing_halves.specs.declared.Tops.{Tops}
 use Rattle.pairing_halves.specs.Arrays.{flat, flat_pairs, listed, Added, Settling, Settled}
 use Rattle.pairing_walk.specs.Visits.{walk_of, Visit, Visited}

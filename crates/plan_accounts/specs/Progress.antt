@@ -14,7 +14,7 @@ use Rattle.model.specs.Flows.{Links, load, total}
 use Rattle.model.specs.Booking.{places_of}
 use Rattle.model.specs.declared.Pair.{Pair}
 use Rattle.theory_verdicts.specs.HandPlan.{entered, Account, faulty, entries, account}
-use Rattle.theory_verdicts.specs.Accounts.{a_load_is_at_most_the_total}
+use Rattle.theory_verdicts.proofs.Accounts.{a_load_is_at_most_the_total}
 use Rattle.text_lines.specs.Lines.{after_line}
 use Rattle.log_requests.specs.Requests.{lines_from, lines, request_at, requests}
 use Rattle.log_requests.specs.RequestLaws.{after-within, lines_end, lines_step, all_lines}

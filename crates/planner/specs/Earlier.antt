@@ -17,8 +17,9 @@ use Rattle.sheet.specs.BareNames.{WithoutBareNames, a_sheet_without_bare_names_i
 use Rattle.sheet.specs.BareNames.{a_sheet_not_refused_with_17_is_read_as_before}
 use Rattle.sheet.specs.Marks.{WithoutMarks, a_sheet_without_marks_is_read_as_before}
 use Rattle.sheet.specs.Reserves.{WithoutReserves, a_sheet_without_reserves_is_read_as_before}
-use Rattle.sheet.specs.Editions.{Headed, editions_before, other_sheets_are_read_as_before}
-use Rattle.sheet.specs.Editions.{the_new_heading_was_refused_with_2, the_new_heading_was_refused_with_1}
+use Rattle.sheet.specs.Editions.{Headed, editions_before}
+use Rattle.sheet.proofs.Editions.{other_sheets_are_read_as_before}
+use Rattle.sheet.proofs.Editions.{the_new_heading_was_refused_with_2, the_new_heading_was_refused_with_1}
 use Rattle.sheet.specs.Spelling.{SpeltAlike, a_sheet_spelt_alike_is_read_as_before}
 use Rattle.planner.specs.Outcome.{Planned, Reporter, deliver, plan_read, planned_by}
 use Rattle.planner.specs.declared.Outcome.{Outcome}

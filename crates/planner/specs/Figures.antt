@@ -15,7 +15,7 @@ use Rattle.model.specs.WholeLoads.{whole_loads, whole_owner}
 use Rattle.model.specs.declared.Pair.{Pair}
 use Rattle.lists.specs.Sums.{is_le, differ-le, sum-le}
 use Rattle.lists.specs.Places.{length-upfrom, over-le, over-one}
-use Rattle.theory_trees.specs.Greatest.{balanced_is_greatest, balanced_has_each_link}
+use Rattle.theory_trees.proofs.Greatest.{balanced_is_greatest, balanced_has_each_link}
 use Rattle.theory_trees.specs.Owners.{owner-or-none}
 use Rattle.theory_walk.specs.Sound.{Sound}
 use Rattle.theory_walk.specs.PartsTheorem.{pair_list_of_parts_is_sound}

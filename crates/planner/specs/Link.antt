@@ -14,10 +14,12 @@ use Rattle.model.specs.Text.{bytes}
 use Rattle.model.specs.declared.Pair.{Pair}
 use Rattle.lists.specs.Numbers.{look}
 use Rattle.lists.specs.Places.{look-zeros}
-use Rattle.theory_link.specs.TwoSites.{link_pairs, Shape, two_sites_have_one_link, one_link, both_sites_are_ends, the_capacity_is_kept}
+use Rattle.theory_link.specs.TwoSites.{link_pairs, Shape, one_link, both_sites_are_ends, the_capacity_is_kept}
+use Rattle.theory_link.proofs.TwoSites.{two_sites_have_one_link}
 use Rattle.theory_link.specs.TwoSites.{each_owns_itself, each_set_has_the_link, each_set_has_one_site, the_pair_list_is_one_pair}
 use Rattle.theory_link.specs.TwoSites.{the_load_is_the_capacity, each_owns_itself_whole, each_whole_set_has_the_link, each_whole_set_has_one_site}
-use Rattle.theory_link.specs.TwoSites.{at-most-one-pair, there_is_no_piece}
+use Rattle.theory_link.specs.TwoSites.{there_is_no_piece}
+use Rattle.theory_link.proofs.TwoSites.{at-most-one-pair}
 use Rattle.pairing_walk.specs.Visits.{listing}
 use Rattle.pairing_walk.specs.Laws.{listing_counts, listing-holds, listing-long}
 use Rattle.text_writers.specs.Fields.{line}

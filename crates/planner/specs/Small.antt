@@ -14,8 +14,8 @@ use Rattle.model.specs.declared.Edition.{Edition}
 use Rattle.lists.specs.Sums.{cases, is_le, sum-mul, sum_one, sum-le}
 use Rattle.lists.specs.Places.{over-le}
 use Rattle.lists.specs.Tallies.{each_map}
-use Rattle.theory_trees.specs.Sites.{look-site}
-use Rattle.theory_trees.specs.Leaves.{sums_at_sites_count_links_twice}
+use Rattle.theory_trees.proofs.Sites.{look-site}
+use Rattle.theory_trees.proofs.Leaves.{sums_at_sites_count_links_twice}
 use Rattle.theory_walk.specs.Sound.{Sound}
 use Rattle.theory_walk.specs.PartsTheorem.{amounts_are_bounded}
 use Rattle.text_fields.specs.Fields.{is_name}

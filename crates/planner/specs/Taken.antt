@@ -10,7 +10,7 @@ use Rattle.model.specs.Flows.{Links, ends}
 use Rattle.tree.specs.Offer.{links, offer}
 use Rattle.tree.specs.Accepted.{TreeWithin, MarkedTree, a_tree_within_the_limits_is_accepted}
 use Rattle.tree.specs.declared.Offer.TheVariants.{Accepted}
-use Rattle.sheet.specs.Editions.{an_accepted_sheet_is_within_the_largest}
+use Rattle.sheet.proofs.Editions.{an_accepted_sheet_is_within_the_largest}
 use Rattle.sheet.specs.Sheet.{Network, ends_of, Read, refused, accepted, read_sheet}
 use Rattle.sheet.specs.Reading.{padded, lists, reading}
 use Rattle.sheet.specs.SheetTheorem.{IsNetwork}

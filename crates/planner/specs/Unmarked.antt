@@ -7,7 +7,7 @@ use Rattle.lists.specs.Numbers.{look, upfrom}
 use Rattle.model.specs.Flows.{Links, Tree, leaf, mark}
 use Rattle.model.specs.Pairing.{pair_list}
 use Rattle.model.specs.declared.Edition.{Edition}
-use Rattle.theory_trees.specs.Ends.{unmarked_ends_are_leaves, unmarked_ends_are_outer}
+use Rattle.theory_trees.proofs.Ends.{unmarked_ends_are_leaves, unmarked_ends_are_outer}
 use Rattle.theory_walk.specs.Unmarked.{unmarked_pair_lists_stay}
 use Rattle.sheet.specs.Sheet.{Network, ends_of, Read, refused, accepted, read_sheet, lookup, edition_of}
 use Rattle.sheet.specs.Earlier.{kind_unmarked}

@@ -14,8 +14,8 @@ use Rattle.model.specs.WholeLoads.{from, upward, link_load, loading, whole_load,
 use Rattle.lists.specs.Sums.{cases, is_le, is-other}
 use Rattle.lists.specs.Places.{length-upfrom, look_values, over-eq, over-mul}
 use Rattle.theory_trees.specs.Sites.{sum_at-none}
-use Rattle.theory_trees.specs.Ends.{a_leaf_is_an_end}
-use Rattle.theory_whole.specs.Circuits.{the_loads_taken_are_largest}
+use Rattle.theory_trees.proofs.Ends.{a_leaf_is_an_end}
+use Rattle.theory_whole.proofs.Circuits.{the_loads_taken_are_largest}
 use Rattle.sheet.specs.Sheet.{Network}
 use Rattle.planner.specs.Figures.{terminal, wholes, Showable, leaving-within, members-within}
 

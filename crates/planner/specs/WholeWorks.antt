@@ -15,7 +15,7 @@ use Rattle.model.specs.Whole.{EndSets, LargestWhole, set_size, set_count, odd_pi
 use Rattle.model.specs.WholeLoads.{whole_load, whole_loads, whole_owner}
 use Rattle.model.specs.declared.Pair.{Pair}
 use Rattle.model.specs.declared.Pairs.{Pairs}
-use Rattle.theory_trees.specs.Ends.{a_leaf_is_an_end}
+use Rattle.theory_trees.proofs.Ends.{a_leaf_is_an_end}
 use Rattle.tree.specs.Offer.{links}
 use Rattle.tree.specs.Links.{length-links}
 use Rattle.cuts_groups.specs.Places.{of_terminal, length-places}

@@ -9,8 +9,8 @@ use Rattle.model.specs.Limits.{SITES, LINKS}
 use Rattle.model.specs.Text.{bytes}
 use Rattle.planner.specs.Small.{name-or-nothing}
 use Rattle.planner.specs.Taken.{Listed, room_for_the_links}
-use Rattle.exchanges.specs.Taken.{the_lists_are_taken}
-use Rattle.sheet.specs.Editions.{an_accepted_sheet_is_within_the_largest}
+use Rattle.exchanges.proofs.Taken.{the_lists_are_taken}
+use Rattle.sheet.proofs.Editions.{an_accepted_sheet_is_within_the_largest}
 use Rattle.sheet.specs.Sheet.{refused, read_sheet}
 use Rattle.sheet.specs.declared.Lists.{Lists}
 use Rattle.sheet_names.specs.LookupLaws.{range_at}

@@ -14,7 +14,7 @@ use Rattle.model.specs.Edition.{largest}
 use Rattle.model.specs.Flows.{Links, sites, at, mark, leaf, ends, sum_at, at_terminals}
 use Rattle.model.specs.Trimming.{balanced}
 use Rattle.theory_regions.specs.Regions.{first_size, trimmed_again, lone, far_site, own, own_sum, given}
-use Rattle.theory_trees.specs.Greatest.{balanced_is_greatest, balanced_has_each_link}
+use Rattle.theory_trees.proofs.Greatest.{balanced_is_greatest, balanced_has_each_link}
 use Rattle.theory_trees.specs.Sites.{sites-site}
 use Rattle.tree.specs.Accepted.{TreeWithin, MarkedTree}
 use Rattle.tree.specs.Links.{length-links, links-one, links-two}

@@ -12,7 +12,7 @@ use Rattle.planner.specs.Answers.{a_report_is_within_the_buffer}
 use Rattle.planner.specs.Outcome.{Reporter, planned_by, spelt}
 use Rattle.planner.specs.declared.Outcome.{Outcome}
 use Rattle.planner.specs.declared.Outcome.TheVariants.{Report, Refused}
-use Rattle.spans.specs.Answers.{a_span_is_within_the_buffer}
+use Rattle.spans.proofs.Answers.{a_span_is_within_the_buffer}
 use Rattle.spans.specs.Outcome.{spanned}
 use Rattle.report_program.specs.Printed.{sheet_in, printed}
 

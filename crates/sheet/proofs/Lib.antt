@@ -1,1 +1,4 @@
 pub mod Progress
+pub mod Answers
+pub mod Editions
+pub mod Ranges

@@ -11,7 +11,7 @@ use Rattle.model.specs.Flows.{joined}
 use Rattle.model.specs.declared.Edition.{Edition}
 use Rattle.model.specs.declared.Sizing.{Sizing}
 use Rattle.lists.specs.Sums.{same?, cases, contradiction}
-use Rattle.theory_trees.specs.Labels.{joined_iff}
+use Rattle.theory_trees.proofs.Labels.{joined_iff}
 use Rattle.text_lines.specs.Lines.{line_length, line_at}
 use Rattle.text_lines.specs.LineLaws.{length_of_line}
 use Rattle.sheet_kinds.specs.LineKinds.{field, is_heading, mark, IsSite, IsLink, kind}

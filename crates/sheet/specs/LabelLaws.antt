@@ -8,7 +8,7 @@ use Rattle.lists.specs.Places.{length-upfrom}
 use Rattle.lists.specs.Sums.{is_one, is_same, is_iff}
 use Rattle.model.specs.Limits.{PLACES}
 use Rattle.model.specs.Flows.{Links, label, joined}
-use Rattle.theory_trees.specs.Fresh.{joined_reversed}
+use Rattle.theory_trees.proofs.Fresh.{joined_reversed}
 use Rattle.tree_labels.specs.Labels.{alike}
 use Rattle.tree_parents.specs.Parents.{Root, linked, Joins, Settled}
 use Rattle.tree_parents.specs.Roots.{own-lower, own-tells, labels_same}

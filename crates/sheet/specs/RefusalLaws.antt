@@ -14,7 +14,7 @@ use Rattle.lists.specs.Numbers.{upfrom}
 use Rattle.model.specs.Flows.{Links, Site, sites, joined, Joined}
 use Rattle.model.specs.declared.Edition.{Edition}
 use Rattle.lists.specs.Sums.{same?}
-use Rattle.theory_trees.specs.Labels.{joined_iff}
+use Rattle.theory_trees.proofs.Labels.{joined_iff}
 use Rattle.text_lines.specs.Lines.{after_line, has_line}
 use Rattle.text_lines.specs.LineLaws.{after-line-is-later}
 use Rattle.sheet_kinds.specs.LineKindLaws.{both}

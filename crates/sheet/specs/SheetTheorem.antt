@@ -7,7 +7,7 @@ use Rattle.lists.specs.Numbers.{look}
 use Rattle.model.specs.Flows.{Site, sites, label, Tree}
 use Rattle.model.specs.declared.Edition.{Edition}
 use Rattle.theory_trees.specs.Labels.{joined-label}
-use Rattle.theory_trees.specs.Fresh.{joined_reversed, fresh_links_make_a_tree, tree_reversed}
+use Rattle.theory_trees.proofs.Fresh.{joined_reversed, fresh_links_make_a_tree, tree_reversed}
 use Rattle.text_fields.specs.Fields.{SameName}
 use Rattle.sheet_kinds.specs.LineKindLaws.{both}
 use Rattle.sheet.specs.Sheet.{Network, empty, Read, refused, accepted, read_lines, all_joined, finish, and_then, read_as}

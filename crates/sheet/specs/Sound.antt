@@ -15,8 +15,9 @@ use Rattle.lists.specs.Numbers.{is, look}
 use Rattle.model.specs.Flows.{Links, Site, Ends, label, joined}
 use Rattle.model.specs.declared.Edition.{Edition}
 use Rattle.lists.specs.Sums.{is_same, sum_ge}
-use Rattle.theory_trees.specs.Labels.{Fresh, reps, reps-eq, label-label, label-site}
-use Rattle.theory_trees.specs.Fresh.{joined_reversed}
+use Rattle.theory_trees.specs.Labels.{Fresh, reps}
+use Rattle.theory_trees.proofs.Labels.{reps-eq, label-label, label-site}
+use Rattle.theory_trees.proofs.Fresh.{joined_reversed}
 use Rattle.text_lines.specs.Lines.{line_length, line_at, after_line, has_line}
 use Rattle.text_lines.specs.LineLaws.{line_and_what_follows, line_stays_on_sheet}
 use Rattle.text_fields.specs.Fields.{SameName}

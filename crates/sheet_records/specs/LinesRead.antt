@@ -17,7 +17,7 @@ use Rattle.model.specs.Text.{bytes}
 use Rattle.model.specs.declared.Edition.{Edition}
 use Rattle.model.specs.declared.Sizing.TheVariants.{Reserved}
 use Rattle.theory_trees.specs.Labels.{joined-label}
-use Rattle.theory_trees.specs.Fresh.{joined_reversed}
+use Rattle.theory_trees.proofs.Fresh.{joined_reversed}
 use Rattle.theory_shuffled.specs.ShuffledLaws.{Apart, apart_more}
 use Rattle.text_lines.specs.Lines.{line_at, after_line}
 use Rattle.text_lines.specs.LineLaws.{line_holds_no_ten, ended_lines_cover_the_sheet}
@@ -36,7 +36,7 @@ use Rattle.sheet.specs.RefusalLaws.{an_accepted_sheet_is_read_to_its_end}
 use Rattle.sheet.specs.declared.stepping.Step.{Step}
 use Rattle.sheet.specs.declared.stepping.Step.TheVariants as step
 use Rattle.sheet_records.specs.SameRecords.{records_of, SameNames, SameRecord, same-site, same-link, GivenAmong, LinksBelow}
-use Rattle.sheet_records.specs.RecordLaws.{names_turned, names_chained, a_site_is_no_link}
+use Rattle.sheet_records.specs.RecordLaws.{a_site_is_no_link}
 use Rattle.sheet_records.specs.Held.{Holds, site_stays, new_site, more_site, more_link}
 
 -- ---- records that cannot stand on one sheet
@@ -45,20 +45,6 @@ use Rattle.sheet_records.specs.Held.{Holds, site_stays, new_site, more_site, mor
 pub data Meet (r q : Record) : Type 0 where
   at-a-site : IsSite r → IsSite q → SameName (field r 1) (field q 1) → Meet r q
   at-a-link : IsLink Reserved r → IsLink Reserved q → SameNames (field r 1) (field r 2) (field q 1) (field q 2) → Meet r q
-
-pub meet_turned : (r q : Record) → Meet r q → Meet q r
-meet_turned r q (at-a-site a b name) = at-a-site b a (sym name)
-meet_turned r q (at-a-link a b names) = at-a-link b a (names_turned _ _ _ _ names)
-
--- records whose likes meet, meet
-pub meet_carried : (a b c d : Record) → SameRecord a b → SameRecord c d → Meet b d → Meet a c
-meet_carried a b c d (same-site p q l n) (same-site p' q' l' n') (at-a-site x y name) = at-a-site p p' (n ∙ name ∙ sym n')
-meet_carried a b c d (same-site p q l n) h (at-a-link x y names) = absurd (a_site_is_no_link b q x)
-meet_carried a b c d (same-link p q n s r) h (at-a-site x y name) = absurd (a_site_is_no_link b x q)
-meet_carried a b c d (same-site p q l n) (same-link p' q' n' s' r') (at-a-site x y name) = absurd (a_site_is_no_link d y q')
-meet_carried a b c d (same-link p q n s r) (same-site p' q' l' n') (at-a-link x y names) = absurd (a_site_is_no_link d q' y)
-meet_carried a b c d (same-link p q n s r) (same-link p' q' n' s' r') (at-a-link x y names) =
-    at-a-link p p' (names_chained _ _ _ _ _ _ n (names_chained _ _ _ _ _ _ names (names_turned _ _ _ _ n')))
 
 -- ---- site records counted
 

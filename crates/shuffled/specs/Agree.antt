@@ -11,13 +11,13 @@ use Rattle.model.specs.Trimming.{Greatest}
 use Rattle.model.specs.Whole.{Even}
 use Rattle.model.specs.declared.Edition.{Edition}
 use Rattle.text_fields.specs.Fields.{SameName, capitals}
-use Rattle.theory_trees.specs.Ends.{ends_are_told}
+use Rattle.theory_trees.proofs.Ends.{ends_are_told}
 use Rattle.theory_trees.specs.Owners.{owner-or-none}
 use Rattle.theory_regions.specs.SharingLaws.{no_double_link}
 use Rattle.theory_shuffled.specs.Matched.{Matched, Largest}
-use Rattle.theory_shuffled.specs.MatchedLaws.{leaf_matched, the_balanced_agree, the_sums_agree}
-use Rattle.theory_shuffled.specs.MatchedCuts.{the_sizes_agree, the_counts_agree, the_owners_agree}
-use Rattle.theory_shuffled.specs.MatchedFlows.{the_largest_agree}
+use Rattle.theory_shuffled.proofs.MatchedLaws.{leaf_matched, the_balanced_agree, the_sums_agree}
+use Rattle.theory_shuffled.proofs.MatchedCuts.{the_sizes_agree, the_counts_agree, the_owners_agree}
+use Rattle.theory_shuffled.proofs.MatchedFlows.{the_largest_agree}
 use Rattle.sheet.specs.Sheet.{Network}
 use Rattle.sheet.specs.SheetTheorem.{IsNetwork}
 use Rattle.sheet_records.specs.SameRecords.{name_on}

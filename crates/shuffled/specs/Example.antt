@@ -27,41 +27,16 @@ use Rattle.nine.specs.Sheets.{Example}
 use Rattle.nine.specs.Planned.{planned_for, expected}
 
 -- the hub with links of 2, 2 (3 less a reserve of 1), 1 and 1
-abbrev one : Example
+abbrev pub one : Example
 one = record {
   sheet = bytes "network\t1\nN\thub\nN\ta\nT\tb\nN\tc\nN\td\nL\thub\ta\t2\nL\thub\tb\t3\t1\nL\thub\tc\t1\nL\thub\td\t1\n";
   report = bytes "plan\t6\t3\nL\thub\ta\t2\t2\nL\thub\tb\t2\t2\nL\thub\tc\t1\t1\nL\thub\td\t1\t1\nN\thub\t-\nN\ta\ta\nN\tb\tb\nN\tc\tc\nN\td\td\n"
       ++ bytes "X\ta\t2\t1\nX\tb\t2\t1\nX\tc\t1\t1\nX\td\t1\t1\nP\ta\tb\t2\nP\ta\tc\t2\nP\tb\td\t2\n";
 }
 
-abbrev two : Example
+abbrev pub two : Example
 two = record {
   sheet = bytes "network\t1\nN\tHub\nN\ta\nN\tc\nT\tB\nL\tb\thub\t3\t1\nN\td\nL\tHUB\tA\t2\t0\nL\td\thub\t1\nL\thub\tc\t1\n";
   report = bytes "plan\t6\t2\nL\tB\tHub\t2\t2\nL\tHub\ta\t2\t2\nL\td\tHub\t1\t1\nL\tHub\tc\t1\t1\nN\tHub\t-\nN\ta\ta\nN\tc\tc\nN\tB\tB\nN\td\td\n"
       ++ bytes "X\ta\t2\t1\nX\tc\t1\t1\nX\tB\t2\t1\nX\td\t1\t1\nP\ta\tB\t4\nP\tc\td\t2\n";
 }
-
-the_records_are_the_same : SameRecords one.sheet two.sheet
-unfolding records_of records lines_of push fields checked_fields checked all same is_name is_number value_from capitals
-the_records_are_the_same =
-    next [] _ (same-site (inl refl) (inl refl) refl refl) refl
-    (next [] _ (same-site (inl refl) (inl refl) refl refl) refl
-    (next (_ ∷ []) _ (same-site (inr refl) (inr refl) refl refl) refl
-    (next [] _ (same-site (inl refl) (inl refl) refl refl) refl
-    (next (_ ∷ []) _ (same-site (inl refl) (inl refl) refl refl) refl
-    (next (_ ∷ []) _ (same-link refl refl (inl (refl, refl)) refl refl) refl
-    (next [] _ (same-link refl refl (inr (refl, refl)) refl refl) refl
-    (next (_ ∷ []) _ (same-link refl refl (inl (refl, refl)) refl refl) refl
-    (next [] _ (same-link refl refl (inr (refl, refl)) refl refl) refl none))))))))
-
-the_pairs_differ : map (planned_for report) (one ∷ two ∷ []) ≡ map expected (one ∷ two ∷ [])
-unfolding planned_for expected planned_by plan_read deliver ℕ_discrete dec_le dec_lt pick is differ less sum over count upfrom at sum_at leaf end_at ends relabel
-    label joined total cut_at cut_site cut_sites unvisited first remove taken elimination balanced_along balanced kept group in_cut cut_size cut_count owner_among
-    owner put take_halves drop_halves halves give match joins between children gather alone settle walk pairs_from lowest_inner lower_first before insert ordered
-    within single region member home lowest root pairs_of_part pair_of_link pairs_of_parts pair_list_of_parts flat_map
-    line_length line_at after_line has_line same push fields all is_name is_number value_from is_heading checked_fields checked fault_of judged
-    size_of capacity_of sheetSite sized_link sheetLink kind_of kind capitals lookup_from site_step link_step heading_step record_step step_of read_line and_then
-    read_lines all_joined finish read_as edition_of digits decimal line lines plan_of
-    owner_name head_record link_record link_line site_record site_line cut_record cut_line pair_line
-    report_of report
-the_pairs_differ = refl

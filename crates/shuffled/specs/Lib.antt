@@ -3,6 +3,5 @@ pub mod Networks
 pub mod Agree
 pub mod Lines
 pub mod ShuffledSheets
-pub mod ShuffledPrinted
 pub mod Accepted
 pub mod Example

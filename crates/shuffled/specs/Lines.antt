@@ -15,13 +15,13 @@ use Rattle.model.specs.Text.{bytes}
 use Rattle.model.specs.declared.Edition.{Edition}
 use Rattle.text_fields.specs.Fields.{SameName}
 use Rattle.text_records.specs.Records.{Record, records}
-use Rattle.theory_trees.specs.Sites.{look-site}
+use Rattle.theory_trees.proofs.Sites.{look-site}
 use Rattle.theory_regions.specs.SharingLaws.{no_double_link}
 use Rattle.theory_shuffled.specs.Shuffled.{Stands, Shuffled}
 use Rattle.theory_shuffled.specs.ShuffledLaws.{Apart, same_once_is_shuffled}
 use Rattle.sheet.specs.Sheet.{Network}
 use Rattle.sheet.specs.SheetTheorem.{IsNetwork}
-use Rattle.sheet_records.specs.RecordLaws.{names_turned, names_chained}
+use Rattle.sheet_records.proofs.RecordLaws.{names_turned, names_chained}
 use Rattle.sheet_records.specs.SameRecords.{name_on}
 use Rattle.report.specs.Report.{decimal, owner_name, Plan, report_of}
 use Rattle.planner.specs.Figures.{Figures, plan_showing, Showable}

@@ -19,7 +19,8 @@ use Rattle.sheet.specs.CauseLaws.{Finds, finds}
 use Rattle.sheet.specs.Causes.{Named}
 use Rattle.sheet.specs.SheetTheorem.{IsNetwork}
 use Rattle.sheet_records.specs.SameRecords.{name_on, SameRecord, same-site, same-link, records_of}
-use Rattle.sheet_records.specs.RecordLaws.{a_site_is_no_link, same-mark}
+use Rattle.sheet_records.specs.RecordLaws.{a_site_is_no_link}
+use Rattle.sheet_records.proofs.RecordLaws.{same-mark}
 use Rattle.sheet_records.specs.Held.{SiteRecord, LinkRecord, Holds}
 use Rattle.sheet_records.specs.LinesRead.{one_site_of_a_name}
 use Rattle.theory_regions.specs.JoinedTree.{Between}

@@ -117,7 +117,3 @@ module _ {n : ℕ} {one two marks : List ℕ} (w : Sited n one two marks) (x y j
 
   pub none-is-far-is-told : lone region x ≢ 1 → lone region y ≢ 1 → length one ≡ link_of region x y
   none-is-far-is-told d f = sym (neither_is_far region x y d f ∙ all)
-
-pub one-site-is-told : {n : ℕ} {one two marks : List ℕ} → Sited n one two marks → (x y : ℕ) → x ≡ y → length one ≡ link_of (region_by n one two marks []) x y
-one-site-is-told {n} {one} {two} {marks} w x y e =
-    sym (one_site_has_no_link (region_by n one two marks []) x y e ∙ length-links one two (sym w.placed.seconds))

@@ -12,7 +12,7 @@ use Rattle.model.specs.Flows.{Links}
 use Rattle.tree.specs.Accepted.{MarkedTree}
 use Rattle.sheet_names.specs.Names.{lookup, ranges, Distinct}
 use Rattle.sheet.specs.Sound.{distinct_names}
-use Rattle.sheet.specs.Editions.{an_accepted_sheet_is_within_the_largest}
+use Rattle.sheet.proofs.Editions.{an_accepted_sheet_is_within_the_largest}
 use Rattle.sheet.specs.ListLaws.{names_are}
 use Rattle.sheet.specs.Reading.{lists, reading}
 use Rattle.sheet.specs.Sheet.{Read, refused, accepted, read_sheet}
@@ -33,24 +33,6 @@ use Rattle.sides.specs.declared.Outcome.TheVariants.{Answered}
 
 -- ---- a refused sheet
 
-module _ (s name name' : List ℕ) where
-  pub refused_is_shown : (n k : ℕ) → (reading (read_sheet editions s)).answer ≡ answering.Refused n k → first_shown editions s name name' ≡ first.Refused n k
-  unfolding reading first_shown show_read
-  refused_is_shown n k e = by (read_sheet editions s) e
-    where
-      by : (r : Read) → (reading r).answer ≡ answering.Refused n k → show_read s name name' r ≡ first.Refused n k
-      by (refused m j) e = let p : m ≡ n = cc in let q : j ≡ k = cc in rw (p, q)
-      by (accepted net) e = contradiction cc
-
-  pub refused_is_told : (told : ℕ) (l : List ℕ) (n k : ℕ) → (reading (read_sheet editions s)).answer ≡ answering.Refused n k
-      → answered editions s name name' told l ≡ refusal n k l
-  unfolding reading answered answer_read
-  refused_is_told told l n k e = by (read_sheet editions s) e
-    where
-      by : (r : Read) → (reading r).answer ≡ answering.Refused n k → answer_read s name name' told l r ≡ refusal n k l
-      by (refused m j) e = let p : m ≡ n = cc in let q : j ≡ k = cc in rw (p, q)
-      by (accepted net) e = contradiction cc
-
 -- ---- an accepted sheet
 
 -- the region of lists, with capacities c
@@ -68,7 +50,7 @@ alike : {ls ks : Links} {n k : ℕ} {marks others c d : List ℕ} → ls ≡ ks 
 alike e f g h = rw (e, f, g, h)
 
 module _ {s : List ℕ} {network : Lists} (r : Listed s network) where
-  abbrev m : ℕ
+  abbrev pub m : ℕ
   m = network.links
 
   names_of_lists : ranges network.start network.end 0 network.sites ≡ r.net.names

@@ -91,25 +91,6 @@ module _ (s : List ℕ) (net : Network) (own : Named (region_of net) (site_name 
 
 -- ---- what a step comes to
 
-module _ (known : List Edition) (s name name' : List ℕ) where
-  pub a_sheet_refused_shows_nothing : (k line : ℕ) → read_sheet known s ≡ refused k line → first_shown known s name name' ≡ first.Refused k line
-  unfolding first_shown show_read
-  a_sheet_refused_shows_nothing k line e = rw e refl
-
-  pub a_sheet_refused_is_given_nothing : (told : ℕ) (l : List ℕ) (k line : ℕ) → read_sheet known s ≡ refused k line
-      → answered known s name name' told l ≡ refusal k line l
-  unfolding answered answer_read
-  a_sheet_refused_is_given_nothing told l k line e = rw e refl
-
-  module _ (net : Network) (e : read_sheet known s ≡ accepted net) (none : (p : Border) → ¬ (MayShare s net name name' p)) where
-    pub without-a-link-nothing-is-shown : first_shown known s name name' ≡ first.Refused 18 0
-    unfolding first_shown show_read show_over
-    without-a-link-nothing-is-shown = rw (e, le-ltb _ _ (no_link_is_meant s net (the_network_is_named known s net e) name name' none)) refl
-
-    pub without-a-link-nothing-is-given : (told : ℕ) (l : List ℕ) → answered known s name name' told l ≡ refusal 18 0 l
-    unfolding answered answer_read answer_over
-    without-a-link-nothing-is-given told l = rw (e, le-ltb _ _ (no_link_is_meant s net (the_network_is_named known s net e) name name' none)) refl
-
 module _ {known : List Edition} {s : List ℕ} {net : Network} {name name' : List ℕ} {p : Border} (A : AcceptedSide known s net name name' p) where
   own_names : Named (region_of net) (site_name s net)
   own_names = the_network_is_named known s net A.read

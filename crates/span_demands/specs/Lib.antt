@@ -1,4 +1,3 @@
 pub mod Printed
 pub mod Asked
 pub mod ReadBack
-pub mod Met

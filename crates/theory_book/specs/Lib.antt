@@ -5,7 +5,6 @@ pub mod Book
 pub mod Trees
 pub mod Entries
 pub mod Totals
-pub mod Counts
 pub mod Numbered
 pub mod Counting
 pub mod Pages

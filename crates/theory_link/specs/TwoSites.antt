@@ -17,16 +17,11 @@ use Rattle.model.specs.Pairing.{put, give, lower_first, insert, ordered}
 use Rattle.model.specs.Parts.{region, lowest, single, root, pairs_of_part, pair_of_link, pairs_of_parts, pair_list_of_parts}
 use Rattle.model.specs.Whole.{WholePlan, LargestWhole, set_size, set_count, in_piece, odd_pieces}
 use Rattle.model.specs.declared.Pair.{Pair}
-use Rattle.theory_trees.specs.Greatest.{balanced_is_its_own_greatest, greatest_is_balanced}
+use Rattle.theory_trees.proofs.Greatest.{balanced_is_its_own_greatest, greatest_is_balanced}
 
 -- the pair list of a link of capacity c between the sites 1 and 2
 unfoldable pub link_pairs : ℕ → List Pair
 link_pairs c = give 1 (put 2 (2 * c) [])
-
--- none for capacity 0, else one
-pub no_pair_lem : link_pairs 0 ≡ []
-unfolding link_pairs give put
-no_pair_lem = refl
 
 put_some : (x a : ℕ) → a ≢ 0 → put x a [] ≡ (x, a) ∷ []
 unfolding put
@@ -36,11 +31,6 @@ put_some x (suc a) d = refl
 pub one-pair : (c : ℕ) → c ≢ 0 → link_pairs c ≡ record { first = 1; second = 2; amount = 2 * c } ∷ []
 unfolding link_pairs give
 one-pair c d = rw (put_some 2 (2 * c) (λ e. d (omega arith)))
-
-pub at-most-one-pair : (c : ℕ) → length (link_pairs c) ≤ 1
-at-most-one-pair c = same? c 0
-    (λ e. rw e (omega (arith, ap length no_pair_lem)))
-    (λ d. omega (arith, ap length (one-pair c d)))
 
 -- ---- computed
 
@@ -77,24 +67,6 @@ both_are_ends l = append-nil l
 -- the link joins site 1 and site 2, in either order
 abbrev pub Shape : Links → Type 0
 Shape ls = (ls ≡ (1, 2) ∷ []) ⊎ (ls ≡ (2, 1) ∷ [])
-
--- by the labels, which its two sites share with site 1
-the_sites_differ : (a b : ℕ) → Tree ((a, b) ∷ []) 2 → a ≢ b
-unfolding label relabel
-the_sites_differ a b T e =
-    let whole = T.whole 2 (omega arith, omega arith) in
-    let same : (x : ℕ) → pick x b a x ≡ x = λ x. same? x b (λ q. pick_same q a x ∙ e ∙ sym q) (λ d. pick_other d a x) in
-    contradiction (omega (arith, whole, same 2, same 1))
-
-pub two_sites_have_one_link : (ls : Links) → Tree ls 2 → Shape ls
-two_sites_have_one_link [] T = absurd (omega (arith, T.links))
-two_sites_have_one_link (l ∷ k ∷ ls) T = absurd (omega (arith, T.links))
-two_sites_have_one_link ((a, b) ∷ []) T =
-    let ends = T.ends 0 (omega arith) in
-    let d = the_sites_differ a b T in
-    same? a 1
-    (λ e. let f : b ≡ 2 = omega (arith, ends.1, d) in inl (rw (e, f)))
-    (λ g. let e : a ≡ 2 = omega (arith, ends.0) in let f : b ≡ 1 = omega (arith, ends.1, d) in inr (rw (e, f)))
 
 module _ {ls : Links} (shape : Shape ls) where
   pub one_link : length ls ≡ 1

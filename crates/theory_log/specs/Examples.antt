@@ -9,24 +9,14 @@ use Rattle.model.specs.Booking.{answer, changed, next, after, answers}
 use Rattle.model.specs.declared.Request.{Request}
 use Rattle.model.specs.declared.Request.TheVariants.{Open, GiveUp, Fault}
 
-abbrev star : Links
+abbrev pub star : Links
 star = (1, 2) ∷ (1, 3) ∷ (1, 4) ∷ []
 
-abbrev capacities : ℕ → ℕ
+abbrev pub capacities : ℕ → ℕ
 capacities = look (2 ∷ 1 ∷ 2 ∷ [])
 
 -- 2 halves for 2, 3 fill the link at 3, and one half more is refused; sites in the other order are the same pair; what another pair has open cannot be
 -- given up; a line at fault moves nothing; the pair that falls to nothing leaves its place to the last one
-abbrev log : List Request
+abbrev pub log : List Request
 log = Open (pair 2 3 2) ∷ Open (pair 4 3 1) ∷ Open (pair 4 2 1) ∷ GiveUp (pair 3 4 1) ∷ Fault 12
     ∷ GiveUp (pair 3 2 3) ∷ GiveUp (pair 3 2 2) ∷ Open (pair 3 4 2) ∷ []
-
-the_answers : answers star capacities [] log ≡ 0 ∷ 15 ∷ 0 ∷ 14 ∷ 12 ∷ 14 ∷ 0 ∷ 0 ∷ []
-unfolding ℕ_discrete dec_lt pick is differ less sum relabel label without side separates load lower_first same open_of grow last_of front_of moved shrink overfilled
-    answer_open answer_give_up answer changed next answers
-the_answers = refl
-
-the_open_pairs : after star capacities [] log ≡ pair 2 4 1 ∷ pair 3 4 2 ∷ []
-unfolding ℕ_discrete dec_lt pick is differ less sum relabel label without side separates load lower_first same open_of grow last_of front_of moved shrink overfilled
-    answer_open answer_give_up answer changed next after
-the_open_pairs = refl

@@ -27,10 +27,6 @@ same-le a b e = same? e.first a
 pub same-other : (a b : ℕ) (e : Pair) → same a b e ≢ 1 → same a b e ≡ 0
 same-other a b e d = omega (arith, same-le a b e)
 
-pub same-is : (a b : ℕ) (e : Pair) → e.first ≡ a → e.second ≡ b → same a b e ≡ 1
-unfolding same
-same-is a b e p q = rw (is_same p, is_same q) refl
-
 -- the test sees the two sites only
 pub same-sites : (p q : ℕ) (e : Pair) (a b x : ℕ) → e.first ≡ a → e.second ≡ b → same p q (pair a b x) ≡ same p q e
 unfolding same
@@ -44,13 +40,6 @@ open_none a b [] z = refl
 open_none a b (e ∷ es) z =
     let s : same a b e ≡ 0 = omega arith in
     rw s (omega (arith, open_none a b es (omega arith)))
-
-pub open_some : (n a b : ℕ) (es : List Pair) → Each (Entry n) es → open_of a b es ≡ 0 → places_of a b es ≡ 0
-unfolding open_of places_of
-open_some n a b [] h z = refl
-open_some n a b (e ∷ es) h z = same? (same a b e) 1
-    (λ s. let k = h.0.some in absurd (omega (arith, rw s at z)))
-    (λ d. omega (arith, same-other a b e d, open_some n a b es h.1 (omega (arith, rw (same-other a b e d) at z))))
 
 -- ---- x more
 

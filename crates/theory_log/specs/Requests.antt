@@ -61,14 +61,6 @@ gives_for p q (Open e) = 0
 gives_for p q (GiveUp e) = same p q (lower_first e) * (lower_first e).amount
 gives_for p q (Fault k) = 0
 
--- the two sites of a pair may stand in either order
-pub the_order_of_the_sites_does_not_matter : (a b x : ℕ) → lower_first (pair a b x) ≡ lower_first (pair b a x)
-unfolding lower_first
-the_order_of_the_sites_does_not_matter a b x = same? a b (λ e. rw e refl) (λ d. cases (dec_lt a b)
-    (λ l. pick_other {u = less b a} {v = 1} (λ s. omega (arith, less-lt s)) _ _ ∙ sym (pick_same (less_one l) _ _))
-    (λ l. let m : b < a = omega arith in
-    pick_same (less_one m) _ _ ∙ sym (pick_other {u = less a b} {v = 1} (λ s. omega (arith, less-lt s)) _ _)))
-
 -- a request opens only pairs whose sites, the lower one first, have P
 abbrev pub OpensOnly : (ℕ → ℕ → Type 0) → Request → Type 0
 OpensOnly P (Open e) = Sites P (lower_first e)

@@ -8,7 +8,7 @@ use Rattle.model.specs.Flows.{Links, sites, sum_at, Tree, Below, Multiflow, Fits
 use Rattle.model.specs.Parts.{pair_list_of_parts}
 use Rattle.model.specs.Trimming.{balanced}
 use Rattle.model.specs.declared.Pair.{Pair}
-use Rattle.theory_trees.specs.Greatest.{balanced_is_greatest, balanced_grows}
+use Rattle.theory_trees.proofs.Greatest.{balanced_is_greatest, balanced_grows}
 use Rattle.theory_trees.specs.Sites.{sum_at_mono}
 use Rattle.theory_walk.specs.PartsTheorem.{pair_list_of_parts_is_sound, pair_list_of_parts_has_the_greatest_total}
 

@@ -9,83 +9,38 @@ use Rattle.theory_regions.specs.JoinedTree.{Border, down, up, left_out, rank, ra
 use Rattle.theory_regions.specs.Sharing.{first_from, Sharing, apart, sharing, commons, shared_first, shared_second, may_be_far, chosen, shared_at, sharing_of}
 
 -- site 1 joined to the far site 4, to 2 and to 3; the link to 4 is shared
-abbrev hub : Region
+abbrev pub hub : Region
 hub = record { links = (1, 4) ∷ (1, 2) ∷ (1, 3) ∷ []; sites = 4; marks = 0 ∷ 0 ∷ 0 ∷ 0 ∷ []; capacities = 10 ∷ 5 ∷ 1 ∷ [] }
 
-abbrev hub_border : Border
+abbrev pub hub_border : Border
 hub_border = record { shared = 0; near = 1; far = 4 }
 
 -- site 2 joined to 1, to the far site 3 and to 4; the link to 3 is shared
-abbrev fork : List ℕ → Region
+abbrev pub fork : List ℕ → Region
 fork marks = record { links = (1, 2) ∷ (3, 2) ∷ (2, 4) ∷ []; sites = 4; marks = marks; capacities = 1 ∷ 10 ∷ 1 ∷ [] }
 
-abbrev fork_border : Border
+abbrev pub fork_border : Border
 fork_border = record { shared = 1; near = 2; far = 3 }
 
 -- the marks of the fork: none; one at its near site; one at its far site
-abbrev plain : List ℕ
+abbrev pub plain : List ℕ
 plain = 0 ∷ 0 ∷ 0 ∷ 0 ∷ []
 
-abbrev marked : List ℕ
+abbrev pub marked : List ℕ
 marked = 0 ∷ 1 ∷ 0 ∷ 0 ∷ []
 
-abbrev far_marked : List ℕ
+abbrev pub far_marked : List ℕ
 far_marked = 0 ∷ 0 ∷ 1 ∷ 0 ∷ []
 
--- the hub's site 4 is the fork's site 2, and the fork's sites 1 and 4 become 5 and 6
-the_joined_tree : joined_tree hub hub_border (fork marked) fork_border ≡ record {
-  links = (1, 4) ∷ (1, 2) ∷ (1, 3) ∷ (5, 4) ∷ (4, 6) ∷ [];
-  sites = 6;
-  marks = 0 ∷ 0 ∷ 0 ∷ 1 ∷ 0 ∷ 0 ∷ [];
-  capacities = 10 ∷ 5 ∷ 1 ∷ 1 ∷ 1 ∷ [];
-}
-unfolding joined_tree place rank ranked down up left_out glued upfrom less pick ℕ_discrete dec_le dec_lt
-the_joined_tree = refl
-
--- the numbers shown, and what the regions and their joined tree have
-numbers : List ℕ → List ℕ
-unfolding first_size end_at ends leaf balanced balanced_along cut_sites cut_site cut_at elimination taken first remove unvisited upfrom count sum_at at sum is pick
-    ℕ_discrete dec_le
-numbers marks = first_size hub 0 ∷ first_size (fork marks) 1 ∷ []
-
-abbrev answers : List ℕ → ℕ → ℕ → List Given
+abbrev pub answers : List ℕ → ℕ → ℕ → List Given
 answers marks x y = given hub 0 y ∷ given (fork marks) 1 x ∷ []
-
--- without marks they show 6 and 2, and are given 2, 3, 1 and 1, 2, 1 with sums 4 and 2: the hub's link of 5 is trimmed for the second time
-without_marks : (numbers plain ≡ 6 ∷ 2 ∷ [])
-    × (answers plain 6 2 ≡ record { sizes = 2 ∷ 3 ∷ 1 ∷ []; sum = 4 } ∷ record { sizes = 1 ∷ 2 ∷ 1 ∷ []; sum = 2 } ∷ [])
-    × (trimmed (joined_tree hub hub_border (fork plain) fork_border) ≡ 2 ∷ 3 ∷ 1 ∷ 1 ∷ 1 ∷ [])
-unfolding numbers joined_tree place rank ranked down up left_out glued less given far_site lone own own_sum at_terminals over trimmed_again first_size end_at ends leaf
-    balanced balanced_along cut_sites cut_site cut_at elimination taken first remove unvisited upfrom count sum_at at sum is differ pick ℕ_discrete dec_le dec_lt
-without_marks = (refl, refl, refl)
-
--- with its near site marked the fork shows 10 and counts each link there
-with_a_mark : (numbers marked ≡ 6 ∷ 10 ∷ [])
-    × (answers marked 6 10 ≡ record { sizes = 6 ∷ 5 ∷ 1 ∷ []; sum = 6 } ∷ record { sizes = 1 ∷ 6 ∷ 1 ∷ []; sum = 10 } ∷ [])
-    × (trimmed (joined_tree hub hub_border (fork marked) fork_border) ≡ 6 ∷ 5 ∷ 1 ∷ 1 ∷ 1 ∷ [])
-unfolding numbers joined_tree place rank ranked down up left_out glued less given far_site lone own own_sum at_terminals over trimmed_again first_size end_at ends leaf
-    balanced balanced_along cut_sites cut_site cut_at elimination taken first remove unvisited upfrom count sum_at at sum is differ pick ℕ_discrete dec_le dec_lt
-with_a_mark = (refl, refl, refl)
 
 -- ---- 18
 
 -- what is decided where the fork's sites with the names of the hub's sites 1, 2, 3, 4 are given, 0 where there is none
-decided_for : Region → List ℕ → Sharing
+unfoldable pub decided_for : Region → List ℕ → Sharing
 unfolding sharing_of commons shared_at shared_first shared_second first_from may_be_far chosen lone leaf sum_at at sum is differ pick ℕ_discrete dec_lt
 decided_for b partners = sharing_of hub b (λ x. look (0 ∷ partners) x)
 
-abbrev decided : List ℕ → List ℕ → Sharing
+abbrev pub decided : List ℕ → List ℕ → Sharing
 decided marks partners = decided_for (fork marks) partners
-
--- the hub's 1 is the fork's 3, and its 4 the fork's 2; a mark of the near site is none of the far one
-one_link_is_shared : (decided plain (3 ∷ 0 ∷ 0 ∷ 2 ∷ []) ≡ sharing hub_border fork_border) × (decided marked (3 ∷ 0 ∷ 0 ∷ 2 ∷ []) ≡ sharing hub_border fork_border)
-unfolding decided_for
-one_link_is_shared = (refl, refl)
-
--- three names in common; two that no link joins in the hub; two that none joins in the fork; both far sites one site; a marked far site; a shared link of
--- another size
-none_is_shared : (map (decided plain) ((3 ∷ 1 ∷ 0 ∷ 2 ∷ []) ∷ (0 ∷ 3 ∷ 0 ∷ 2 ∷ []) ∷ (3 ∷ 0 ∷ 0 ∷ 1 ∷ []) ∷ (2 ∷ 0 ∷ 0 ∷ 3 ∷ []) ∷ [])
-    ≡ apart ∷ apart ∷ apart ∷ apart ∷ [])
-    × (decided far_marked (3 ∷ 0 ∷ 0 ∷ 2 ∷ []) ≡ apart) × (decided_for (resized (fork plain) 1 9) (3 ∷ 0 ∷ 0 ∷ 2 ∷ []) ≡ apart)
-unfolding decided_for
-none_is_shared = (refl, refl, refl)

@@ -8,8 +8,8 @@ use Rattle.lists.specs.Numbers.{pick, look}
 use Rattle.lists.specs.Sums.{same?, pick_same, pick_other}
 use Rattle.model.specs.Flows.{Site, at, Below, Tree}
 use Rattle.model.specs.Trimming.{Balanced, Greatest}
-use Rattle.theory_trees.specs.Cutting.{light_same}
-use Rattle.theory_trees.specs.Greatest.{greatest_is_unique, balanced_is_greatest}
+use Rattle.theory_trees.proofs.Cutting.{light_same}
+use Rattle.theory_trees.proofs.Greatest.{greatest_is_unique, balanced_is_greatest}
 use Rattle.theory_regions.specs.Regions.{Region, ends_in, trimmed, first_size, trimmed_again}
 use Rattle.theory_regions.specs.JoinedTree.{Border, Bordered, Joins}
 use Rattle.theory_regions.specs.Carried.{spread, spread-own, spread_none}

@@ -90,10 +90,3 @@ a_region_finds_its_far_site {a} {p} A plain u =
       | inl h ↦ absurd (d (rw h.1 far-is-lone))
       | inr h ↦ ap (λ f. own_sum a f u) h.0
     ])
-
--- so the sum that it is given is that over all ends, less the shared link's size
-pub the_sum_over_all_ends : {a : Region} {p : Border} → Bordered a p → mark a.marks p.far ≢ 1 → (other : ℕ) → let u = given a p.shared other in
-    at_terminals a.links a.sites (ends_in a) (look u.sizes) ≡ u.sum + look u.sizes p.shared
-unfolding given
-the_sum_over_all_ends {a} {p} A plain other =
-    let u = trimmed_again a p.shared other in omega (arith, all_ends_are_own_or_far A u, a_region_finds_its_far_site A plain u)

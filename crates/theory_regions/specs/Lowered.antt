@@ -8,7 +8,7 @@ use Rattle.lists.specs.Sums.{cases, same?}
 use Rattle.model.specs.Flows.{Links, Tree, Below}
 use Rattle.model.specs.Trimming.{Balanced, Greatest}
 use Rattle.theory_trees.specs.Trees.{sum_at_linear}
-use Rattle.theory_trees.specs.Greatest.{greatest_keeps_what_is_balanced}
+use Rattle.theory_trees.proofs.Greatest.{greatest_keeps_what_is_balanced}
 
 -- sums and multiples of balanced capacities are balanced
 combined : (ls : Links) (terminal : ℕ → ℕ) (k : ℕ) (t u : ℕ → ℕ) → Balanced ls terminal t → Balanced ls terminal u → Balanced ls terminal (λ i. k * t i + u i)

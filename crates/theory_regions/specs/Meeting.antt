@@ -13,8 +13,8 @@ use Rattle.model.specs.Flows.{Links, Site, Tree, one, two, at, sum_at, leaf, end
 use Rattle.model.specs.Trimming.{Light, Balanced}
 use Rattle.theory_trees.specs.Trees.{at-le, at_first, at_second, at_none, at-end, loopless}
 use Rattle.theory_trees.specs.Sites.{at-site}
-use Rattle.theory_trees.specs.Leaves.{leaf_has_one_link}
-use Rattle.theory_trees.specs.Ends.{ends_are_told, a_leaf_is_an_end}
+use Rattle.theory_trees.proofs.Leaves.{leaf_has_one_link}
+use Rattle.theory_trees.proofs.Ends.{ends_are_told, a_leaf_is_an_end}
 use Rattle.theory_regions.specs.Regions.{Region, ends_in}
 use Rattle.theory_regions.specs.JoinedTree.{Between, Border, Bordered, Lies, Joins}
 use Rattle.theory_regions.specs.Carried.{hits, hits-one, sum_carried}

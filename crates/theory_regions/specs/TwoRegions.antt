@@ -7,7 +7,7 @@ use Rattle.lists.specs.Numbers.{look}
 use Rattle.model.specs.Flows.{Tree, Multiflow, Fits, mark, total}
 use Rattle.model.specs.Parts.{pair_list_of_parts}
 use Rattle.model.specs.declared.Pair.{Pair}
-use Rattle.theory_trees.specs.Greatest.{balanced_is_greatest}
+use Rattle.theory_trees.proofs.Greatest.{balanced_is_greatest}
 use Rattle.theory_walk.specs.PartsTheorem.{pair_list_of_parts_is_sound, pair_list_of_parts_has_the_greatest_total}
 use Rattle.theory_regions.specs.Regions.{Region, ends_in, trimmed, first_size, trimmed_again, far_site, own_sum, Given, given}
 use Rattle.theory_regions.specs.JoinedTree.{Border, Bordered, Joins, position, joined_tree}

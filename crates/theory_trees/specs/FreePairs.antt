@@ -9,7 +9,7 @@ use Rattle.model.specs.Flows.{Links, Site, Ends, Tree, Route, one, two, at, sepa
 use Rattle.model.specs.Parts.{another, crossed, free_pair}
 use Rattle.model.specs.declared.Pair.{Pair}
 use Rattle.theory_trees.specs.Trees.{separates-le, separates_comm, at_first, at_second, at-end}
-use Rattle.theory_trees.specs.Leaves.{Outer, outer_route}
+use Rattle.theory_trees.specs.Leaves.{Outer}
 
 -- another terminal is told by the number 1, and what is none by 0
 module _ (terminal : ℕ → ℕ) (a b w : ℕ) where
@@ -127,10 +127,3 @@ module _ (ls : Links) (terminal : ℕ → ℕ) where
       let f = free_parts a b h in
       free_whole b a (λ e. f.0 (sym e)) f.2 f.1
       (free_crossed b a (λ w j t d g l o. separates_comm ls j b a ∙ crossed_free a b w j f.3 t g d l o))
-
--- where every terminal has one link, any two different terminals are free to be joined
-pub outer_pairs_are_free : {ls : Links} {n : ℕ} → Tree ls n → (terminal : ℕ → ℕ) → Outer ls n terminal → (a b : ℕ) → Site n a → Site n b
-    → terminal a ≡ 1 → terminal b ≡ 1 → a ≢ b → free_pair ls terminal a b ≡ 1
-outer_pairs_are_free {ls} {n} T terminal O a b p q s t d =
-    let e : Pair = record { first = a; second = b; amount = 0 } in
-    (free_iff_route ls terminal n T.ends e p q).1 (outer_route T terminal O e p q s t d)

@@ -32,10 +32,6 @@ along (a ∷ ls) P h x =
     (λ e. Iff.trans (ih a.0) (Iff.trans (h zero (omega arith)) (Iff.trans (Iff.symm (ih a.1)) (rw (← e) (ih x)))))
     (λ d. ih x)
 
--- a label is its own label
-pub label-label : (ls : Links) (x : ℕ) → label ls (label ls x) ≡ label ls x
-label-label ls x = (along ls (λ y. label ls y ≡ label ls x) (λ i l. rw (linked ls i l) Iff.rfl) x).1 refl
-
 -- what the ends of every link share, sites of one label share
 pub induct : (ls : Links) (P : ℕ → Type 0) → ((i : ℕ) → i < length ls → P (one ls i) ↔ P (two ls i)) → (x y : ℕ) → label ls x ≡ label ls y → P x → P y
 induct ls P h x y e p = (along ls P h y).0 (rw e at ((along ls P h x).1 p))
@@ -54,11 +50,6 @@ joined-label ls (chain i j) = joined-label ls i ∙ joined-label ls j
 -- sites of one label are joined
 pub label-joined : (ls : Links) (a b : ℕ) → label ls a ≡ label ls b → Joined ls a b
 label-joined ls a b e = induct ls (Joined ls a) (λ i l. (λ j. chain j (link i l), λ j. chain j (back (link i l)))) a b e same
-
--- labels tell what is joined, in the words of the closure
-pub joined_iff : (ls : Links) (a b : ℕ) → (joined ls a b ≡ 1) ↔ Joined ls a b
-unfolding joined
-joined_iff ls a b = (λ e. label-joined ls a b (is_one e), λ j. is_same (joined-label ls j))
 
 -- ---- counting
 
@@ -97,49 +88,7 @@ whole-links ls n r h = omega (arith, reps_ge ls n, reps-whole ls n r h)
 
 -- ---- the exact count
 
--- relabelling q, one of them, takes away just one
-fewer_one : (f : ℕ → ℕ) (p q n : ℕ) → f p ≡ p → f q ≡ q → Site n q → p ≢ q
-    → sum n (λ i. is (f (suc i)) (suc i)) ≡ suc (sum n (λ i. is (relabel p q (f (suc i))) (suc i)))
-unfolding relabel
-fewer_one f p zero n fp fq b d = omega arith
-fewer_one f p (suc q) n fp fq b d =
-    let was : is (f (suc q)) (suc q) ≡ 1 = is_same fq in
-    let now : is (pick (f (suc q)) (suc q) p (f (suc q))) (suc q) ≡ 0 = rw (pick_same fq) (is-other d) in
-    omega (
-      arith,
-      sum_eq_but n q (λ i. is (f (suc i)) (suc i)) (λ i. is (relabel p (suc q) (f (suc i))) (suc i)) b.1
-          (λ i l e. pick_cases (λ r. is (f (suc i)) (suc i) ≡ is r (suc i)) (f (suc i)) (suc q) p (f (suc i))
-          (λ g. is_iff (f (suc i)) (suc i) p (suc i) (λ z. absurd (e (omega arith))) (λ z. absurd (d (sym fp ∙ ap f z ∙ g))))
-          (λ g. refl)),
-    )
-
--- the label of a site is a site
-pub label-site : (ls : Links) (n : ℕ) → Ends ls n → (x : ℕ) → Site n x → Site n (label ls x)
-label-site ls n h x = (along ls (Site n) (λ i l. (λ _. (h i l).1, λ _. (h i l).0)) x).1
-
 -- each link joined two sites that those behind it did not
 abbrev pub Fresh : Links → Type 0
 Fresh [] = Unit {0}
 Fresh (a ∷ ls) = (label ls a.0 ≢ label ls a.1) × Fresh ls
-
--- a link that joins two sites not joined before takes away exactly one
-pub reps-eq : (ls : Links) (n : ℕ) → Ends ls n → Fresh ls → n ≡ reps ls n + length ls
-unfolding reps label
-reps-eq [] n h f = omega (arith, sum_one n, sum-eq n (λ i. 1) (λ i. is (suc i) (suc i)) (λ i l. sym (is_same refl)))
-reps-eq (a ∷ ls) n h f =
-    let rest : Ends ls n = λ i l. h (suc i) (omega arith) in
-    omega (
-      arith,
-      reps-eq ls n rest f.1,
-      fewer_one (label ls) (label ls a.0) (label ls a.1) n
-          (label-label ls a.0) (label-label ls a.1) (label-site ls n rest a.1 (h zero (omega arith)).1) f.0,
-    )
-
--- so links of which each joined two sites not joined before, and that join all n sites, are n - 1
-pub fresh_links : (ls : Links) (n r : ℕ) → Ends ls n → Fresh ls → ((x : ℕ) → Site n x → label ls x ≡ r) → 1 ≤ n → n ≡ 1 + length ls
-unfolding reps
-fresh_links ls n r h f w p = own (label ls 1) (label-label ls 1) (label-site ls n h 1 (omega arith, p))
-  where
-    own : (u : ℕ) → label ls u ≡ u → Site n u → n ≡ 1 + length ls
-    own zero e b = omega arith
-    own (suc u) e b = omega (arith, reps-eq ls n h f, reps-whole ls n r w, is_same e, sum_ge n u (λ i. is (label ls (suc i)) (suc i)) b.1)

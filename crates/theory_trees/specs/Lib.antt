@@ -1,15 +1,9 @@
 pub mod Labels
-pub mod Fresh
 pub mod Trees
 pub mod Chains
-pub mod Paths
 pub mod Sites
 pub mod Loads
-pub mod Cutting
-pub mod Passes
 pub mod Orders
-pub mod Greatest
-pub mod TreeTest
 pub mod TerminalCuts
 pub mod Between
 pub mod Stopping
@@ -17,6 +11,5 @@ pub mod Owners
 pub mod Bounds
 pub mod Leaves
 pub mod FreePairs
-pub mod Ends
 pub mod Runs
-pub mod Work
+pub mod TreeTest

@@ -14,10 +14,6 @@ use Rattle.lists.specs.Places.{look-from, count_low, count-high, count_in, over-
 
 -- ---- b, b + 1, .., and zeros
 
--- the value for a site stands at its number less 1
-pub look-site : (f : ℕ → ℕ) (n x : ℕ) → Site n x → look (map f (sites n)) (x - 1) ≡ f x
-look-site f n x p = look-from f 1 n (x - 1) (omega arith) ∙ ap f (omega arith)
-
 -- ---- the sites, once each
 
 pub sites_once : (n x : ℕ) → Site n x → count (sites n) x ≡ 1

@@ -29,13 +29,6 @@ linked-without (a ∷ ls) (suc j) zero l d = relabel-both (label (without j ls) 
 linked-without (a ∷ ls) (suc j) (suc i) l d =
     ap (relabel (label (without j ls) a.0) (label (without j ls) a.1)) (linked-without ls j i (omega arith) (λ e. d (ap suc e)))
 
--- past the last link there is none to leave out
-pub without-none : (ls : Links) (j : ℕ) → length ls ≤ j → without j ls ≡ ls
-unfolding without
-without-none [] j p = refl
-without-none (a ∷ ls) zero p = absurd (omega arith)
-without-none (a ∷ ls) (suc j) p = ap (λ r. a ∷ r) (without-none ls j (omega arith))
-
 -- ---- the two sides of a link
 
 module _ (ls : Links) where

@@ -7,7 +7,7 @@ use Rattle.model.specs.Flows.{Links, Tree, Multiflow, Fits, total}
 use Rattle.model.specs.Trimming.{balanced}
 use Rattle.model.specs.Parts.{pair_list_of_parts}
 use Rattle.model.specs.declared.Pair.{Pair}
-use Rattle.theory_trees.specs.Greatest.{balanced_is_greatest}
+use Rattle.theory_trees.proofs.Greatest.{balanced_is_greatest}
 use Rattle.theory_walk.specs.PartsTheorem.{pair_list_of_parts_is_sound, pair_list_of_parts_has_the_greatest_total}
 use Rattle.theory_verdicts.specs.HandPlan.{largest_total}
 

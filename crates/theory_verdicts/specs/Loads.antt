@@ -13,31 +13,3 @@ pub record Overloaded (ls : Links) (c : ℕ → ℕ) (es : List Pair) : Type 0 w
   pub link : ℕ
   pub inside : link < length ls
   pub over : 2 * c link < load ls es link
-
-module _ (ls : Links) (c : ℕ → ℕ) (es : List Pair) where
-  pub an_overloaded_link_counts : (overloaded ls c es ≢ 0) ↔ Overloaded ls c es
-  unfolding overloaded
-  an_overloaded_link_counts = (
-    λ d. let w = sum-some (length ls) (λ j. less (2 * c j) (load ls es j)) (omega arith) in
-        record {
-          link = w.0;
-          inside = w.1;
-          over = cases (dec_lt (2 * c w.0) (load ls es w.0)) (λ l. l) (λ l. absurd (omega (
-            arith,
-            w.2,
-            less_none l,
-          )));
-        },
-    λ o z. omega (arith, sum_ge (length ls) o.link (λ j. less (2 * c j) (load ls es j)) o.inside, less_one o.over),
-  )
-
-  -- where none does, the plan fits, in halves
-  pub without_an_overloaded_link_it_fits : overloaded ls c es ≡ 0 → Fits ls 2 c es
-  without_an_overloaded_link_it_fits z j l = cases (dec_lt (2 * c j) (load ls es j))
-      (λ o. absurd (an_overloaded_link_counts.1 (record { link = j; inside = l; over = o }) z))
-      (λ o. omega arith)
-
-  pub what_fits_overloads_nothing : Fits ls 2 c es → overloaded ls c es ≡ 0
-  what_fits_overloads_nothing f = same? (overloaded ls c es) 0
-      (λ z. z)
-      (λ d. let o = an_overloaded_link_counts.0 d in absurd (omega (arith, o.over, f o.link o.inside)))

@@ -1,5 +1,4 @@
 pub mod Sound
-pub mod Steps
 pub mod Bounds
 pub mod Halves
 pub mod Match

@@ -20,13 +20,6 @@ lowest-some f c (suc m) h = same? (f c) 1
     let r = lowest-some f (suc c) m (λ z. h (e ∙ z)) in rw e (omega (arith, r.0), omega (arith, r.1), r.2))
     (λ d. rw (pick_other d (lowest_inner f (suc c) m) c) (omega arith, omega arith, d))
 
-pub lowest_least : (f : ℕ → ℕ) (c m x : ℕ) → c ≤ x → x < c + m → f x ≢ 1 → lowest_inner f c m ≤ x
-unfolding lowest_inner
-lowest_least f c zero x a b d = absurd (omega arith)
-lowest_least f c (suc m) x a b d = pick_cases (λ r. r ≤ x) (f c) 1 (lowest_inner f (suc c) m) c
-    (λ e. same? c x (λ z. absurd (d (rw z at e))) (λ z. lowest_least f (suc c) m x (omega arith) (omega arith) d))
-    (λ e. a)
-
 -- where the same sites are inner, the lowest inner site is the same
 pub lowest-same : (f g : ℕ → ℕ) (c m : ℕ) → ((x : ℕ) → c ≤ x → x < c + m → (f x ≡ 1) ↔ (g x ≡ 1)) → lowest_inner f c m ≡ lowest_inner g c m
 unfolding lowest_inner

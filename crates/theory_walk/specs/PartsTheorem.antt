@@ -17,7 +17,7 @@ use Rattle.model.specs.declared.Pair.{Pair}
 use Rattle.theory_trees.specs.Sites.{sites-site}
 use Rattle.theory_trees.specs.TerminalCuts.{cut_sizes_sum_to_the_terminals}
 use Rattle.theory_trees.specs.FreePairs.{free_iff_route}
-use Rattle.theory_trees.specs.Bounds.{a_full_multiflow_has_the_greatest_total}
+use Rattle.theory_trees.proofs.Bounds.{a_full_multiflow_has_the_greatest_total}
 use Rattle.theory_walk.specs.Sound.{Sound, Ascending}
 use Rattle.theory_walk.specs.Order.{sound_same, same-each, ordered_same, ordered-lower, ordered_ascending}
 use Rattle.theory_walk.specs.Evens.{Even, EvenPair, even_everywhere, root_even}

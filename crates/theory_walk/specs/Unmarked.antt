@@ -16,7 +16,8 @@ use Rattle.model.specs.Parts.{single, region, member, home, lowest, root, pairs_
 use Rattle.model.specs.declared.Pair.{Pair}
 use Rattle.theory_trees.specs.Trees.{all_agree, at_first, at_second, at-le, loopless}
 use Rattle.theory_trees.specs.Sites.{sites_once, sites-site, at-site}
-use Rattle.theory_trees.specs.Leaves.{Outer, leaf_has_one_link, a_tree_of_leaves_has_two_sites}
+use Rattle.theory_trees.specs.Leaves.{Outer}
+use Rattle.theory_trees.proofs.Leaves.{leaf_has_one_link, a_tree_of_leaves_has_two_sites}
 use Rattle.theory_walk.specs.Lowest.{lowest-none, lowest-some, lowest-same}
 use Rattle.theory_walk.specs.Regions.{differ-one, member_in, member_inner, home-region, single-terminal, root_inner, position}
 

@@ -6,7 +6,8 @@ use Rattle.lists.specs.Sums.{is_same, is_one, is_le, product_one, differ_same, d
 use Rattle.model.specs.Flows.{Links, Joined, one, two}
 use Rattle.model.specs.Cuts.{kept}
 use Rattle.model.specs.Whole.{connects, piece}
-use Rattle.theory_trees.specs.Labels.{label-label, joined-label, label-joined}
+use Rattle.theory_trees.specs.Labels.{joined-label, label-joined}
+use Rattle.theory_trees.proofs.Labels.{label-label}
 use Rattle.theory_trees.specs.TerminalCuts.{kept-linked, kept_agree}
 
 module _ (ls : Links) (c owner : ℕ → ℕ) where

@@ -19,7 +19,7 @@ use Rattle.theory_trees.specs.Trees.{all_agree, side-link, separates_self, far-o
 use Rattle.theory_trees.specs.Sites.{sites_once, sites-site, sites-single, by_link}
 use Rattle.theory_whole.specs.Sums.{over_none, over_even, over_ge, over-two, over-links, sum_even, sum-zero}
 use Rattle.theory_whole.specs.Connected.{connects-one, piece-linked}
-use Rattle.theory_whole.specs.PlanLoads.{halved, plan_loads, halved_routes, halved-total}
+use Rattle.theory_whole.specs.PlanLoads.{halved}
 
 -- ---- tests
 
@@ -130,7 +130,7 @@ module _ {ls : Links} {n : ℕ} (T : Tree ls n) (terminal owner : ℕ → ℕ) (
       )
 
   -- the set sizes by the loads of a plan are at least twice its total
-  total_crosses : (es : List Pair) → Multiflow ls n terminal es → 2 * total es ≤ set_sizes ls n terminal (load ls es) owner
+  pub total_crosses : (es : List Pair) → Multiflow ls n terminal es → 2 * total es ≤ set_sizes ls n terminal (load ls es) owner
   unfolding total load
   total_crosses [] h = omega arith
   total_crosses (e ∷ es) h =
@@ -248,7 +248,7 @@ module _ {ls : Links} {n : ℕ} (T : Tree ls n) (terminal owner : ℕ → ℕ) (
           omega (arith, leaving-even p, sum-le (length ls) (λ j. d j * l j) (λ j. d j * c j) (λ j k. mul-le-mul_left (d j) (w.below j k)))
 
       -- the set sizes by the loads, and the odd pieces, are at most the set sizes
-      sizes-have-room : set_sizes ls n terminal l owner + odd_pieces ls n c owner ≤ set_sizes ls n terminal c owner
+      pub sizes-have-room : set_sizes ls n terminal l owner + odd_pieces ls n c owner ≤ set_sizes ls n terminal c owner
       unfolding odd_pieces leaving_piece pieces
       sizes-have-room =
           let m = length ls in
@@ -272,14 +272,3 @@ module _ {ls : Links} {n : ℕ} (T : Tree ls n) (terminal owner : ℕ → ℕ) (
             sum-add m (λ j. S j * l j) (λ j. P j * c j),
             sum-add m (λ j. S j * c j) (λ j. P j * l j),
           )
-
--- for any tree, any capacities, any end sets and any plan in whole circuits that fits
-pub no_sets_do_better : {ls : Links} {n : ℕ} → Tree ls n → (terminal c owner : ℕ → ℕ) → EndSets n terminal owner
-    → (es : List Pair) → WholePlan ls n terminal c es
-    → total es + odd_pieces ls n c owner ≤ set_sizes ls n terminal c owner
-no_sets_do_better {ls} {n} T terminal c owner E es w = omega (
-  arith,
-  halved-total es w.even,
-  total_crosses T terminal owner E (halved es) (halved_routes ls n terminal es w.routes),
-  sizes-have-room T terminal owner E c (plan_loads T terminal es w).0,
-)

@@ -24,12 +24,6 @@ pub put_other : (f : ℕ → ℕ) {x : ℕ} (y : ℕ) {z : ℕ} → z ≢ x → 
 unfolding put
 put_other f y {z} d = pick_other d y (f z)
 
--- a list that is written into is such an array
-pub look-set : (l : List ℕ) (x y : ℕ) → x < length l → (λ z. get_or (set l x y) z 0) ≡ put (λ z. get_or l z 0) x y
-look-set l x y h = fun_ext (λ z. same? z x
-    (λ e. rw e (get_or-set_same l x y 0 h ∙ sym (put_same (λ z. get_or l z 0) x y)))
-    (λ d. get_or-set_other l x z y 0 d ∙ sym (put_other (λ z. get_or l z 0) y d)))
-
 high_le : (A B k : ℕ) → highest A B k ≤ k
 unfolding highest
 high_le A B k = cases (dec_lt k A)

@@ -23,14 +23,6 @@ use Rattle.theory_whole.specs.Order.{Taken, taken-home}
 nonzero : (x y : ℕ) → x * y ≡ 1 → 1 ≤ y
 nonzero x y e = same? y 0 (λ z. absurd (omega (arith, rw z at e))) (λ z. omega arith)
 
--- what stands from v on stands in the list
-pub from-count : (us : List ℕ) (v x : ℕ) → count (from us v) x ≤ count us x
-unfolding from count
-from-count [] v x = omega arith
-from-count (u ∷ us) v x = same? u v
-    (λ e. rw (if_pos (ℕ_discrete u v) e) (omega arith))
-    (λ d. rw (if_neg (ℕ_discrete u v) d) (omega (arith, from-count us v x)))
-
 module _ (ls : Links) where
   upward-head : (u : ℕ) (us : List ℕ) (f : ℕ → ℕ) → upward ls (u ∷ us) u f ≡ sum_at ls u (λ j. unvisited ls (u ∷ us) j * f j)
   unfolding upward from

@@ -40,11 +40,6 @@ pub record Network (ls : Links) (n : ℕ) (terminal : ℕ → ℕ) (order : List
   pub every : (x : ℕ) → count order x ≡ count (sites n) x
   pub joint : (v : ℕ) → Site n v → terminal v ≢ 1 → 2 ≤ sum_at ls v (λ i. 1)
 
--- the elimination order will do
-pub by_elimination : {ls : Links} {n : ℕ} → Tree ls n → (terminal : ℕ → ℕ) → ((v : ℕ) → Site n v → terminal v ≢ 1 → 2 ≤ sum_at ls v (λ i. 1))
-    → Network ls n terminal (elimination ls n)
-by_elimination T terminal h = record { tree = T; inward = (elimination_is_inward T).inward; every = elimination_takes_only_sites T; joint = h }
-
 module _ {ls : Links} {n : ℕ} {terminal : ℕ → ℕ} {order : List ℕ} (N : Network ls n terminal order) where
   pub in_site : (x : ℕ) → 1 ≤ count order x → Site n x
   in_site x p = sites-site n x (omega (arith, N.every x))

@@ -9,7 +9,7 @@ use Rattle.lists.specs.Numbers.{look}
 use Rattle.model.specs.Edition.{largest}
 use Rattle.model.specs.Flows.{Tree, ends}
 use Rattle.model.specs.Trimming.{Greatest}
-use Rattle.theory_trees.specs.Greatest.{balanced_is_greatest, balanced_has_each_link, balanced-again}
+use Rattle.theory_trees.proofs.Greatest.{balanced_is_greatest, balanced_has_each_link, balanced-again}
 use Rattle.tree.specs.Offer.{links, offer}
 use Rattle.tree.specs.Links.{length-links}
 use Rattle.tree.specs.Accepted.{MarkedTree, a_tree_within_the_limits_is_accepted}

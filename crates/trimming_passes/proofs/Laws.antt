@@ -13,8 +13,8 @@ use Rattle.model.specs.Flows.{Links, at, sum_at}
 use Rattle.model.specs.Trimming.{cut_at, cut_site, cut_sites, balanced_along}
 use Rattle.lists.specs.Sums.{pick_same, pick_other, cases, same?}
 use Rattle.theory_trees.specs.Sites.{sum_at-same}
-use Rattle.theory_trees.specs.Cutting.{cut_at_stays}
-use Rattle.theory_trees.specs.Passes.{length-cut_sites}
+use Rattle.theory_trees.proofs.Cutting.{cut_at_stays}
+use Rattle.theory_trees.proofs.Passes.{length-cut_sites}
 use Rattle.tree.specs.Offer.{links}
 use Rattle.tree.specs.Links.{length-links}
 use Rattle.tree.specs.Places.{filled, filled-same, same_values}

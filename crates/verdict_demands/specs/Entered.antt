@@ -10,7 +10,7 @@ use Rattle.model.specs.Booking.{places_of, same}
 use Rattle.model.specs.declared.Pair.{Pair}
 use Rattle.model.specs.declared.Request.TheVariants.{Open}
 use Rattle.theory_walk.specs.Sound.{arises}
-use Rattle.theory_log.specs.Pairs.{same-is}
+use Rattle.theory_log.proofs.Pairs.{same-is}
 use Rattle.theory_verdicts.specs.HandPlan.{line_answer, entered, entries, account}
 use Rattle.theory_verdicts.specs.Accounts.{drawn}
 

@@ -22,10 +22,10 @@ use Rattle.theory_walk.specs.Sound.{Sound}
 use Rattle.theory_walk.specs.PartsTheorem.{pair_list_of_parts_lower_first, amounts_are_bounded}
 use Rattle.theory_verdicts.specs.HandPlan.{entries, account, overloaded, largest_total}
 use Rattle.theory_verdicts.specs.Accounts.{drawn}
-use Rattle.theory_verdicts.specs.Loads.{what_fits_overloads_nothing}
+use Rattle.theory_verdicts.proofs.Loads.{what_fits_overloads_nothing}
 use Rattle.theory_verdicts.specs.Largest.{NoneGreater, a_plan_has_the_largest_total_exactly_if_none_is_greater}
 use Rattle.text_writers.specs.Fields.{line}
-use Rattle.sheet.specs.Editions.{an_accepted_sheet_is_within_the_largest}
+use Rattle.sheet.proofs.Editions.{an_accepted_sheet_is_within_the_largest}
 use Rattle.sheet.specs.Sheet.{Network, accepted, read_sheet, edition_of}
 use Rattle.sheet.specs.SheetTheorem.{IsNetwork, an_accepted_sheet_is_a_tree}
 use Rattle.report.specs.Report.{lines, head_record, link_line, site_line, cut_line, pair_line, report_of, report, whole_report}
@@ -38,7 +38,7 @@ use Rattle.demands.specs.Records as written
 use Rattle.demands.specs.Names.{site-name-is-plain}
 use Rattle.log_requests.specs.Requests.{requests, is_end}
 use Rattle.log_requests.specs.Requests as read
-use Rattle.log_requests.specs.RequestLaws.{as_many_requests_as_lines}
+use Rattle.log_requests.proofs.RequestLaws.{as_many_requests_as_lines}
 use Rattle.verdicts.specs.Outcome.{verdict, judge_over, judge_read, judged}
 use Rattle.verdicts.specs.declared.Outcome.TheVariants.{Judged}
 use Rattle.verdict_demands.specs.Entered.{LowerFirst, places_are_few, no_pair_is_given_twice, entered-total, entered-load}

@@ -31,7 +31,8 @@ use Rattle.demands.specs.Printed.{site_named, site_found}
 use Rattle.demands.specs.Parsing.{Plain, decimal_read_back, decimal-plain}
 use Rattle.demands.specs.Names.{name_read_back, site-name-is-plain}
 use Rattle.log_lines.specs.LogLines.{amount_form, plan_letter}
-use Rattle.log_lines.specs.BookingLaws.{Asks, asks_makes_plan}
+use Rattle.log_lines.specs.BookingLaws.{Asks}
+use Rattle.log_lines.proofs.BookingLaws.{asks_makes_plan}
 use Rattle.log_requests.specs.Requests.{lines_from, request_at, requests, is_end}
 use Rattle.log_requests.specs.RequestLaws.{after-within, lines_end, lines_step, all_lines}
 use Rattle.log_requests.specs.TwoEnds.{Asking}

@@ -16,17 +16,19 @@ use Rattle.model.specs.declared.Request.TheVariants as request
 use Rattle.theory_log.specs.Logs.{line}
 use Rattle.theory_verdicts.specs.HandPlan.{line_answer}
 use Rattle.theory_verdicts.specs.Accounts.{drawn, answer_at}
-use Rattle.theory_verdicts.specs.Earlier.{EitherOrder, a-place-is-entered, what_is_entered_has_a_place, the_lower_first_are_the_same_in_either_order}
+use Rattle.theory_verdicts.specs.Earlier.{EitherOrder}
+use Rattle.theory_verdicts.proofs.Earlier.{a-place-is-entered, what_is_entered_has_a_place, the_lower_first_are_the_same_in_either_order}
 use Rattle.text_lines.specs.Lines.{line_at}
 use Rattle.sheet.specs.Sheet.{Network}
 use Rattle.log_lines.specs.LogLines.{plan_letter, plan_line}
-use Rattle.log_lines.specs.BookingLaws.{asks_makes_plan}
+use Rattle.log_lines.proofs.BookingLaws.{asks_makes_plan}
 use Rattle.log_lines.specs.FaultyPlanLines.{PlanFault, no_letter, wrong_count, bad_name, bare_name, bad_number, wrong_amount, Tells, a_plan_line_tells}
 use Rattle.log_lines.specs.FaultyPlanLines.{a_plan_line_is_a_fault_just_for_its_cause}
 use Rattle.log_lines.specs.declared.Line.{Line}
 use Rattle.log_lines.specs.declared.Line.TheVariants.{Booking, Fault}
 use Rattle.log_requests.specs.Requests.{lines, request_by, request_at, requests, is_end}
-use Rattle.log_requests.specs.RequestLaws.{unended_line, ended_line, what_a_line_asks, as_many_requests_as_lines}
+use Rattle.log_requests.specs.RequestLaws.{unended_line, ended_line}
+use Rattle.log_requests.proofs.RequestLaws.{what_a_line_asks, as_many_requests_as_lines}
 use Rattle.log_requests.specs.TwoEnds.{Asking, amount_of}
 use Rattle.log_requests.specs.TwoEnds as two
 

@@ -1,5 +1,3 @@
 pub mod Outcome
-pub mod OverNetwork
-pub mod Laws
 pub mod Causes
 pub mod Told

@@ -12,7 +12,7 @@ use Rattle.model.specs.Whole.{odd_pieces}
 use Rattle.model.specs.WholeLoads.{parent_of, above, upward, take_all, give_all, no_intervals, intervals, loading, link_load, whole_load, whole_owner, whole_loads}
 use Rattle.theory_trees.specs.Trees.{loopless}
 use Rattle.theory_whole.specs.Counting.{odd_at}
-use Rattle.theory_whole.specs.Circuits.{odd_pieces_are_counted_at_sites}
+use Rattle.theory_whole.proofs.Circuits.{odd_pieces_are_counted_at_sites}
 use Rattle.tree.specs.Accepted.{TreeWithin}
 use Rattle.tree.specs.Offer.{links}
 use Rattle.tree.specs.Links.{length-links}

@@ -15,7 +15,7 @@ use Rattle.model.specs.Flows.{Links, Site, one, two, at}
 use Rattle.model.specs.Trimming.{unvisited, Inward}
 use Rattle.model.specs.WholeLoads.{from, upward, parent_of, beyond}
 use Rattle.theory_trees.specs.Trees.{loopless, at_first, at_second, at-end}
-use Rattle.theory_whole.specs.Links.{from-count}
+use Rattle.theory_whole.proofs.Links.{from-count}
 use Rattle.tree.specs.Offer.{links}
 use Rattle.tree.specs.Links.{length-links, links-one, links-two}
 use Rattle.whole_parents.specs.Orders.{place_of, place-told, from-later}

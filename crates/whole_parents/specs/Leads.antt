@@ -9,7 +9,8 @@ use Rattle.model.specs.Flows.{Links, one, two, at}
 use Rattle.model.specs.Trimming.{unvisited, Inward}
 use Rattle.model.specs.WholeLoads.{from, upward, link_load}
 use Rattle.theory_whole.specs.Sums.{over_only}
-use Rattle.theory_whole.specs.Links.{Above, above, single, from-count, upward_out, all-links}
+use Rattle.theory_whole.specs.Links.{Above, above, single, upward_out, all-links}
+use Rattle.theory_whole.proofs.Links.{from-count}
 use Rattle.whole_parents.specs.Parents.{Leads}
 
 module _ (ls : Links) (loopless : (i : ℕ) → i < length ls → one ls i ≢ two ls i) (us : List ℕ) (inward : Inward ls us) where

@@ -1,7 +1,7 @@
 -- `exchange_networks` meets its contract: the lists are the networks taken apart, with room for the links.
 use borrow.Author.Rules.{rules}
 use Rattle.planner.specs.Taken.{room_for_the_links}
-use Rattle.exchanges.specs.Taken.{the_lists_are_taken}
+use Rattle.exchanges.proofs.Taken.{the_lists_are_taken}
 use Rattle.exchanges.proofs.exchange_networks.Statement.{statement}
 use Rattle.exchanges.proofs.exchange_networks.Tie as tie
 

@@ -10,7 +10,8 @@ use Rattle.lists.specs.Numbers.{look}
 use Rattle.lists.specs.Sums.{same?}
 use Rattle.model.specs.Flows.{Links}
 use Rattle.model.specs.Parts.{crossed, free_pair}
-use Rattle.theory_trees.specs.FreePairs.{free_parts, free_whole, outer_pairs_are_free}
+use Rattle.theory_trees.specs.FreePairs.{free_parts, free_whole}
+use Rattle.theory_trees.proofs.FreePairs.{outer_pairs_are_free}
 use Rattle.log_ends.proofs.free.Statement.{statement}
 use Rattle.log_ends.proofs.free.Tie as tie
 

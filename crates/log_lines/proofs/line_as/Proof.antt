@@ -9,7 +9,8 @@ use Rattle.model.specs.Limits.{AMOUNT}
 use Rattle.text_fields.specs.Fields.{fields, field}
 use Rattle.text_grammar.specs.Grammar.{checked, fault_of, size_of}
 use Rattle.log_lines.specs.LogLines.{amount_form, booking, line_as}
-use Rattle.log_lines.specs.BookingLaws.{IsFormed, judged_wrong, judged_right, ends_of_names, booking_of, booking_by_size}
+use Rattle.log_lines.specs.BookingLaws.{IsFormed, booking_of}
+use Rattle.log_lines.proofs.BookingLaws.{judged_wrong, judged_right, ends_of_names, booking_by_size}
 use Rattle.log_lines.proofs.line_as.Statement.{statement}
 use Rattle.log_lines.proofs.line_as.Tie as tie
 

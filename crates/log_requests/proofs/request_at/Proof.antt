@@ -6,7 +6,8 @@ use Rattle.sheet_names.specs.Names.{part, ranges}
 use Rattle.sheet_names.specs.declared.Found.{Found}
 use Rattle.sheet_names.specs.LookupLaws.{length-ranges}
 use Rattle.log_requests.specs.Requests.{between, request_by, request_at}
-use Rattle.log_requests.specs.RequestLaws.{Named, found_is_a_site}
+use Rattle.log_requests.specs.RequestLaws.{Named}
+use Rattle.log_requests.proofs.RequestLaws.{found_is_a_site}
 use Rattle.log_requests.proofs.request_at.Statement.{statement}
 use Rattle.log_requests.proofs.request_at.Tie as tie
 

@@ -16,7 +16,7 @@ use Rattle.sheet_names.specs.Names.{ranges}
 use Rattle.sheet_names.specs.LookupLaws.{length-ranges}
 use Rattle.model.specs.Booking.{Asked}
 use Rattle.log_requests.specs.Requests.{request_at}
-use Rattle.log_requests.specs.RequestLaws.{a_request_can_be_asked}
+use Rattle.log_requests.proofs.RequestLaws.{a_request_can_be_asked}
 use Rattle.logs.specs.Progress as along
 use Rattle.logs.proofs.answer_lines.Statement.{statement}
 use Rattle.logs.proofs.answer_lines.Tie as tie

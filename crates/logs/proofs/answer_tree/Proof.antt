@@ -8,7 +8,7 @@ use lib.ListN.{length, drop}
 use Rattle.lists.specs.Numbers.{look}
 use Rattle.model.specs.Booking.{answers}
 use Rattle.theory_trees.specs.Leaves.{Outer}
-use Rattle.theory_trees.specs.Ends.{unmarked_ends_are_outer}
+use Rattle.theory_trees.proofs.Ends.{unmarked_ends_are_outer}
 use Rattle.tree.specs.Offer.{links}
 use Rattle.tree.specs.Steps.{told}
 use Rattle.tree_links.specs.Chains.{offer-placed}

@@ -2,7 +2,7 @@
 use mathlib.Core.Path.{sym, ap, ◌∙◌}
 use borrow.Author.Rules.{rules}
 use Rattle.planner.specs.Taken.{accepted_is_listed}
-use Rattle.logs.specs.OverNetwork.{refused_is_told}
+use Rattle.logs.proofs.OverNetwork.{refused_is_told}
 use Rattle.logs.proofs.replay.Statement.{statement}
 use Rattle.logs.proofs.replay.Tie as tie
 

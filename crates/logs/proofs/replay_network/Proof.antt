@@ -6,9 +6,9 @@ use borrow.Author.Rules.{rules}
 use lib.ListN.{length, drop}
 use Rattle.planner.specs.Taken.{room_for_the_links, the_lists_are_taken_apart, the_marks_are_taken_apart, the_network_is_a_marked_tree}
 use Rattle.log_requests.specs.Requests.{lines}
-use Rattle.logs.specs.OverNetwork.{too_many_bytes, too_many_lines, too_few_places, every_line_answered}
+use Rattle.logs.proofs.OverNetwork.{too_many_bytes, too_many_lines, too_few_places, every_line_answered}
 use Rattle.log_names.specs.Names.{the_names_are_distinct}
-use Rattle.logs.specs.OverNetwork.{the_answers_are_the_networks}
+use Rattle.logs.proofs.OverNetwork.{the_answers_are_the_networks}
 use Rattle.logs.specs.declared.Outcome.TheVariants.{Answered}
 use Rattle.logs.proofs.replay_network.Statement.{statement}
 use Rattle.logs.proofs.replay_network.Tie as tie

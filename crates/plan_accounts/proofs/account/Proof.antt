@@ -15,7 +15,7 @@ use Rattle.text_lines.specs.LineLaws.{a_line_is_on_the_sheet, no_line_is_on_the_
 use Rattle.sheet_names.specs.Names.{ranges}
 use Rattle.sheet_names.specs.LookupLaws.{length-ranges}
 use Rattle.log_requests.specs.Requests.{request_at}
-use Rattle.log_requests.specs.RequestLaws.{a_request_can_be_asked}
+use Rattle.log_requests.proofs.RequestLaws.{a_request_can_be_asked}
 use Rattle.plan_accounts.specs.Progress as along
 use Rattle.plan_accounts.proofs.account.Statement.{statement}
 use Rattle.plan_accounts.proofs.account.Tie as tie

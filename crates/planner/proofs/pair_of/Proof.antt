@@ -1,7 +1,8 @@
 -- `pair_of` meets its contract: no pair for capacity 0, else one.
 use mathlib.Core.Path.{refl}
 use borrow.Author.Rules.{rules}
-use Rattle.theory_link.specs.TwoSites.{no_pair_lem, one-pair}
+use Rattle.theory_link.specs.TwoSites.{one-pair}
+use Rattle.theory_link.proofs.TwoSites.{no_pair_lem}
 use Rattle.pairing_walk.specs.Visits.{listing}
 use Rattle.planner.proofs.pair_of.Statement.{statement}
 use Rattle.planner.proofs.pair_of.Tie as tie

@@ -3,7 +3,7 @@ use mathlib.Core.Path.{sym, ap, ◌∙◌}
 use native.Mathlib.Omega.{arith}
 use borrow.Author.Rules.{rules}
 use Rattle.planner.specs.Taken.{accepted_is_listed}
-use Rattle.exchanges.specs.Taken.{refusal_is_read}
+use Rattle.exchanges.proofs.Taken.{refusal_is_read}
 use Rattle.text_writers.specs.Writing.{nothing}
 use Rattle.region_report.specs.Laws.{no_lines_of_a_refused_sheet}
 use Rattle.region_report.proofs.write_links.Statement.{statement}

@@ -4,7 +4,7 @@ use mathlib.Core.Path.{◌≡◌, sym, ◌∙◌}
 use Rattle.model.specs.Edition.{edition2}
 use Rattle.text_lines.specs.Lines.{line_at}
 use Rattle.sheet_kinds.specs.LineKinds.{fields, is_heading}
-use Rattle.sheet.specs.Editions.{headed_as_edition_2, not_headed_as_edition_2}
+use Rattle.sheet.proofs.Editions.{headed_as_edition_2, not_headed_as_edition_2}
 use borrow.Author.Rules.{rules}
 use Rattle.sheet.proofs.edition_of.Statement.{statement}
 use Rattle.sheet.proofs.edition_of.Tie as tie

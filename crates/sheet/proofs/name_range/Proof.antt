@@ -7,7 +7,7 @@ use Rattle.model.specs.Edition.{editions}
 use Rattle.model.specs.declared.Edition.{Edition}
 use Rattle.sheet.specs.Sheet.{read_as, read_sheet, name_range}
 use Rattle.sheet.specs.Reading.{reading}
-use Rattle.sheet.specs.Editions.{of_the_edition}
+use Rattle.sheet.proofs.Editions.{of_the_edition}
 use Rattle.sheet.specs.declared.Reading.{Reading}
 use Rattle.sheet.specs.NameLaws.{no_site_zero, no_site_above, range_by_lists}
 use native.Mathlib.Omega.{arith}

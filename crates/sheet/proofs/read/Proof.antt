@@ -2,7 +2,7 @@
 use Prim.Native.Nat.{◌≤◌}
 use native.Mathlib.Omega.{arith}
 use Rattle.model.specs.Limits.{SITES}
-use Rattle.sheet.specs.Editions.{of_the_edition}
+use Rattle.sheet.proofs.Editions.{of_the_edition}
 use borrow.Author.Rules.{rules}
 use Rattle.sheet.proofs.read.Statement.{statement}
 use Rattle.sheet.proofs.read.Tie as tie

@@ -2,7 +2,7 @@
 use mathlib.Core.Path.{sym, ap, ◌∙◌}
 use borrow.Author.Rules.{rules}
 use Rattle.planner.specs.Taken.{accepted_is_listed}
-use Rattle.sides.specs.OverNetwork.{refused_is_shown}
+use Rattle.sides.proofs.OverNetwork.{refused_is_shown}
 use Rattle.sides.proofs.first_size.Statement.{statement}
 use Rattle.sides.proofs.first_size.Tie as tie
 

@@ -3,7 +3,7 @@ use mathlib.Core.Path.{ap, ◌∙◌}
 use native.Mathlib.Nat.{zero-add}
 use borrow.Author.Rules.{rules}
 use lib.Dec.{leb}
-use Rattle.spans.specs.Ready.{a_report_fits_its_room}
+use Rattle.spans.proofs.Ready.{a_report_fits_its_room}
 use Rattle.spans.proofs.fits.Statement.{statement}
 use Rattle.spans.proofs.fits.Tie as tie
 

@@ -7,8 +7,9 @@ use lib.ListN.{length, take, length-take}
 use borrow.Author.Rules.{rules}
 use Rattle.trimming.specs.Outcome.{capacities}
 use Rattle.trimming.specs.Promise.{capacities_keep_the_promise}
-use Rattle.spans.specs.Ready.{total_by, the_front_is_worked_out, the_sum_is_the_largest_total, the_low_tree, the_high_tree, few_firsts}
-use Rattle.spans.specs.Ready.{the_lists_can_be_written, they_are_within_a_report, the_span_is_delivered}
+use Rattle.spans.specs.Ready.{total_by}
+use Rattle.spans.proofs.Ready.{the_front_is_worked_out, the_sum_is_the_largest_total, the_low_tree, the_high_tree, few_firsts}
+use Rattle.spans.proofs.Ready.{the_lists_can_be_written, they_are_within_a_report, the_span_is_delivered}
 use Rattle.spans.proofs.span_lists.Statement.{statement}
 use Rattle.spans.proofs.span_lists.Tie as tie
 

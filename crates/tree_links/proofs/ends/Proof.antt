@@ -10,7 +10,7 @@ use Rattle.lists.specs.Numbers.{look}
 use Rattle.model.specs.Flows.{end_at, ends}
 use Rattle.lists.specs.Sums.{same?, cases}
 use Rattle.lists.specs.Places.{look_values, look-zeros}
-use Rattle.theory_trees.specs.Ends.{length-ends}
+use Rattle.theory_trees.proofs.Ends.{length-ends}
 use Rattle.tree.specs.Offer.{links}
 use Rattle.tree_links.proofs.ends.Statement.{statement}
 use Rattle.tree_links.proofs.ends.Tie as tie

@@ -9,7 +9,7 @@ use Rattle.lists.specs.Numbers.{look}
 use Rattle.model.specs.Flows.{ends}
 use Rattle.model.specs.Edition.{largest}
 use Rattle.model.specs.Trimming.{elimination}
-use Rattle.theory_trees.specs.Greatest.{balanced_has_each_link}
+use Rattle.theory_trees.proofs.Greatest.{balanced_has_each_link}
 use Rattle.tree.specs.Offer.{links, offer}
 use Rattle.tree.specs.Links.{length-links}
 use Rattle.tree.specs.declared.Offer.TheVariants.{Accepted}

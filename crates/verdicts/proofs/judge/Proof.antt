@@ -2,7 +2,7 @@
 use mathlib.Core.Path.{sym, ap, ◌∙◌}
 use borrow.Author.Rules.{rules}
 use Rattle.planner.specs.Taken.{accepted_is_listed}
-use Rattle.verdicts.specs.OverNetwork.{refused_is_told}
+use Rattle.verdicts.proofs.OverNetwork.{refused_is_told}
 use Rattle.verdicts.proofs.judge.Statement.{statement}
 use Rattle.verdicts.proofs.judge.Tie as tie
 

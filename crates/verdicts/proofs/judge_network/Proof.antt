@@ -3,7 +3,7 @@ use mathlib.Core.Path.{sym, ◌∙◌}
 use borrow.Author.Rules.{rules}
 use Rattle.planner.specs.Taken.{room_for_the_links, the_lists_are_taken_apart, the_marks_are_taken_apart, the_network_is_a_marked_tree}
 use Rattle.log_names.specs.Names.{the_names_are_distinct}
-use Rattle.verdicts.specs.OverNetwork.{too_many_bytes, too_many_lines, judged_by_its_lines, the_verdict_is_the_networks}
+use Rattle.verdicts.proofs.OverNetwork.{too_many_bytes, too_many_lines, judged_by_its_lines, the_verdict_is_the_networks}
 use Rattle.verdicts.proofs.judge_network.Statement.{statement}
 use Rattle.verdicts.proofs.judge_network.Tie as tie
 

@@ -10,7 +10,7 @@ use Rattle.lists.specs.Numbers.{look}
 use Rattle.model.specs.Limits.{SITES}
 use Rattle.model.specs.Flows.{ends}
 use Rattle.theory_trees.specs.Leaves.{Outer}
-use Rattle.theory_trees.specs.Ends.{unmarked_ends_are_outer}
+use Rattle.theory_trees.proofs.Ends.{unmarked_ends_are_outer}
 use Rattle.tree.specs.Offer.{links}
 use Rattle.tree.specs.Accepted.{TreeOf}
 use Rattle.tree.specs.Links.{length-links}
@@ -21,7 +21,7 @@ use Rattle.log_requests.specs.Requests.{requests}
 use Rattle.theory_verdicts.specs.HandPlan.{account}
 use Rattle.plan_accounts.specs.Progress.{Comes}
 use Rattle.verdicts.specs.declared.Outcome.TheVariants.{Judged}
-use Rattle.verdicts.specs.Laws.{a_fault_is_the_verdict, an_overload_is_the_verdict, the_total_is_the_verdict}
+use Rattle.verdicts.proofs.Laws.{a_fault_is_the_verdict, an_overload_is_the_verdict, the_total_is_the_verdict}
 use Rattle.verdicts.proofs.judge_tree.Statement.{statement}
 use Rattle.verdicts.proofs.judge_tree.Tie as tie
 

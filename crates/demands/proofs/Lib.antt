@@ -1,0 +1,6 @@
+pub mod Demands
+pub mod Example
+pub mod MetLaws
+pub mod ReadBack
+pub mod WholeDemands
+pub mod WholeMet

@@ -1,0 +1,3 @@
+pub mod BareLogLines
+pub mod BookingLaws
+pub mod FaultyPlanLines

@@ -1,0 +1,5 @@
+pub mod Judged
+pub mod Named
+pub mod Replayed
+pub mod Sides
+pub mod Unpacked

@@ -1,0 +1,4 @@
+pub mod Accepted
+pub mod Example
+pub mod ShuffledPrinted
+pub mod ShuffledSheets

@@ -1,0 +1,75 @@
+-- Card 14 holds: two accepted sheets that hold the same records in different orders get reports headed `plan` that agree in the total, each link's trimmed
+use Rattle.std.specs.Prelude.{List, ◌≡◌, refl, ℕ, ◌-◌, ◌≤◌, length}
+use Rattle.std.proofs.Common.{sym, ap, ◌∙◌, arith}
+use Rattle.model.specs.Limits.{REPORT}
+use Rattle.model.specs.Edition.{editions}
+use Rattle.model.specs.Flows.{total}
+use Rattle.model.specs.declared.Edition.{Edition}
+use Rattle.model.specs.declared.Sizing.TheVariants.{Reserved}
+use Rattle.text_records.specs.Records.{first_line}
+use Rattle.theory_shuffled.specs.ShuffledLaws.{shuffled_covers, shuffled_is_covered}
+use Rattle.sheet_kinds.specs.LineKinds.{field}
+use Rattle.sheet.specs.Sheet.{Network, accepted, read_sheet, edition_of}
+use Rattle.sheet.proofs.Editions.{a_known_edition_is_of_networks}
+use Rattle.sheet.specs.SheetTheorem.{IsNetwork, an_accepted_sheet_is_a_tree}
+use Rattle.sheet_records.specs.SameRecords.{SameRecord, SameRecords}
+use Rattle.sheet_records.proofs.RecordLaws.{record_turned}
+use Rattle.sheet_records.specs.LinesRead.{an_accepted_sheet_holds_its_records}
+use Rattle.report.specs.Report.{decimal, report_of, report, whole_report}
+use Rattle.planner.specs.Outcome.{number, Reporter, planned, planned_whole, answered_by, answered, answered_whole}
+use Rattle.planner.specs.Figures.{Figures, halves, wholes, pairs_by, plan_showing, Showable, the_report_shows_halves}
+use Rattle.planner.specs.Figures.{the_whole_report_shows_wholes, halves_can_be_shown}
+use Rattle.planner.specs.WholeFigures.{wholes_can_be_shown}
+use Rattle.demands.specs.Printed.{bytes_told, bytes_printed}
+use Rattle.demands.specs.Records.{first-line}
+use Rattle.demands.specs.Names.{site-name-is-plain}
+use Rattle.demands.specs.Outcomes.{the_report_is_told, report-answered, the_front_is_printed}
+use Rattle.demands.proofs.Demands.{zero_is_told_exactly_for_a_full_report, a_report_fits_65536_bytes}
+use Rattle.demands.proofs.WholeDemands.{a_whole_report_fits_65536_bytes}
+use Rattle.shuffled.specs.SameReports.{SameTotal, SameReports}
+use Rattle.shuffled.specs.Networks.{Among, covered-is-among, among-is-there}
+use Rattle.shuffled.specs.Agree.{the_halves_agree, the_whole_totals_agree}
+use Rattle.shuffled.specs.Lines.{link_lines_are_shuffled, site_lines_are_shuffled, set_lines_are_shuffled}
+use Rattle.shuffled.specs.ShuffledSheets.{the_reports_agree, the_whole_reports_agree}
+
+module _ (known : List Edition) (s t b d : List ℕ) (network : (edition_of known s).sizing ≡ Reserved) (network-other : (edition_of known t).sizing ≡ Reserved)
+    (same : SameRecords s t) where
+  pub shuffled_sheets_get_the_same_report : number (planned known s b).outcome ≡ 0 → number (planned known t d).outcome ≡ 0
+      → SameReports (bytes_told (planned known s b)) (bytes_told (planned known t d))
+  shuffled_sheets_get_the_same_report success success-other =
+      let h = (zero_is_told_exactly_for_a_full_report report known s b).0 success in
+      let k = (zero_is_told_exactly_for_a_full_report report known t d).0 success-other in
+      rw (the_report_is_told report known s b h.0 h.1 success, the_report_is_told report known t d k.0 k.1 success-other)
+      (the_reports_agree known s t network network-other h.0 k.0 h.1 k.1 same)
+
+  pub shuffled_sheets_get_the_same_whole_total : number (planned_whole known s b).outcome ≡ 0 → number (planned_whole known t d).outcome ≡ 0
+      → SameTotal (bytes_told (planned_whole known s b)) (bytes_told (planned_whole known t d))
+  shuffled_sheets_get_the_same_whole_total success success-other =
+      let h = (zero_is_told_exactly_for_a_full_report whole_report known s b).0 success in
+      let k = (zero_is_told_exactly_for_a_full_report whole_report known t d).0 success-other in
+      rw (the_report_is_told whole_report known s b h.0 h.1 success, the_report_is_told whole_report known t d k.0 k.1 success-other)
+      (the_whole_reports_agree known s t network network-other h.0 k.0 h.1 k.1 same)
+
+module _ (s t b d : List ℕ) (net other : Network) (read : read_sheet editions s ≡ accepted net) (read-other : read_sheet editions t ≡ accepted other)
+    (room : REPORT ≤ length b) (room-other : REPORT ≤ length d) (same : SameRecords s t) where
+  -- the bytes printed for a sheet are its report
+  printed : (text : Reporter) (s b : List ℕ) (net : Network) → read_sheet editions s ≡ accepted net → length (text s net) ≤ REPORT → REPORT ≤ length b
+      → bytes_printed (answered_by text editions s b) ≡ text s net
+  printed text s b net read fits room = ap bytes_printed (report-answered text editions s b net read (omega arith)) ∙ the_front_is_printed b (text s net)
+
+  pub the_program_prints_the_same_for_shuffled_sheets : SameReports (bytes_printed (answered editions s b)) (bytes_printed (answered editions t d))
+  the_program_prints_the_same_for_shuffled_sheets =
+      rw (
+        printed report s b net read (a_report_fits_65536_bytes s net read) room,
+        printed report t d other read-other (a_report_fits_65536_bytes t other read-other) room-other,
+      )
+      (the_reports_agree editions s t (a_known_edition_is_of_networks s) (a_known_edition_is_of_networks t) net other read read-other same)
+
+  pub the_whole_program_prints_the_same_total_for_shuffled_sheets :
+      SameTotal (bytes_printed (answered_whole editions s b)) (bytes_printed (answered_whole editions t d))
+  the_whole_program_prints_the_same_total_for_shuffled_sheets =
+      rw (
+        printed whole_report s b net read (a_whole_report_fits_65536_bytes s net read) room,
+        printed whole_report t d other read-other (a_whole_report_fits_65536_bytes t other read-other) room-other,
+      )
+      (the_whole_reports_agree editions s t (a_known_edition_is_of_networks s) (a_known_edition_is_of_networks t) net other read read-other same)

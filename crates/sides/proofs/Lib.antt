@@ -1,0 +1,5 @@
+pub mod Agree
+pub mod OverNetwork
+pub mod SideLaws
+pub mod Small
+pub mod Told

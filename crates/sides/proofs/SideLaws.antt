@@ -1,0 +1,46 @@
+-- The names of an accepted sheet are different, so that two of them mean the link that joins their sites, where one of these may be far, and no other; and what
+use Rattle.std.specs.Prelude.{List, ◌⊎◌, ◌≡◌, ℕ, ◌≤◌, ◌<◌, length}
+use Rattle.std.proofs.Common.{inl, inr, sym, ◌∙◌, arith}
+use Rattle.std.proofs.Math.Logic.{⊎_swap}
+use Rattle.std.proofs.Math.Path.{refl}
+use Rattle.std.proofs.Math.Decide.{dec_lt}
+use borrow.Author.Tests.{le-leb, lt-leb, lt-ltb, le-ltb}
+use Rattle.lists.specs.Numbers.{look}
+use Rattle.lists.specs.Sums.{cases}
+use Rattle.model.specs.Flows.{Site}
+use Rattle.model.specs.declared.Edition.{Edition}
+use Rattle.text_fields.specs.Fields.{capitals}
+use Rattle.sheet.specs.Sheet.{Network, refused, accepted, read_sheet}
+use Rattle.theory_regions.specs.Regions.{first_size, given}
+use Rattle.theory_regions.specs.JoinedTree.{Border, Bordered}
+use Rattle.theory_regions.specs.Sharing.{Named}
+use Rattle.theory_regions.specs.Meeting.{link-sites}
+use Rattle.theory_regions.specs.FarSites.{lone_iff}
+use Rattle.theory_regions.specs.Again.{trimmed_again_has_each_link}
+use Rattle.exchanges.specs.Shared.{region_of, site_name}
+use Rattle.exchanges.specs.SharedLaws.{the_network_is_named, a_look_up_finds_the_site_of_a_name}
+use Rattle.sides.specs.Outcome.{site_of, link_named, show_over, show_read, first_shown, refusal, delivered, answer_over, answer_read, answered}
+use Rattle.sides.specs.Causes.{MayShare, AcceptedSide}
+use Rattle.side_links.specs.LinkLaws.{a_link_that_is_found_joins_them, a_link_between_them_is_found}
+use Rattle.sides.specs.declared.First.TheVariants.{Shown}
+use Rattle.sides.specs.declared.First.TheVariants as first
+use Rattle.sides.specs.SideLaws.{no_link_is_meant}
+
+module _ (known : List Edition) (s name name' : List ℕ) where
+  pub a_sheet_refused_shows_nothing : (k line : ℕ) → read_sheet known s ≡ refused k line → first_shown known s name name' ≡ first.Refused k line
+  unfolding first_shown show_read
+  a_sheet_refused_shows_nothing k line e = rw e refl
+
+  pub a_sheet_refused_is_given_nothing : (told : ℕ) (l : List ℕ) (k line : ℕ) → read_sheet known s ≡ refused k line
+      → answered known s name name' told l ≡ refusal k line l
+  unfolding answered answer_read
+  a_sheet_refused_is_given_nothing told l k line e = rw e refl
+
+  module _ (net : Network) (e : read_sheet known s ≡ accepted net) (none : (p : Border) → ¬ (MayShare s net name name' p)) where
+    pub without-a-link-nothing-is-shown : first_shown known s name name' ≡ first.Refused 18 0
+    unfolding first_shown show_read show_over
+    without-a-link-nothing-is-shown = rw (e, le-ltb _ _ (no_link_is_meant s net (the_network_is_named known s net e) name name' none)) refl
+
+    pub without-a-link-nothing-is-given : (told : ℕ) (l : List ℕ) → answered known s name name' told l ≡ refusal 18 0 l
+    unfolding answered answer_read answer_over
+    without-a-link-nothing-is-given told l = rw (e, le-ltb _ _ (no_link_is_meant s net (the_network_is_named known s net e) name name' none)) refl

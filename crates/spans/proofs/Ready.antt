@@ -1,0 +1,227 @@
+-- What stands ready on the way to the report of a range sheet: the networks of an accepted sheet with its low and with its high sizes, as lists and taken
+use Rattle.std.specs.Prelude.{◌≡◌, true, List, map, ◌++◌, leb, take}
+use Rattle.std.proofs.Math.Path.{refl, sym, ap}
+use Rattle.std.proofs.Common.{subst, ◌∙◌, le-leb}
+use Prim.Native.Nat.{ℕ, suc, ◌+◌, ◌*◌, ◌≤◌, ◌<◌}
+use native.Mathlib.Omega.{arith}
+use Rattle.std.proofs.Math.ListN.{length, length-map, get_or-map}
+use Rattle.lists.specs.Numbers.{look}
+use Rattle.lists.specs.Sums.{contradiction}
+use Rattle.model.specs.Edition.{largest, ranges_low, ranges_high}
+use Rattle.model.specs.Flows.{one, two, ends, total, at_terminals}
+use Rattle.model.specs.Limits.{LINKS, REPORT, SITES, SIZE}
+use Rattle.model.specs.Parts.{pair_list_of_parts}
+use Rattle.model.specs.Trimming.{balanced}
+use Rattle.model.specs.declared.Edition.{Edition}
+use Rattle.theory_trees.proofs.Greatest.{balanced_is_greatest, balanced_has_each_link}
+use Rattle.theory_ranges.specs.Ranges.{the_largest_total_is_the_sum_at_the_terminals}
+use Rattle.theory_regions.specs.Regions.{own}
+use Rattle.tree.specs.Accepted.{MarkedTree}
+use Rattle.tree.specs.Offer.{links}
+use Rattle.trimming.specs.Outcome.{capacities}
+use Rattle.region_sizes.specs.Chart.{Charted}
+use Rattle.region_sizes.specs.Laws.{the_front_is_trimmed, without-a-far-site}
+use Rattle.region_sizes.specs.declared.Chart.{Chart}
+use Rattle.text_fields.specs.FieldLaws.{name-length}
+use Rattle.sheet.specs.Ranges.{Ranged, ReadAlike}
+use Rattle.sheet.proofs.Ranges.{a_range_sheet_is_read_alike}
+use Rattle.sheet.specs.Reading.{lists, reading}
+use Rattle.sheet.specs.Sheet.{Network, ends_of, Read, refused, accepted, read_as}
+use Rattle.sheet.specs.SheetTheorem.{IsNetwork, an_accepted_sheet_is_a_tree}
+use Rattle.sheet.specs.declared.Answer.TheVariants as answered
+use Rattle.sheet.specs.declared.Lists.{Lists}
+use Rattle.report.specs.Length.{SmallSpan, a_small_span_has_a_small_report}
+use Rattle.report.specs.Span.{trimmed_sizes, largest_total, span_of, span_text, span_report}
+use Rattle.report.specs.SpanShown.{span_by, Ranges}
+use Rattle.planner.specs.Figures.{halves, halves_can_be_shown}
+use Rattle.planner.specs.Outcome.{deliver}
+use Rattle.planner.specs.Shows.{starts, stops, names}
+use Rattle.planner.specs.Small.{name-or-nothing, few_links, total-shown-within}
+use Rattle.planner.specs.Taken.{padded-length, padded-front, links-again}
+use Rattle.planner.specs.Works.{named_site}
+use Rattle.planner.specs.declared.Outcome.TheVariants.{Refused}
+use Rattle.spans.specs.Outcome.{network_of, span_read, spanned}
+use Rattle.spans.specs.Ready.{Apart, Listed, m, n, total_by, within_the_largest}
+
+-- an accepted sheet's lists
+pub accepted_is_listed : (s : List ℕ) → (reading (read_as ranges_low s)).answer ≡ answered.Accepted
+    → Listed s (reading (read_as ranges_low s)).network (reading (read_as ranges_high s)).network
+unfolding reading
+accepted_is_listed s e = by (read_as ranges_low s) (read_as ranges_high s) refl refl (a_range_sheet_is_read_alike s) e
+  where
+    by : (v w : Read) → read_as ranges_low s ≡ v → read_as ranges_high s ≡ w → ReadAlike v w → (reading v).answer ≡ answered.Accepted
+        → Listed s (reading v).network (reading w).network
+    by (refused n k) w p q h e = contradiction cc
+    by (accepted low) w p q h e =
+        rw h.1 (record { lower = low; upper = h.0; read_low = p; read_high = q ∙ h.1; ranged = h.2; low-listed = refl; high-listed = refl })
+
+-- a refused sheet is refused with the same number and line, and the buffer stays
+pub refused_is_told : (s b : List ℕ) (n k : ℕ) → (reading (read_as ranges_low s)).answer ≡ answered.Refused n k
+    → spanned s b ≡ record { outcome = Refused n k; buffer = b }
+unfolding reading spanned span_read
+refused_is_told s b n k e = by (read_as ranges_low s) e
+  where
+    by : (r : Read) → (reading r).answer ≡ answered.Refused n k → span_read s b r (read_as ranges_high s) ≡ record { outcome = Refused n k; buffer = b }
+    by (refused m l) e = let p : m ≡ n = cc in let q : l ≡ k = cc in rw (p, q)
+    by (accepted net) e = contradiction cc
+
+module _ {n : ℕ} {one two marks c : List ℕ} (w : MarkedTree largest n one two marks c) {chart : Chart} (charted : Charted n one two marks chart) where
+  -- by the chart of a tree its trimmed sizes stand at the front of a list
+  pub the_front_is_worked_out : (rest list : List ℕ) → list ≡ balanced (links one two) n (look chart.ends) c ++ rest
+      → take (length one) list ≡ capacities n one two marks c
+  unfolding capacities
+  the_front_is_worked_out rest list e =
+      the_front_is_trimmed w.within (look chart.ends) rest list e ∙ ap (λ (t : ℕ → ℕ). balanced (links one two) n t c) charted.ended
+
+  -- and their sum over all ends is the largest total
+  pub the_sum_is_the_largest_total : at_terminals (links one two) n (own (look chart.ends) 0) (look (balanced (links one two) n (look chart.ends) c))
+      ≡ total_by n one two marks c
+  unfolding total_by capacities
+  the_sum_is_the_largest_total =
+      without-a-far-site (links one two) n (look chart.ends) (look (balanced (links one two) n (look chart.ends) c))
+      ∙ ap (λ (t : ℕ → ℕ). at_terminals (links one two) n t (look (balanced (links one two) n t c))) charted.ended
+      ∙ sym (the_largest_total_is_the_sum_at_the_terminals w.within.tree (look (ends (links one two) n marks)) c)
+
+-- the two networks of a range sheet have the same sites and links
+pub the_two_networks : (s : List ℕ) (low high : Network) → read_as ranges_low s ≡ accepted low → read_as ranges_high s ≡ accepted high → Ranged low high
+the_two_networks s low high p q =
+    let h = rw (p, q) at (a_range_sheet_is_read_alike s) in
+    subst (Ranged low) (sym (same-network high h.0 h.1)) h.2
+  where
+    same-network : (a b : Network) → accepted a ≡ accepted b → a ≡ b
+    same-network a b e = cc
+
+module _ {s : List ℕ} {net : Network} (N : IsNetwork largest s net) where
+  trimmed-within : (j : ℕ) → j < length net.links → look (trimmed_sizes net) j ≤ SIZE
+  unfolding trimmed_sizes
+  trimmed-within j l =
+      omega (arith, (balanced_is_greatest N.tree (look (ends_of net)) net.capacities).below j l, N.sizes j (omega (arith, N.capacities)))
+
+  total-within : largest_total net ≤ 2 * (LINKS * SIZE)
+  unfolding largest_total trimmed_sizes
+  total-within = total-shown-within N (halves net) (halves_can_be_shown net N.tree)
+
+module _ (s : List ℕ) (low high : Network) (L : IsNetwork largest s low) (H : IsNetwork largest s high) (same : high.links ≡ low.links) where
+  span_is_small : SmallSpan (span_of s low high)
+  unfolding span_of
+  span_is_small =
+      let all = length-map low.links (λ l. l.0) in
+      let as_many = ap length same in
+      record {
+        name = name-or-nothing L (λ f. length f ≤ 12) (λ f e. (name-length f e).1) (omega arith);
+        links_few = omega (arith, all, few_links L);
+        low = λ j l. L.sizes j (omega (arith, all, L.capacities));
+        high = λ j l. H.sizes j (omega (arith, all, as_many, H.capacities));
+        trimmed-low = λ j l. trimmed-within L j (omega (arith, all));
+        trimmed-high = λ j l. trimmed-within H j (omega (arith, all, as_many));
+        least_small = total-within L;
+        greatest_small = total-within H;
+      }
+
+-- the report of every accepted range sheet fits REPORT bytes
+pub a_span_report_is_small : (s : List ℕ) (low high : Network) → read_as ranges_low s ≡ accepted low → read_as ranges_high s ≡ accepted high
+    → length (span_report s low high) ≤ REPORT
+unfolding span_report
+a_span_report_is_small s low high p q =
+    a_small_span_has_a_small_report (span_of s low high) (span_is_small s low high (within_the_largest ranges_low s low (omega arith) (omega arith) p)
+    (within_the_largest ranges_high s high (omega arith) (omega arith) q) (the_two_networks s low high p q).links)
+
+module _ {s starting stopping : List ℕ} {n : ℕ} {one-sites two-sites marks low high : List ℕ}
+    (a : Apart s starting stopping n one-sites two-sites marks low high) where
+  lower_network : IsNetwork largest s a.lower
+  lower_network = within_the_largest ranges_low s a.lower (omega arith) (omega arith) a.read_low
+
+  upper_network : IsNetwork largest s a.upper
+  upper_network = within_the_largest ranges_high s a.upper (omega arith) (omega arith) a.read_high
+
+  the_links : links one-sites two-sites ≡ a.lower.links
+  the_links = rw (a.firsts, a.seconds) (links-again a.lower.links)
+
+  tree_with : (c : List ℕ) → length c ≡ length a.lower.links → ((j : ℕ) → j < length c → look c j ≤ SIZE)
+      → MarkedTree largest n one-sites two-sites marks c
+  tree_with c each small =
+      let N = lower_network in
+      let all = a.counted ∙ N.tree.links in
+      record {
+        within = record {
+          tree = rw (the_links, a.counted) N.tree;
+          few = rw a.counted N.few;
+          firsts = all ∙ ap suc (sym (ap length a.firsts ∙ length-map a.lower.links (λ l. l.0)));
+          seconds = all ∙ ap suc (sym (ap length a.seconds ∙ length-map a.lower.links (λ l. l.1)));
+          capacities = all ∙ ap suc (sym each);
+          limited = small;
+        };
+        marked = a.counted ∙ sym (ap length a.marked ∙ N.marks);
+      }
+
+  -- the low and the high sizes, each with the tree
+  pub the_low_tree : MarkedTree largest n one-sites two-sites marks low
+  the_low_tree = tree_with low (ap length a.lows ∙ lower_network.capacities) (rw a.lows lower_network.sizes)
+
+  pub the_high_tree : MarkedTree largest n one-sites two-sites marks high
+  the_high_tree =
+      tree_with high (ap length a.highs ∙ upper_network.capacities ∙ ap length a.ranged.links) (rw a.highs upper_network.sizes)
+
+  pub few_firsts : length one-sites ≤ SITES
+  few_firsts = omega (arith, the_low_tree.within.firsts, the_low_tree.within.few)
+
+  -- what trimming and the totals of the lists are
+  low-trimmed : capacities n one-sites two-sites marks low ≡ trimmed_sizes a.lower
+  unfolding capacities trimmed_sizes
+  low-trimmed = rw (the_links, a.counted, a.marked, a.lows)
+
+  high-trimmed : capacities n one-sites two-sites marks high ≡ trimmed_sizes a.upper
+  unfolding capacities trimmed_sizes
+  high-trimmed = rw (the_links, a.counted, a.marked, a.highs, a.ranged.links, a.ranged.names, a.ranged.marks)
+
+  low-total : total_by n one-sites two-sites marks low ≡ largest_total a.lower
+  unfolding total_by largest_total
+  low-total = rw (low-trimmed, the_links, a.counted, a.marked)
+
+  high-total : total_by n one-sites two-sites marks high ≡ largest_total a.upper
+  unfolding total_by largest_total
+  high-total = rw (high-trimmed, the_links, a.counted, a.marked, a.ranged.links, a.ranged.names, a.ranged.marks)
+
+  module _ (leasts greatests : List ℕ) (least greatest : ℕ)
+      (e : leasts ≡ capacities n one-sites two-sites marks low) (f : greatests ≡ capacities n one-sites two-sites marks high)
+      (g : least ≡ total_by n one-sites two-sites marks low) (h : greatest ≡ total_by n one-sites two-sites marks high) where
+    -- the lists show the span
+    pub the_lists_show_the_span : span_by s starting stopping one-sites two-sites low high leasts greatests least greatest ≡ span_of s a.lower a.upper
+    unfolding span_of
+    the_lists_show_the_span =
+        rw (e, f, g, h, low-trimmed, high-trimmed, low-total, high-total, a.started, a.stopped, a.firsts, a.seconds, a.lows, a.highs, names s a.lower)
+
+    -- and can be written
+    pub the_lists_can_be_written : Ranges s starting stopping one-sites two-sites low high leasts greatests
+    unfolding capacities
+    the_lists_can_be_written =
+        let o = length-map a.lower.links (λ l. l.0) in
+        let t = the_low_tree.within in
+        let u = the_high_tree.within in
+        let terminal = look (ends (links one-sites two-sites) n marks) in
+        let all : length (links one-sites two-sites) ≡ length one-sites = omega (arith, t.tree.links, t.firsts) in
+        record {
+          twos-length = omega (arith, t.firsts, t.seconds);
+          lows_length = omega (arith, t.firsts, t.capacities);
+          highs_length = omega (arith, u.firsts, u.capacities);
+          leasts_length = ap length e ∙ balanced_has_each_link t.tree terminal low ∙ all;
+          greatests_length = ap length f ∙ balanced_has_each_link t.tree terminal high ∙ all;
+          named = rw (a.started, a.stopped, a.firsts, a.seconds) (λ j l. let k : j < length a.lower.links = omega arith in
+              rw (get_or-map (λ l. l.0) a.lower.links j (0, 0), get_or-map (λ l. l.1) a.lower.links j (0, 0)) (
+                named_site lower_network (one a.lower.links j) (lower_network.tree.ends j k).0,
+                named_site lower_network (two a.lower.links j) (lower_network.tree.ends j k).1,
+              ));
+        }
+
+    pub they_are_within_a_report : length (span_text (span_by s starting stopping one-sites two-sites low high leasts greatests least greatest)) ≤ REPORT
+    they_are_within_a_report = rw the_lists_show_the_span (unfold span_report in a_span_report_is_small s a.lower a.upper a.read_low a.read_high)
+
+    -- what is delivered is the outcome
+    pub the_span_is_delivered : (b : List ℕ)
+        → deliver (span_text (span_by s starting stopping one-sites two-sites low high leasts greatests least greatest)) b ≡ spanned s b
+    unfolding spanned span_read network_of span_report
+    the_span_is_delivered b = rw (the_lists_show_the_span, a.read_low, a.read_high) refl
+
+-- a buffer with room for the longest report has room for any
+pub a_report_fits_its_room : (k room : ℕ) → 0 + k ≤ REPORT → REPORT ≤ room → true ≡ leb k room
+a_report_fits_its_room k room h l = sym (le-leb k room (omega arith))

@@ -1,0 +1,24 @@
+-- The sum over own ends as a program has it, over all ends less the shared link's size; so it is the same whichever site of the shared link stands as far,
+use Rattle.std.specs.Prelude.{◌≡◌, ◌≢◌, ◌↔◌, List, length}
+use Rattle.std.proofs.Math.Path.{refl}
+use Rattle.std.proofs.Common.{ap, ◌∙◌, inl, inr}
+use Prim.Native.Nat.{ℕ, ◌+◌, ◌*◌, ◌≤◌}
+use native.Mathlib.Omega.{arith}
+use Rattle.lists.specs.Numbers.{is, differ, look}
+use Rattle.lists.specs.Sums.{same?, pick_same, pick_other, pick_cases, is_same, is-other, is_le, differ-other, differ-le, product_one, sum-single}
+use Rattle.lists.specs.Places.{over_add, over-eq, over-is}
+use Rattle.model.specs.Flows.{Links, one, two, sites, at, sum_at, leaf, mark, at_terminals}
+use Rattle.theory_trees.specs.Trees.{at-le}
+use Rattle.theory_trees.specs.Sites.{sites_once}
+use Rattle.theory_walk.specs.Regions.{differ-one}
+use Rattle.theory_regions.specs.Regions.{Region, ends_in, trimmed_again, lone, far_site, own, own_sum, given}
+use Rattle.theory_regions.specs.JoinedTree.{Border, Bordered}
+use Rattle.theory_regions.specs.Meeting.{far-site, shared_at_far, far_has_just_the_shared_link, far_is_an_end}
+use Rattle.theory_regions.specs.FarSites.{a_region_finds_its_far_site, all_ends_are_own_or_far}
+
+-- so the sum that it is given is that over all ends, less the shared link's size
+pub the_sum_over_all_ends : {a : Region} {p : Border} → Bordered a p → mark a.marks p.far ≢ 1 → (other : ℕ) → let u = given a p.shared other in
+    at_terminals a.links a.sites (ends_in a) (look u.sizes) ≡ u.sum + look u.sizes p.shared
+unfolding given
+the_sum_over_all_ends {a} {p} A plain other =
+    let u = trimmed_again a p.shared other in omega (arith, all_ends_are_own_or_far A u, a_region_finds_its_far_site A plain u)

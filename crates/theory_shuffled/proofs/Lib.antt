@@ -1,0 +1,4 @@
+pub mod MatchedCuts
+pub mod MatchedFlows
+pub mod MatchedLaws
+pub mod ShuffledLaws

@@ -1,0 +1,20 @@
+-- Pairs free to be joined: the test `freePair` tells just which entries are routes, and what is crossed is another terminal on the path. It sees no order of
+use Rattle.std.specs.Prelude.{◌≡◌, refl, ◌≢◌, ◌↔◌, length}
+use Rattle.std.proofs.Common.{sym, ◌∙◌, inl, inr, arith}
+use Prim.Native.Nat.{ℕ, ◌+◌, ◌*◌, ◌<◌}
+use Rattle.lists.specs.Numbers.{is, differ}
+use Rattle.lists.specs.Sums.{same?, is_same, is-other, is_one, is_le, differ_same, differ-other, differ-le, product_one, sum-none, sum-eq, sum_ge, sum-some}
+use Rattle.model.specs.Flows.{Links, Site, Ends, Tree, Route, one, two, at, separates}
+use Rattle.model.specs.Parts.{another, crossed, free_pair}
+use Rattle.model.specs.declared.Pair.{Pair}
+use Rattle.theory_trees.specs.Trees.{separates-le, separates_comm, at_first, at_second, at-end}
+use Rattle.theory_trees.specs.Leaves.{Outer}
+use Rattle.theory_trees.proofs.Leaves.{outer_route}
+use Rattle.theory_trees.specs.FreePairs.{free_iff_route}
+
+-- where every terminal has one link, any two different terminals are free to be joined
+pub outer_pairs_are_free : {ls : Links} {n : ℕ} → Tree ls n → (terminal : ℕ → ℕ) → Outer ls n terminal → (a b : ℕ) → Site n a → Site n b
+    → terminal a ≡ 1 → terminal b ≡ 1 → a ≢ b → free_pair ls terminal a b ≡ 1
+outer_pairs_are_free {ls} {n} T terminal O a b p q s t d =
+    let e : Pair = record { first = a; second = b; amount = 0 } in
+    (free_iff_route ls terminal n T.ends e p q).1 (outer_route T terminal O e p q s t d)

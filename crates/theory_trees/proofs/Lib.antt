@@ -1,0 +1,17 @@
+pub mod Bounds
+pub mod Cutting
+pub mod Ends
+pub mod FreePairs
+pub mod Fresh
+pub mod Greatest
+pub mod Labels
+pub mod Leaves
+pub mod Owners
+pub mod Passes
+pub mod Paths
+pub mod Runs
+pub mod Sites
+pub mod InwardOrders
+pub mod TreeTest
+pub mod Trees
+pub mod Work

@@ -1,0 +1,4 @@
+pub mod Bounds
+pub mod Lowest
+pub mod PartsMeaning
+pub mod Steps

@@ -1,0 +1,3 @@
+pub mod Laws
+pub mod OverNetwork
+pub mod Told
