@@ -17,7 +17,7 @@ use Rattle.model.specs.Flows.{Links, Site, Tree, one, two, at, side, separates}
 use Rattle.model.specs.Trimming.{elimination}
 use Rattle.model.specs.WholeLoads.{from, upward, beyond, parent_of}
 use Rattle.theory_trees.specs.Trees.{side-link, far-one, loopless, separates-le, separates_comm, separates_self, all_agree, at-end}
-use Rattle.theory_trees.proofs.TreeTest.{length-elimination}
+use Rattle.theory_trees.specs.TreeTest.{length-elimination}
 use Rattle.theory_whole.specs.Links.{Above, above, beyond-not, unvisited-at}
 use Rattle.tree.specs.Offer.{links}
 use Rattle.tree.specs.Links.{length-links}

@@ -8,7 +8,7 @@ use Rattle.model.specs.Trimming.{elimination}
 use Rattle.model.specs.Edition.{edition1, edition2, editions}
 use Rattle.model.specs.declared.Edition.{Edition}
 use Rattle.lists.specs.Sums.{cases, contradiction}
-use Rattle.theory_trees.proofs.TreeTest.{length-elimination}
+use Rattle.theory_trees.specs.TreeTest.{length-elimination}
 use Rattle.sheet.specs.Sheet.{Network, Read, refused, accepted, read_sheet, edition_of}
 use Rattle.sheet.specs.Causes.{Refusal}
 use Rattle.sheet.specs.Editions.{Headed, editions_before}

@@ -11,7 +11,6 @@ pub mod Passes
 pub mod Paths
 pub mod Runs
 pub mod Sites
-pub mod InwardOrders
 pub mod TreeTest
 pub mod Trees
 pub mod Work

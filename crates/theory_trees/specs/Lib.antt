@@ -12,4 +12,5 @@ pub mod Bounds
 pub mod Leaves
 pub mod FreePairs
 pub mod Runs
+pub mod InwardOrders
 pub mod TreeTest

@@ -14,7 +14,7 @@ use Rattle.model.specs.Edition.{largest}
 use Rattle.model.specs.declared.Edition.{Edition}
 use Rattle.lists.specs.Sums.{is_same, is-other, same?, contradiction}
 use Rattle.theory_trees.specs.Sites.{sites_once, sites-site}
-use Rattle.theory_trees.proofs.TreeTest.{length-elimination}
+use Rattle.theory_trees.specs.TreeTest.{length-elimination}
 use Rattle.tree_order.specs.Links.{length-links, links-one, links-two}
 use Rattle.tree_order.specs.Toward.{elimination_toward, order_in}
 use Rattle.tree_order.specs.Rooted.{elimination_toward_a_root_is_inward, ends_at_the_root, without-a-root, length_elimination_toward}

@@ -5,7 +5,7 @@ use lib.ListN.{length, take, length-take}
 use borrow.Author.Rules.{rules}
 use Rattle.model.specs.Edition.{largest}
 use Rattle.model.specs.Trimming.{elimination}
-use Rattle.theory_trees.proofs.TreeTest.{length-elimination}
+use Rattle.theory_trees.specs.TreeTest.{length-elimination}
 use Rattle.tree.specs.Offer.{links}
 use Rattle.tree.specs.Accepted.{eliminated_in_order, a_tree_within_the_limits_is_accepted}
 use Rattle.orders.specs.Outcome.{store}
