@@ -14,7 +14,8 @@ use Rattle.model.specs.declared.Pair.{Pair}
 use Rattle.lists.specs.Sums.{pick_same, pick_other, pick_cases, cases, same?, sum-mul, sum_le_but, sum_ge, sum-min}
 use Rattle.theory_trees.specs.Trees.{at-le, others-add}
 use Rattle.theory_trees.specs.Sites.{at-site, sum_at-same}
-use Rattle.theory_trees.specs.Loads.{Avoids, double}
+use Rattle.theory_trees.specs.Loads.{Avoids}
+use Rattle.theory_trees.proofs.Loads.{double}
 
 module _ (ls : Links) (v : ℕ) where
   light_others : (t : ℕ → ℕ) → Light ls v t ↔ ((j : ℕ) → j < length ls → at ls v j ≡ 1 → t j ≤ others ls v j t)

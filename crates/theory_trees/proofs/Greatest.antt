@@ -11,7 +11,7 @@ use Rattle.model.specs.Flows.{Links, Tree, Below}
 use Rattle.model.specs.Trimming.{Balanced, Greatest, elimination, InwardOrder, balanced_along, balanced}
 use Rattle.lists.specs.Places.{look_values}
 use Rattle.theory_trees.proofs.Passes.{length-balanced_along, passes_keep_what_is_balanced, balanced_along_is_greatest}
-use Rattle.theory_trees.specs.Orders.{elimination_is_inward}
+use Rattle.theory_trees.proofs.Orders.{elimination_is_inward}
 
 -- ---- what "greatest" alone gives
 

@@ -14,3 +14,5 @@ pub mod Sites
 pub mod TreeTest
 pub mod Trees
 pub mod Work
+pub mod Loads
+pub mod Orders

@@ -2,7 +2,7 @@
 use Rattle.std.specs.Prelude.{◌≡◌, ◌≢◌, ◌↔◌, ℕ, suc, ◌≤◌, ◌<◌, length}
 use Rattle.model.specs.Flows.{Links, Ends, Tree, one, two}
 use Rattle.model.specs.Trimming.{elimination, InwardOrder}
-use Rattle.theory_trees.specs.Orders.{elimination_is_inward}
+use Rattle.theory_trees.proofs.Orders.{elimination_is_inward}
 use Rattle.theory_trees.specs.TreeTest.{an_inward_order_makes_a_tree, length-elimination}
 
 -- n - 1 links between different sites are a tree just if the elimination order takes every site, each with at most one link to later sites

@@ -7,7 +7,8 @@ use Rattle.model.specs.Flows.{Links, Tree, sites, at, sum_at, others}
 use Rattle.model.specs.Trimming.{Heavy, InwardOrder, cut_at, cut_sites, unvisited, first, remove, taken, elimination, balanced_along, balanced}
 use Rattle.lists.specs.Sums.{same?}
 use Rattle.theory_trees.proofs.Cutting.{cut_at-at, cut_at_away, cut_at-terminal, other-le}
-use Rattle.theory_trees.specs.Orders.{Lowest, elimination_is_inward, elimination_takes_the_lowest}
+use Rattle.theory_trees.specs.Orders.{Lowest}
+use Rattle.theory_trees.proofs.Orders.{elimination_is_inward, elimination_takes_the_lowest}
 use Rattle.theory_trees.proofs.Greatest.{any_order_balances_alike}
 use Rattle.theory_trees.specs.Runs.{Run}
 use Rattle.theory_trees.proofs.Runs.{runs_are_the_inward_orders}

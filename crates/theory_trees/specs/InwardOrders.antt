@@ -13,7 +13,6 @@ use Rattle.model.specs.Trimming.{unvisited, first, remove, taken, elimination, I
 use Rattle.lists.specs.Sums.{is_same, is-other, same?, sum_one, sum-none, sum-add, sum-eq, sum-le, sum-some}
 use Rattle.theory_trees.specs.Labels.{linked}
 use Rattle.theory_trees.specs.Trees.{at-le, at_first, at_second, at_none, at-end}
-use Rattle.theory_trees.specs.Orders.{elimination_is_inward}
 
 module _ (ls : Links) (apart : (i : ℕ) → i < length ls → one ls i ≢ two ls i) where
   -- a site v put before the others: its links to them are new, those among them stay

@@ -16,7 +16,7 @@ use Rattle.model.specs.Whole.{WholeLoads}
 use Rattle.model.specs.WholeLoads.{beyond, upward, parent_of, link_load}
 use Rattle.theory_trees.specs.Trees.{at-end, loopless}
 use Rattle.theory_trees.specs.Sites.{at-site, sites-site, sites_once, sum_at-same}
-use Rattle.theory_trees.specs.Orders.{elimination_is_inward, elimination_takes_only_sites}
+use Rattle.theory_trees.proofs.Orders.{elimination_is_inward, elimination_takes_only_sites}
 use Rattle.theory_whole.specs.Sums.{over_none, over_le_but, over_only, over-same}
 use Rattle.theory_whole.specs.Rooted.{children, children-eq, Child, Rooted}
 use Rattle.theory_whole.specs.Order.{Plain, place, rooted}

@@ -9,7 +9,7 @@ use Rattle.lists.specs.Numbers.{count, look}
 use Rattle.model.specs.Trimming.{elimination, InwardOrder, balanced}
 use Rattle.lists.specs.Sums.{is_same}
 use Rattle.theory_trees.specs.Sites.{sites-site}
-use Rattle.theory_trees.specs.Orders.{elimination_takes_only_sites, elimination_is_inward}
+use Rattle.theory_trees.proofs.Orders.{elimination_takes_only_sites, elimination_is_inward}
 use Rattle.theory_trees.specs.TreeTest.{length-elimination}
 use Rattle.theory_trees.proofs.Greatest.{any_order_balances_alike}
 use Rattle.tree.specs.Offer.{links}

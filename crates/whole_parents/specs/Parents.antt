@@ -8,7 +8,7 @@ use Rattle.model.specs.Flows.{Links, Site, at}
 use Rattle.model.specs.Trimming.{unvisited, Inward, elimination}
 use Rattle.model.specs.WholeLoads.{from, upward, parent_of}
 use Rattle.theory_trees.specs.Sites.{sites-site, sites-single}
-use Rattle.theory_trees.specs.Orders.{elimination_takes_only_sites, elimination_is_inward}
+use Rattle.theory_trees.proofs.Orders.{elimination_takes_only_sites, elimination_is_inward}
 use Rattle.theory_trees.specs.TreeTest.{length-elimination}
 use Rattle.tree.specs.Offer.{links}
 use Rattle.tree.specs.Accepted.{TreeOf, TreeWithin}

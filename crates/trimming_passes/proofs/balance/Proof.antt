@@ -6,7 +6,7 @@ use borrow.Author.Rules.{rules}
 use Rattle.model.specs.Limits.{PLACES}
 use Rattle.lists.specs.Numbers.{look}
 use Rattle.model.specs.Trimming.{elimination}
-use Rattle.theory_trees.specs.Orders.{elimination_is_inward}
+use Rattle.theory_trees.proofs.Orders.{elimination_is_inward}
 use Rattle.tree.specs.Offer.{links}
 use Rattle.trimming_passes.specs.Steps.{balanced_first}
 use Rattle.trimming_passes.specs.Along.{elimination_in_places, balanced_in_place}
