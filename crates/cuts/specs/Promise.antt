@@ -11,7 +11,7 @@ use Rattle.model.specs.Trimming.{Greatest}
 use Rattle.model.specs.Cuts.{group, in_cut, cut_size, cut_count, owner}
 use Rattle.lists.specs.Sums.{is_same, is-other, is_one, is_iff, same?}
 use Rattle.lists.specs.Places.{over-eq}
-use Rattle.theory_trees.specs.TerminalCuts.{cut_sizes_sum_to_the_terminals}
+use Rattle.theory_trees.proofs.TerminalCuts.{cut_sizes_sum_to_the_terminals}
 use Rattle.theory_trees.proofs.Owners.{owner_iff_in_cut, a_terminal_owns_itself}
 use Rattle.tree.specs.Offer.{links}
 use Rattle.tree.specs.Accepted.{MarkedTree}

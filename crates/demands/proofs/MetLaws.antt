@@ -10,7 +10,7 @@ use Rattle.model.specs.Text.{bytes}
 use Rattle.model.specs.declared.Edition.{Edition}
 use Rattle.lists.specs.Sums.{contradiction}
 use Rattle.lists.specs.Maps.{map-map}
-use Rattle.theory_trees.specs.TerminalCuts.{cut_sizes_sum_to_the_terminals}
+use Rattle.theory_trees.proofs.TerminalCuts.{cut_sizes_sum_to_the_terminals}
 use Rattle.theory_trees.proofs.Bounds.{what_fits_fits_the_balanced, a_full_multiflow_has_the_greatest_total}
 use Rattle.theory_walk.specs.PartsTheorem.{pair_list_of_parts_ascends, pair_list_of_parts_lower_first}
 use Rattle.sheet_kinds.specs.LineKinds.{field}

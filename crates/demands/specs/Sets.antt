@@ -14,7 +14,7 @@ use Rattle.lists.specs.Places.{over-eq, length-upfrom}
 use Rattle.theory_trees.proofs.Sites.{look-site}
 use Rattle.theory_trees.specs.Owners.{owner-or-none, without_owner_in_no_cut}
 use Rattle.theory_trees.proofs.Owners.{owner_iff_in_cut}
-use Rattle.theory_trees.specs.Stopping.{stopping_changes_nothing}
+use Rattle.theory_trees.proofs.Stopping.{stopping_changes_nothing}
 use Rattle.planner.specs.Figures.{Figures}
 use Rattle.demands.specs.Printed.{EndSet, size_sum, ends_among}
 use Rattle.demands.specs.Lists.{each-site}

@@ -16,3 +16,5 @@ pub mod Trees
 pub mod Work
 pub mod Loads
 pub mod Orders
+pub mod TerminalCuts
+pub mod Stopping

@@ -10,7 +10,8 @@ use Rattle.model.specs.Trimming.{Greatest}
 use Rattle.model.specs.Cuts.{group, in_cut, owner_among, owner}
 use Rattle.lists.specs.Sums.{pick_same, pick_other, same?, is_same, is-other, is_one, is_le, product_one}
 use Rattle.theory_trees.specs.Sites.{sites-site, sites_once}
-use Rattle.theory_trees.specs.TerminalCuts.{a_cut_holds_its_terminal, cuts_are_disjoint}
+use Rattle.theory_trees.specs.TerminalCuts.{a_cut_holds_its_terminal}
+use Rattle.theory_trees.proofs.TerminalCuts.{cuts_are_disjoint}
 use Rattle.theory_trees.specs.Owners.{owner-or-none}
 
 module _ {ls : Links} {n : ℕ} (T : Tree ls n) (terminal : ℕ → ℕ) {c t : ℕ → ℕ} (g : Greatest ls terminal c t)

@@ -6,7 +6,6 @@ pub mod Loads
 pub mod Orders
 pub mod TerminalCuts
 pub mod Between
-pub mod Stopping
 pub mod Owners
 pub mod Bounds
 pub mod Leaves

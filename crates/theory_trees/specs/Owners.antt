@@ -11,7 +11,7 @@ use Rattle.model.specs.Trimming.{Greatest}
 use Rattle.model.specs.Cuts.{group, in_cut, owner_among, owner}
 use Rattle.lists.specs.Sums.{pick_same, pick_other, same?, is_same, is-other, is_one, is_le, product_one}
 use Rattle.theory_trees.specs.Sites.{sites-site, sites_once}
-use Rattle.theory_trees.specs.TerminalCuts.{a_cut_holds_its_terminal, cuts_are_disjoint}
+use Rattle.theory_trees.specs.TerminalCuts.{a_cut_holds_its_terminal}
 
 module _ (ls : Links) (c t terminal : ℕ → ℕ) (x : ℕ) where
   in_cut-one : (a : ℕ) → in_cut ls c t a x ≢ 1 → in_cut ls c t a x ≡ 0

@@ -15,7 +15,7 @@ use Rattle.model.specs.Cuts.{cut_size}
 use Rattle.model.specs.Parts.{free_pair, single, region, in_part, root, pairs_of_part, pair_of_link, pairs_of_parts, pair_list_of_parts}
 use Rattle.model.specs.declared.Pair.{Pair}
 use Rattle.theory_trees.specs.Sites.{sites-site}
-use Rattle.theory_trees.specs.TerminalCuts.{cut_sizes_sum_to_the_terminals}
+use Rattle.theory_trees.proofs.TerminalCuts.{cut_sizes_sum_to_the_terminals}
 use Rattle.theory_trees.specs.FreePairs.{free_iff_route}
 use Rattle.theory_trees.proofs.Bounds.{a_full_multiflow_has_the_greatest_total}
 use Rattle.theory_walk.specs.Sound.{Sound, Ascending}

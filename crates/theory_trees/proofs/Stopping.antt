@@ -9,7 +9,8 @@ use Rattle.lists.specs.Sums.{same?, is_same, is-other, is_iff, is_le, differ_sam
 use Rattle.model.specs.Flows.{Links, Site, Tree, one, two, label}
 use Rattle.model.specs.Trimming.{Greatest}
 use Rattle.model.specs.Cuts.{kept, group, in_cut, foreign, passable, in_stopped_cut}
-use Rattle.theory_trees.specs.TerminalCuts.{kept-linked, kept_induct, kept_agree, group-linked, a_cut_holds_no_other_terminal}
+use Rattle.theory_trees.specs.TerminalCuts.{kept-linked, kept_induct, kept_agree, group-linked}
+use Rattle.theory_trees.proofs.TerminalCuts.{a_cut_holds_no_other_terminal}
 
 module _ {ls : Links} {n : ℕ} (T : Tree ls n) (terminal : ℕ → ℕ) {c t : ℕ → ℕ} (g : Greatest ls terminal c t)
     (a : ℕ) (p : Site n a) (m : terminal a ≡ 1) where
