@@ -25,7 +25,7 @@ pub use Rattle.demands.specs.Asked.{Demand1, faulty_sheet, long-report, full_rep
 pub use Rattle.demands.specs.Asked.{Refused, FullReport, WithoutCause, IsRefusal, Prints, a_full_report, a-refusal}
 use Rattle.demands.proofs.MetLaws.{a_refused_sheet_meets_demand_1, a_long_report_meets_demand_1}
 use Rattle.demands.proofs.MetLaws.{a_delivered_report_meets_demand_1, plan_shows_sheet, plan_meets_demand_2, plan_is_in_order, plan_meets_demand_3}
-use Rattle.demands.specs.Met.{the_answer_is_asked_for}
+use Rattle.demands.proofs.MetLaws.{the_answer_is_asked_for}
 use Rattle.demands.proofs.MetLaws.{the_report_is_full, the_plan_is_printed}
 use Rattle.demands.specs.Plans.{same_plans_fit_iff_trimmed_agree}
 use Rattle.demands.specs.Outcomes.{report_too_long, report-delivered, the_report_is_told}

@@ -4,3 +4,5 @@ pub mod MetLaws
 pub mod ReadBack
 pub mod WholeDemands
 pub mod WholeMet
+pub mod Records
+pub mod Spelling

@@ -19,9 +19,9 @@ use Rattle.demands.specs.Printed.{site_count, is_end, bytes_told, bytes_printed}
 use Rattle.demands.specs.Asked.{Prints}
 pub use Rattle.demands.specs.AskedWhole.{FittingWhole, LargestPlan, PrintedSets, IsWholeReport}
 use Rattle.demands.specs.Outcomes.{the_report_is_told}
-use Rattle.demands.specs.Met.{the_answer_is_asked_for}
+use Rattle.demands.proofs.MetLaws.{the_answer_is_asked_for}
 use Rattle.demands.proofs.Demands.{zero_is_told_exactly_for_a_full_report}
-use Rattle.demands.specs.WholeMet.{no_whole_plan_passes_any_sets}
+use Rattle.demands.proofs.WholeMet.{no_whole_plan_passes_any_sets}
 use Rattle.demands.proofs.WholeMet.{the_whole_report_is_full}
 
 -- every report in whole circuits on a sheet of edition 1 fits REPORT bytes, 65,536

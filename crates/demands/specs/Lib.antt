@@ -8,7 +8,6 @@ pub mod Parsing
 pub mod Records
 pub mod Names
 pub mod ReadBack
-pub mod Spelling
 pub mod Agree
 pub mod Sets
 pub mod Refusals

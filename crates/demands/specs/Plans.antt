@@ -13,7 +13,7 @@ use Rattle.theory_trees.specs.Leaves.{Outer}
 use Rattle.theory_trees.proofs.Leaves.{outer_route}
 use Rattle.theory_trees.proofs.Bounds.{the_same_multiflows_fit_iff_the_balanced_agree}
 use Rattle.lists.specs.Tallies.{each_map}
-use Rattle.theory_walk.specs.PartsTheorem.{pair_list_of_parts_is_sound}
+use Rattle.theory_walk.proofs.PartsTheorem.{pair_list_of_parts_is_sound}
 use Rattle.theory_walk.specs.Sound.{Sound}
 use Rattle.demands.specs.Printed.{IsPlan}
 

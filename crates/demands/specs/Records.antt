@@ -20,7 +20,6 @@ use Rattle.demands.specs.Parsing.{Plain, line_read_back, decimal-plain, lines_re
 use Rattle.demands.specs.Parsing.{decimal_read_back}
 
 -- ---- the fields that go into each line
-
 module _ (p : Plan) where
   abbrev pub head_fields : Record
   head_fields = p.word ∷ decimal (total p.pairs) ∷ decimal (length p.pairs) ∷ []
@@ -189,10 +188,6 @@ refusal-line k l =
 pub refusal-fields : (k l : ℕ) → first_line (refusal_line k l) ≡ bytes "refused" ∷ decimal k ∷ decimal l ∷ []
 unfolding first_line
 refusal-fields k l = ap (λ rs. get_or rs 0 []) (refusal-line k l)
-
--- its number and its line are those that went in
-pub refusal-number : (k l : ℕ) → number_read (refusal_line k l) ≡ k
-refusal-number k l = ap (λ f. value (field f 1)) (refusal-fields k l) ∙ decimal_read_back k
 
 pub refusal-at : (k l : ℕ) → line_read (refusal_line k l) ≡ l
 refusal-at k l = ap (λ f. value (field f 2)) (refusal-fields k l) ∙ decimal_read_back l

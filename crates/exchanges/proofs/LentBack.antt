@@ -14,7 +14,8 @@ use Rattle.exchanges.specs.Outcome.{first_of, second_of, Exchanged, filled, exch
 use Rattle.exchanges.specs.Causes.{AcceptedPair}
 use Rattle.exchanges.specs.SharedLaws.{a_size_for_each_link, first_given, second_given, the_regions_have_what_the_joined_tree_has}
 use Rattle.exchanges.specs.SharedLaws.{and_what_every_joined_tree_has}
-use Rattle.exchanges.specs.Told.{Room, both_are_answered}
+use Rattle.exchanges.specs.Told.{Room}
+use Rattle.exchanges.proofs.Told.{both_are_answered}
 use Rattle.exchanges.specs.LentBack.{OfTheWhole}
 
 -- a list that starts with the sizes has them at their places

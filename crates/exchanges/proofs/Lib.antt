@@ -1,3 +1,5 @@
 pub mod Examples
 pub mod LentBack
 pub mod Taken
+pub mod SharedLaws
+pub mod Told

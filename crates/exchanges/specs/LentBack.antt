@@ -15,7 +15,7 @@ use Rattle.exchanges.specs.Outcome.{first_of, second_of, Exchanged, filled, exch
 use Rattle.exchanges.specs.Causes.{AcceptedPair}
 use Rattle.exchanges.specs.SharedLaws.{a_size_for_each_link, first_given, second_given, the_regions_have_what_the_joined_tree_has}
 use Rattle.exchanges.specs.SharedLaws.{and_what_every_joined_tree_has}
-use Rattle.exchanges.specs.Told.{Room, both_are_answered}
+use Rattle.exchanges.specs.Told.{Room}
 
 -- what the exchange o tells and leaves is what the tree t has, in which the links of the two sheets have the numbers link₁ and link₂
 pub record OfTheWhole (net other : Network) (t : Region) (link₁ link₂ : ℕ → ℕ) (o : Exchanged) : Type 0 where

@@ -16,11 +16,13 @@ use Rattle.sheet.specs.SheetTheorem.{IsNetwork, an_accepted_sheet_is_a_tree}
 use Rattle.theory_regions.specs.JoinedTree.{Border, Joins, position, glued, joined_tree}
 use Rattle.theory_regions.specs.Regions.{Region, Given, given}
 use Rattle.theory_regions.specs.Sharing.{Named, Partners, apart}
-use Rattle.theory_regions.specs.SharingLaws.{Tells, the_decision_tells, apart_exactly_if_no_link_is_shared, the_shared_link_is_no_choice}
+use Rattle.theory_regions.specs.SharingLaws.{Tells, the_shared_link_is_no_choice}
+use Rattle.theory_regions.proofs.SharingLaws.{the_decision_tells, apart_exactly_if_no_link_is_shared}
 use Rattle.theory_regions.specs.SharingLaws.{what_shares_one_link_is_neighbours}
-use Rattle.theory_regions.specs.JoinedNames.{the_joined_tree_is_named}
-use Rattle.theory_regions.specs.TwoRegions.{Neighbours, OfTheJoinedTree, two_regions_have_what_every_joined_tree_has, the_joined_tree_of_two_regions}
-use Rattle.theory_regions.specs.Again.{trimmed_again_has_each_link}
+use Rattle.theory_regions.proofs.JoinedNames.{the_joined_tree_is_named}
+use Rattle.theory_regions.specs.TwoRegions.{Neighbours, OfTheJoinedTree}
+use Rattle.theory_regions.proofs.TwoRegions.{two_regions_have_what_every_joined_tree_has, the_joined_tree_of_two_regions}
+use Rattle.theory_regions.proofs.Again.{trimmed_again_has_each_link}
 use Rattle.region_links.specs.Partners.{site_found}
 use Rattle.exchanges.specs.Shared.{region_of, site_name, partner, Share, sharing_in, shown, given_to}
 use Rattle.exchanges.specs.Causes.{BothRead, AcceptedPair}
@@ -54,35 +56,15 @@ pub a_look_up_finds_the_site_of_a_name : (t : List ℕ) (other : Network) (f : L
     ⊎ ((v ≡ 0) × ((y : ℕ) → Site (length other.names) y → ¬ (capitals f ≡ site_name t other y)))
 a_look_up_finds_the_site_of_a_name t other f = found_or_not t other f (lookup t other.names f) (lookup_says t f other.names 1)
 
-pub look_ups_find_partners : (s : List ℕ) (net : Network) (t : List ℕ) (other : Network)
-    → Partners (length net.names) (length other.names) (site_name s net) (site_name t other) (partner s net t other)
-unfolding partner
-look_ups_find_partners s net t other x p = a_look_up_finds_the_site_of_a_name t other (name_at s net.names (x - 1))
-
 -- ---- accepted sheets
-
 module _ {known : List Edition} {s : List ℕ} {net : Network} {t : List ℕ} {other : Network} (R : BothRead known s net t other) where
-  abbrev first_named : Named (region_of net) (site_name s net)
+  abbrev pub first_named : Named (region_of net) (site_name s net)
   first_named = the_network_is_named known s net R.first
 
-  abbrev second_named : Named (region_of other) (site_name t other)
+  abbrev pub second_named : Named (region_of other) (site_name t other)
   second_named = the_network_is_named known t other R.second
 
-  -- the decision tells what is asked of the pair
-  pub the_sharing_is_told : Tells (region_of net) (region_of other) (site_name s net) (site_name t other) (sharing_in s net t other)
-  the_sharing_is_told = the_decision_tells first_named second_named (partner s net t other) (look_ups_find_partners s net t other)
-
-  -- none exactly unless what is asked holds of some borders (02: 18 unless)
-  pub apart_exactly_unless_they_share : (sharing_in s net t other ≡ apart) ↔ ((p q : Border) → ¬ (Share s net t other p q))
-  apart_exactly_unless_they_share =
-      apart_exactly_if_no_link_is_shared first_named second_named (partner s net t other) (look_ups_find_partners s net t other)
-
-  -- which link is shared is no choice
-  pub the_shared_link_is_one : {p q p' q' : Border} → Share s net t other p q → Share s net t other p' q' → (p.shared ≡ p'.shared) × (q.shared ≡ q'.shared)
-  the_shared_link_is_one = the_shared_link_is_no_choice first_named second_named (partner s net t other) (look_ups_find_partners s net t other)
-
 -- ---- an accepted pair
-
 module _ {known : List Edition} {s : List ℕ} {net : Network} {t : List ℕ} {other : Network} {p q : Border} (X : AcceptedPair known s net t other p q) where
   abbrev a : Region
   a = region_of net

@@ -25,15 +25,15 @@ use Rattle.sheet.specs.declared.Answer.TheVariants as answered
 use Rattle.sheet.specs.declared.Lists.{Lists}
 use Rattle.theory_regions.specs.Regions.{Region, first_size, Given, given}
 use Rattle.theory_regions.specs.Sharing.{Partners, Sharing, apart, sharing, sharing_of}
-use Rattle.theory_regions.specs.SharingLaws.{Tells, tells_none, tells-some, the_decision_tells}
+use Rattle.theory_regions.specs.SharingLaws.{Tells, tells_none, tells-some}
+use Rattle.theory_regions.proofs.SharingLaws.{the_decision_tells}
 use Rattle.tree.specs.Accepted.{MarkedTree}
 use Rattle.tree.specs.Links.{length-links}
 use Rattle.tree.specs.Offer.{links}
 use Rattle.exchanges.specs.Causes.{BothRead}
 use Rattle.exchanges.specs.Outcome.{Exchanged, refusal, told, filled, deliver, exchange_over, exchanged}
 use Rattle.exchanges.specs.Shared.{region_of, site_name, partner}
-use Rattle.exchanges.specs.SharedLaws.{look_ups_find_partners, the_network_is_named, the_sharing_is_told, the_shared_link_is_one}
-use Rattle.exchanges.specs.Told.{by_sharing}
+use Rattle.exchanges.specs.SharedLaws.{the_network_is_named}
 use Rattle.exchanges.specs.declared.Outcome.TheVariants.{Answered}
 
 -- the answers for two regions that share link j of the first and link k of the second
@@ -50,19 +50,18 @@ pub record Taken (s starts stops : List ℕ) (n : ℕ) (one two marks c : List �
   pub tree : MarkedTree largest n one two marks c
 
 -- ---- the answers for two regions that share one link
-
 module _ {n : ℕ} {one two marks c : List ℕ} {n2 : ℕ} {one2 two2 marks2 c2 : List ℕ} (w : MarkedTree largest n one two marks c)
     (v : MarkedTree largest n2 one2 two2 marks2 c2) (j k : ℕ) (here : j < length one) (there : k < length one2) (l m : List ℕ) where
   abbrev pub a : Region
   a = region_by n one two marks c
 
-  abbrev b : Region
+  abbrev pub b : Region
   b = region_by n2 one2 two2 marks2 c2
 
-  abbrev first : Given
+  abbrev pub first : Given
   first = given a j (first_size b k)
 
-  abbrev second : Given
+  abbrev pub second : Given
   second = given b k (first_size a j)
 
   pub as_many_first : length first.sizes ≡ length one
@@ -103,90 +102,7 @@ module _ {n : ℕ} {one two marks c : List ℕ} {n2 : ℕ} {one2 two2 marks2 c2 
     both_are_given h g g2 u u2 = rw (g, g2, u, u2, both_lists_are_filled h, as_many_first, as_many_second) (refl, (refl, refl))
 
 -- ---- the exchange between two networks taken apart
-
 module _ {s starts stops : List ℕ} {n : ℕ} {one two marks c : List ℕ} {t starts2 stops2 : List ℕ} {n2 : ℕ} {one2 two2 marks2 c2 : List ℕ}
     (T : Taken s starts stops n one two marks c) (W : Taken t starts2 stops2 n2 one2 two2 marks2 c2) where
   abbrev pub net : Network
   net = network_by starts stops n one two marks c
-
-  abbrev other : Network
-  other = network_by starts2 stops2 n2 one2 two2 marks2 c2
-
-  both_read : BothRead editions s net t other
-  both_read = record { first = T.read; second = W.read }
-
-  -- the networks as regions
-  the_first_region : region_of net ≡ region_by n one two marks c
-  the_first_region = ap (λ k. record { links = links one two; sites = k; marks = marks; capacities = c }) (length-ranges starts stops 0 n)
-
-  the_second_region : region_of other ≡ region_by n2 one2 two2 marks2 c2
-  the_second_region = ap (λ k. record { links = links one2 two2; sites = k; marks = marks2; capacities = c2 }) (length-ranges starts2 stops2 0 n2)
-
-  module _ (partners : List ℕ) (H : Holds n (partner_in s (ranges starts stops 0 n) t (ranges starts2 stops2 0 n2)) partners) where
-    they-are-partners : Partners (length net.names) (length other.names) (site_name s net) (site_name t other) (look partners)
-    unfolding partner
-    they-are-partners x p = rw (H x (p.0, omega (arith, p.1, length-ranges starts stops 0 n))) (look_ups_find_partners s net t other x p)
-
-    -- a partner is a site, or 0
-    pub partners_are_sites : (x : ℕ) → Site n x → look partners x ≤ n2
-    partners_are_sites x p = elim (they-are-partners x (p.0, omega (arith, p.1, length-ranges starts stops 0 n))) [
-      | inl h ↦ omega (arith, h.0.1, length-ranges starts2 stops2 0 n2)
-      | inr h ↦ omega (arith, h.0)
-    ]
-
-    -- what the code decides tells whether they share one link
-    abbrev decided : Sharing
-    decided = sharing_of (region_by n one two marks c) (region_by n2 one2 two2 marks2 c2) (look partners)
-
-    it-tells : Tells (region_of net) (region_of other) (site_name s net) (site_name t other) decided
-    it-tells =
-        subst (Tells (region_of net) (region_of other) (site_name s net) (site_name t other))
-        (ap₂ (λ a b. sharing_of a b (look partners)) the_first_region the_second_region)
-        (the_decision_tells (the_network_is_named editions s net T.read) (the_network_is_named editions t other W.read) (look partners)
-        they-are-partners)
-
-    module _ (l m : List ℕ) where
-      -- two decisions that tell it come to one exchange
-      alike : (r q : Sharing) → Tells (region_of net) (region_of other) (site_name s net) (site_name t other) r
-          → Tells (region_of net) (region_of other) (site_name s net) (site_name t other) q → exchange_over net other l m r ≡ exchange_over net other l m q
-      alike apart apart (tells_none h) (tells_none g) = refl
-      alike apart (sharing p q) (tells_none h) (tells-some M) = absurd (h p q M)
-      alike (sharing p q) apart (tells-some M) (tells_none h) = absurd (h p q M)
-      alike (sharing p q) (sharing p' q') (tells-some M) (tells-some N) =
-          let e = the_shared_link_is_one both_read M N in unfold exchange_over in rw (e.0, e.1) refl
-
-      by-the-decision : exchanged editions s t l m ≡ exchange_over net other l m decided
-      by-the-decision = by_sharing editions s t l m both_read ∙ alike _ decided (the_sharing_is_told both_read) it-tells
-
-      -- 18 where they do not
-      pub apart-is-told : Apart ≡ shared_by decided → exchanged editions s t l m ≡ refusal 0 18 0 l m
-      unfolding exchange_over
-      apart-is-told e = by-the-decision ∙ by decided e
-        where
-          by : (r : Sharing) → Apart ≡ shared_by r → exchange_over net other l m r ≡ refusal 0 18 0 l m
-          by apart e = refl
-          by (sharing p q) e = contradiction cc
-
-      -- where they do the answers are delivered
-      pub shared_is_told : (j k : ℕ) → Over j k ≡ shared_by decided
-          → exchanged editions s t l m ≡ deliver_between (region_by n one two marks c) j (region_by n2 one2 two2 marks2 c2) k l m
-      unfolding exchange_over
-      shared_is_told j k e = by-the-decision ∙ by decided e ∙ ap₂ (λ a b. deliver_between a j b k l m) the_first_region the_second_region
-        where
-          by : (r : Sharing) → Over j k ≡ shared_by r → exchange_over net other l m r ≡ deliver_between (region_of net) j (region_of other) k l m
-          by apart e = contradiction cc
-          by (sharing p q) e = let f : p.shared ≡ j = cc in let g : q.shared ≡ k = cc in rw (f, g) refl
-
-    -- and it is a link of each
-    pub shared_is_a_link : (j k : ℕ) → Over j k ≡ shared_by decided → (j < length one) × (k < length one2)
-    shared_is_a_link j k e = by decided e it-tells
-      where
-        by : (r : Sharing) → Over j k ≡ shared_by r → Tells (region_of net) (region_of other) (site_name s net) (site_name t other) r
-            → (j < length one) × (k < length one2)
-        by apart e h = contradiction cc
-        by (sharing p q) e (tells-some M) =
-            let f : p.shared ≡ j = cc in
-            let g : q.shared ≡ k = cc in
-            let all = length-links one two (omega (arith, T.tree.within.firsts, T.tree.within.seconds)) in
-            let all2 = length-links one2 two2 (omega (arith, W.tree.within.firsts, W.tree.within.seconds)) in
-            (omega (arith, M.first-link, all), omega (arith, M.second-link, all2))

@@ -21,7 +21,13 @@ use Rattle.sheet_kinds.specs.FormedLines.{second-end, third_end, part_of_field_1
 use Rattle.log_lines.specs.LogLines.{sign, log_form, amount_form, plan_letter, judged, booking, line_as, log_line, plan_line}
 use Rattle.log_lines.specs.declared.Line.{Line}
 use Rattle.log_lines.specs.declared.Line.TheVariants.{Booking, Fault}
-use Rattle.log_lines.specs.BookingLaws.{Asks, IsFormed, asking, booking_of, formed_keeps, letter_tells}
+use Rattle.log_lines.specs.BookingLaws.{Asks, IsFormed, asking, booking_of, formed_keeps}
+
+-- the letter chooses the form
+pub letter_tells : (opens : Bool) (l : List ℕ) → field (fields l) 0 ≡ (log_form opens).letter ∷ [] → log_line l ≡ line_as (sign opens) opens (fields l)
+unfolding log_line same
+letter_tells true l e = rw e
+letter_tells false l e = rw e
 
 module _ (l : List ℕ) where
   -- a line that asks is one

@@ -1,3 +1,4 @@
 pub mod BareLogLines
 pub mod BookingLaws
 pub mod FaultyPlanLines
+pub mod FaultyLogLines

@@ -48,12 +48,6 @@ pub judged_cases : (P : Line → Type 0) (c : Check) (w : Line) → (c ≡ check
 unfolding judged fault_of
 judged_cases P c w f g = ⊎_elim (λ e. rw e (f e)) (λ h. rw h.1 (g h.0)) (formed_or_faulty c)
 
--- the letter chooses the form
-pub letter_tells : (opens : Bool) (l : List ℕ) → field (fields l) 0 ≡ (log_form opens).letter ∷ [] → log_line l ≡ line_as (sign opens) opens (fields l)
-unfolding log_line same
-letter_tells true l e = rw e
-letter_tells false l e = rw e
-
 -- ---- as the code finds it
 
 -- by what the amount is found to be, the names having a and b bytes

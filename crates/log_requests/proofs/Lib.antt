@@ -1,2 +1,3 @@
 pub mod RequestLaws
 pub mod Sheets
+pub mod TwoEnds

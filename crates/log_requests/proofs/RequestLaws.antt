@@ -34,6 +34,16 @@ use Rattle.log_lines.specs.declared.Line.TheVariants.{Booking, Fault}
 use Rattle.log_requests.specs.Requests.{lines_from, lines, line_of, request_for, between, request_by, request_at, requests}
 use Rattle.log_requests.specs.RequestLaws.{Free, Named}
 
+-- ---- the two sites
+module _ (ls : Links) (t : ℕ → ℕ) (opens : Bool) (x a b : ℕ) where
+  pub a_pair_that_is_not_free_gets_6 : free_pair ls t a b ≢ 1 → between ls t opens x (At a) (At b) ≡ request.Fault 6
+  unfolding between
+  a_pair_that_is_not_free_gets_6 d = pick_other d _ _
+
+  pub a_free_pair_is_asked_for : free_pair ls t a b ≡ 1 → between ls t opens x (At a) (At b) ≡ request_for opens (pair a b x)
+  unfolding between
+  a_free_pair_is_asked_for e = pick_same e _ _
+
 pub found_is_a_site : (s f : List ℕ) (names : List (ℕ × ℕ)) → Named (length names) (lookup s names f)
 found_is_a_site s f names = by (lookup s names f) (lookup_says s f names 1)
   where

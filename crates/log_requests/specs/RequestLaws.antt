@@ -34,7 +34,6 @@ use Rattle.log_lines.specs.declared.Line.TheVariants.{Booking, Fault}
 use Rattle.log_requests.specs.Requests.{lines_from, lines, line_of, request_for, between, request_by, request_at, requests}
 
 -- ---- line by line
-
 module _ (text : List ℕ) where
   pub after-within : (at : ℕ) → after_line text at ≤ length text
   unfolding after_line
@@ -83,17 +82,6 @@ module _ (text : List ℕ) where
   pub ended_line : (plan : Bool) (at : ℕ) → at + length (line_at text at) < length text → line_of plan text at ≡ line_by plan (line_at text at)
   unfolding line_of
   ended_line plan at h = rw (lt-ltb (at + line_length (drop at text)) (length text) (omega (arith, length_of_line text at)))
-
--- ---- the two sites
-
-module _ (ls : Links) (t : ℕ → ℕ) (opens : Bool) (x a b : ℕ) where
-  pub a_pair_that_is_not_free_gets_6 : free_pair ls t a b ≢ 1 → between ls t opens x (At a) (At b) ≡ request.Fault 6
-  unfolding between
-  a_pair_that_is_not_free_gets_6 d = pick_other d _ _
-
-  pub a_free_pair_is_asked_for : free_pair ls t a b ≡ 1 → between ls t opens x (At a) (At b) ≡ request_for opens (pair a b x)
-  unfolding between
-  a_free_pair_is_asked_for e = pick_same e _ _
 
 -- ---- what can be asked
 

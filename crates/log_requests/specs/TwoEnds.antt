@@ -18,7 +18,7 @@ use Rattle.log_lines.specs.LogLines.{line_by}
 use Rattle.log_lines.specs.BookingLaws.{Asks, asking}
 use Rattle.log_lines.proofs.BookingLaws.{name_is_field_1, name_is_field_2}
 use Rattle.log_requests.specs.Requests.{request_for, between, request_by, request_at}
-use Rattle.log_requests.specs.RequestLaws.{ended_line, a_free_pair_is_asked_for, a_pair_that_is_not_free_gets_6}
+use Rattle.log_requests.specs.RequestLaws.{ended_line}
 
 -- the line at an offset of a text is ended, well formed with a letter, and its amount is within the limit
 pub record Asking (letter : ℕ) (text : List ℕ) (at : ℕ) : Type 0 where
@@ -83,32 +83,3 @@ module _ (s : List ℕ) (names : List (ℕ × ℕ)) (ls : Links) (t : ℕ → �
           (λ z. inr (another-end e f (crossed-some ls t a b z)))))
           (λ h. inr (second-no-end f h)))
           (λ g. inr (first-no-end e g))
-
-  -- ---- what the line asks
-
-  module _ {letter : ℕ} (k : Asking letter text at) (plan opens : Bool) (told : line_by plan (line_at text at) ≡ asking opens (line_at text at)) where
-    asked-by-fields : let fs = fields (line_at text at) in
-        request_at plan s names ls t text at ≡ between ls t opens (amount_of text at) (lookup s names (field fs 1)) (lookup s names (field fs 2))
-    unfolding request_at request_by
-    asked-by-fields =
-        let l = line_at text at in
-        rw (
-          ended_line text plan at k.ended,
-          told,
-          name_is_field_1 l letter k.asks.formed,
-          name_is_field_2 l letter k.asks.formed,
-        )
-
-    pub asked-between : {a b : ℕ} → TwoEnds a b → request_at plan s names ls t text at ≡ request_for opens (pair a b (amount_of text at))
-    asked-between {a} {b} z =
-        asked-by-fields ∙ rw (z.first, z.second) (a_free_pair_is_asked_for ls t opens (amount_of text at) a b z.free)
-
-    pub asked_of_none : NotTwoEnds → request_at plan s names ls t text at ≡ request.Fault 6
-    unfolding between
-    asked_of_none none = asked-by-fields ∙ by first_found refl second_found refl
-      where
-        by : (v : Found) → first_found ≡ v → (w : Found) → second_found ≡ w → between ls t opens (amount_of text at) v w ≡ request.Fault 6
-        by Absent e w f = refl
-        by (At a) e Absent f = refl
-        by (At a) e (At b) f = a_pair_that_is_not_free_gets_6 ls t opens (amount_of text at) a b
-            (λ z. not_two_ends_are_none none a b (record { first = e; second = f; free = z }))

@@ -7,7 +7,7 @@ use Rattle.lists.specs.Places.{look-zeros}
 use Rattle.model.specs.Flows.{Links, load}
 use Rattle.model.specs.Booking.{answer, after, Asked, Kept}
 use Rattle.model.specs.declared.Request.{Request}
-use Rattle.theory_log.specs.Requests.{a_request_keeps_what_is_kept}
+use Rattle.theory_log.proofs.Requests.{a_request_keeps_what_is_kept}
 use Rattle.theory_log.specs.Logs.{after_one_more, kept-empty}
 use Rattle.log_pairs.specs.Arrays.{entries}
 use Rattle.log_steps.specs.Steps.{Holds, Standing, Answered}

@@ -17,7 +17,6 @@ use Rattle.model.specs.declared.Request.{Request}
 use Rattle.model.specs.declared.Request.TheVariants as request
 use Rattle.theory_trees.specs.FreePairs.{free_iff_route}
 use Rattle.theory_log.specs.Pairs.{Sites}
-use Rattle.theory_log.specs.Logs as theory
 use Rattle.sheet.specs.Sheet.{Network, read_sheet, accepted, edition_of}
 use Rattle.sheet.specs.SheetTheorem.{an_accepted_sheet_is_a_tree}
 use Rattle.log_requests.specs.Requests.{lines, request_at, requests, is_end}

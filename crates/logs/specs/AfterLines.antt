@@ -20,6 +20,7 @@ use Rattle.model.specs.declared.Request.TheVariants as request
 use Rattle.theory_trees.specs.FreePairs.{free_iff_route}
 use Rattle.theory_log.specs.Pairs.{Sites}
 use Rattle.theory_log.specs.Logs as theory
+use Rattle.theory_log.proofs.Logs as laws
 use Rattle.sheet.specs.Sheet.{Network, read_sheet, accepted, edition_of}
 use Rattle.sheet.specs.SheetTheorem.{an_accepted_sheet_is_a_tree}
 use Rattle.log_requests.specs.Requests.{lines, request_at, requests, is_end}
@@ -70,13 +71,13 @@ module _ (s : List ℕ) (net : Network) (log : List ℕ) where
   pub after_every_line : (i : ℕ) → Holds i
   unfolding open_after opened_by given_up_by
   after_every_line i = record {
-    balance = theory.after_every_line_the_load_is_what_was_opened_less_what_was_given_up net.links capacity_of number (requests_of s net log) asked i;
-    fits = theory.after_every_line_no_load_is_above_twice_the_capacity net.links capacity_of number (requests_of s net log) asked i;
-    few = theory.after_every_line_at_most_OPEN_pairs_are_open net.links capacity_of number (requests_of s net log) asked i;
-    entries = theory.after_every_line_each_open_pair_has_an_amount net.links capacity_of number (requests_of s net log) asked i;
+    balance = laws.after_every_line_the_load_is_what_was_opened_less_what_was_given_up net.links capacity_of number (requests_of s net log) asked i;
+    fits = laws.after_every_line_no_load_is_above_twice_the_capacity net.links capacity_of number (requests_of s net log) asked i;
+    few = laws.after_every_line_at_most_OPEN_pairs_are_open net.links capacity_of number (requests_of s net log) asked i;
+    entries = laws.after_every_line_each_open_pair_has_an_amount net.links capacity_of number (requests_of s net log) asked i;
     free = theory.after_every_line_only_what_the_lines_open_is_open net.links capacity_of (Free net.links (is_end net)) (requests_of s net log)
         (the_requests_open_free_pairs_only false s net.names net.links (is_end net) log) i;
-    once = theory.after_every_line_the_open_pairs_are_different net.links capacity_of number (requests_of s net log) asked i;
+    once = laws.after_every_line_the_open_pairs_are_different net.links capacity_of number (requests_of s net log) asked i;
   }
 
   -- over an accepted sheet what is open is a plan: each entry joins two ends free to be joined (01: plan)

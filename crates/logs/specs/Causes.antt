@@ -12,19 +12,22 @@ use Rattle.model.specs.Pairing.{lower_first}
 use Rattle.model.specs.Booking.{pair, open_of, answer}
 use Rattle.model.specs.declared.Pair.{Pair}
 use Rattle.model.specs.declared.Request.TheVariants as request
-use Rattle.theory_log.specs.Answers.{Overfilled, NoPlace, Opening, overfills, crowds, fits, opening, says_14, says_15, gives_up, overfilled_by}
-use Rattle.theory_log.specs.Answers.{answered_16_exactly_where_nothing_is_overfilled_and_there_is_no_place}
+use Rattle.theory_log.specs.Answers.{Overfilled, NoPlace, Opening, overfills, crowds, fits, says_14, says_15, gives_up, overfilled_by}
+use Rattle.theory_log.proofs.Answers.{opening}
+use Rattle.theory_log.proofs.Answers.{answered_16_exactly_where_nothing_is_overfilled_and_there_is_no_place}
 use Rattle.text_lines.specs.Lines.{line_at}
 use Rattle.log_lines.specs.LogLines.{sign, log_line}
 use Rattle.log_lines.proofs.BookingLaws.{asks_makes}
-use Rattle.log_lines.specs.FaultyLogLines.{LineFault, no_sign, wrong_count, bad_name, bare_name, bad_number, wrong_amount, Tells, a-line-tells}
-use Rattle.log_lines.specs.FaultyLogLines.{a_log_line_is_a_fault_just_for_its_cause}
+use Rattle.log_lines.specs.FaultyLogLines.{LineFault, no_sign, wrong_count, bad_name, bare_name, bad_number, wrong_amount, Tells}
+use Rattle.log_lines.proofs.FaultyLogLines.{a-line-tells}
+use Rattle.log_lines.proofs.FaultyLogLines.{a_log_line_is_a_fault_just_for_its_cause}
 use Rattle.log_lines.specs.declared.Line.{Line}
 use Rattle.log_lines.specs.declared.Line.TheVariants.{Booking, Fault}
 use Rattle.log_requests.specs.Requests.{request_for, request_by, request_at}
 use Rattle.log_requests.specs.RequestLaws.{unended_line, ended_line}
 use Rattle.log_requests.specs.TwoEnds.{Asking, amount_of}
 use Rattle.log_requests.specs.TwoEnds as two
+use Rattle.log_requests.proofs.TwoEnds as two_laws
 
 -- over the names of the sheet s, its links, ends t and capacities c; es is what is open
 module _ (s : List ℕ) (names : List (ℕ × ℕ)) (ls : Links) (t : ℕ → ℕ) (c : ℕ → ℕ) (es : List Pair) (log : List ℕ) (at : ℕ) where
@@ -51,10 +54,10 @@ module _ (s : List ℕ) (names : List (ℕ × ℕ)) (ls : Links) (t : ℕ → �
 
   asked-between : (opens : Bool) {a b : ℕ} → Asking (sign opens) log at → TwoEnds a b
       → request_at false s names ls t log at ≡ request_for opens (pair a b (amount_of log at))
-  asked-between opens k z = two.asked-between s names ls t log at k false opens (asks_makes (line_at log at) opens k.asks) z
+  asked-between opens k z = two_laws.asked-between s names ls t log at k false opens (asks_makes (line_at log at) opens k.asks) z
 
   asked_of_none : (opens : Bool) → Asking (sign opens) log at → NotTwoEnds → request_at false s names ls t log at ≡ request.Fault 6
-  asked_of_none opens k none = two.asked_of_none s names ls t log at k false opens (asks_makes (line_at log at) opens k.asks) none
+  asked_of_none opens k none = two_laws.asked_of_none s names ls t log at k false opens (asks_makes (line_at log at) opens k.asks) none
 
   -- ---- a cause makes its number
 

@@ -29,7 +29,8 @@ use Rattle.sheet.specs.Marks.{WithoutMarks}
 use Rattle.planner.specs.Unmarked.{leaves, unmarked}
 use Rattle.log_requests.specs.Requests.{lines, line_of, request_for, between, request_by, request_at, requests, is_end}
 use Rattle.logs.specs.Log.{answers_of}
-use Rattle.log_requests.specs.RequestLaws.{Named, a_free_pair_is_asked_for, a_pair_that_is_not_free_gets_6}
+use Rattle.log_requests.specs.RequestLaws.{Named}
+use Rattle.log_requests.proofs.RequestLaws.{a_free_pair_is_asked_for, a_pair_that_is_not_free_gets_6}
 use Rattle.log_requests.proofs.RequestLaws.{found_is_a_site}
 
 -- ---- the rule from before

@@ -3,3 +3,4 @@ pub mod Named
 pub mod Replayed
 pub mod Sides
 pub mod Unpacked
+pub mod Exchanged

@@ -8,7 +8,8 @@ use Rattle.model.specs.Edition.{editions}
 use Rattle.sheet.proofs.Editions.{a_line_at_fault_is_within_the_limit}
 use Rattle.verdicts.specs.Outcome.{judged}
 use Rattle.verdicts.specs.Causes.{a_cause_is_small}
-use Rattle.verdicts.specs.Told.{JudgeTold, faulty_sheet, long_plan, faulty_line, heavy_plan, accepted_plan, the_verdict_is_told_or_its_cause}
+use Rattle.verdicts.specs.Told.{JudgeTold, faulty_sheet, long_plan, faulty_line, heavy_plan, accepted_plan}
+use Rattle.verdicts.proofs.Told.{the_verdict_is_told_or_its_cause}
 use Rattle.verdicts.specs.declared.Outcome.{Outcome}
 use Rattle.verdicts.specs.declared.Outcome.TheVariants.{Judged, Refused}
 use Rattle.packing.specs.Packed.{packed_verdict, unpacked_text, unpacked_number, unpacked_line, unpacked_total, unpacked_yes}

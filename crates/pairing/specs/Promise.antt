@@ -13,8 +13,9 @@ use Rattle.tree.specs.Offer.{links}
 use Rattle.tree.specs.Accepted.{MarkedTree}
 use Rattle.theory_walk.specs.Sound.{Sound, Ascending}
 use Rattle.theory_walk.specs.Evens.{Even, EvenPair}
-use Rattle.theory_walk.specs.PartsTheorem.{pair_list_of_parts_is_sound, pair_list_of_parts_ascends, pair_list_of_parts_lower_first}
-use Rattle.theory_walk.specs.PartsTheorem.{pair_list_of_parts_is_free, pair_list_of_parts_has_the_greatest_total, pair_list_of_parts_is_even}
+use Rattle.theory_walk.proofs.PartsTheorem.{pair_list_of_parts_is_sound, pair_list_of_parts_ascends, pair_list_of_parts_lower_first}
+use Rattle.theory_walk.specs.PartsTheorem.{pair_list_of_parts_is_even}
+use Rattle.theory_walk.proofs.PartsTheorem.{pair_list_of_parts_is_free, pair_list_of_parts_has_the_greatest_total}
 use Rattle.pairing.specs.declared.Pairing.TheVariants.{Heavy, Pairs}
 use Rattle.pairing.specs.Outcome.{terminals, list_of, answer, after, paired}
 use Rattle.pairing.specs.Weighing.Heavy.{balanced_has_no_heavy_link, a_heavy_link_is_somewhere}

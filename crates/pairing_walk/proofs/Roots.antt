@@ -15,7 +15,7 @@ use Rattle.theory_walk.specs.Halves.{Filled}
 use Rattle.theory_walk.specs.Walk.{size-le}
 use Rattle.theory_walk.specs.Bounds.{walk_short}
 use Rattle.theory_walk.proofs.Bounds.{walk-filled}
-use Rattle.theory_walk.specs.PartsLoops.{few_after_sites}
+use Rattle.theory_walk.proofs.PartsLoops.{few_after_sites}
 use Rattle.pairing_halves.specs.declared.Tops.{Tops}
 use Rattle.pairing_halves.specs.Arrays.{flat, flat_pairs, Added}
 use Rattle.pairing_halves.specs.Adding.{pairs-append, length_pairs, added_more}

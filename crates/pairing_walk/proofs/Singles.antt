@@ -16,7 +16,8 @@ use Rattle.model.specs.Parts.{single, pair_of_link, pairs_of_parts}
 use Rattle.tree.specs.Offer.{links}
 use Rattle.tree.specs.Links.{length-links, links-one, links-two}
 use Rattle.tree_links.specs.Chains.{offer-placed}
-use Rattle.theory_walk.specs.PartsLoops.{flat-next, few_after_links}
+use Rattle.theory_walk.specs.PartsLoops.{flat-next}
+use Rattle.theory_walk.proofs.PartsLoops.{few_after_links}
 use Rattle.theory_walk.specs.PartsTheorem.{pairs_of_parts_are_sound}
 use Rattle.pairing_halves.specs.Arrays.{flat_pairs, Added}
 use Rattle.pairing_halves.specs.Adding.{pairs-append, length_pairs, added_more}

@@ -18,7 +18,7 @@ use Rattle.lists.specs.Places.{length-upfrom, over-le, over-one}
 use Rattle.theory_trees.proofs.Greatest.{balanced_is_greatest, balanced_has_each_link}
 use Rattle.theory_trees.specs.Owners.{owner-or-none}
 use Rattle.theory_walk.specs.Sound.{Sound}
-use Rattle.theory_walk.specs.PartsTheorem.{pair_list_of_parts_is_sound}
+use Rattle.theory_walk.proofs.PartsTheorem.{pair_list_of_parts_is_sound}
 use Rattle.sheet.specs.Sheet.{Network, ends_of, part}
 use Rattle.report.specs.Report.{Plan, lines, odd_line, plan_of, whole_of, report_of, report, whole_report}
 

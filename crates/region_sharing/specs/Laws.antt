@@ -9,7 +9,7 @@ use Rattle.lists.specs.Numbers.{pick, differ, sum, look}
 use Rattle.lists.specs.Sums.{contradiction, same?, pick_same, pick_other, differ-le, product_one}
 use Rattle.model.specs.Edition.{largest}
 use Rattle.model.specs.Flows.{Site, one, two}
-use Rattle.theory_regions.specs.FarSites.{lone-le}
+use Rattle.theory_regions.proofs.FarSites.{lone-le}
 use Rattle.theory_regions.specs.Regions.{Region, lone}
 use Rattle.theory_regions.specs.Sharing.{first_from, apart, commons, shared_first, shared_second, met, may_be_far, chosen, shared_at, sharing_of}
 use Rattle.theory_regions.specs.SharingLaws.{one_is_found}

@@ -1,2 +1,3 @@
 pub mod LinesRead
 pub mod RecordLaws
+pub mod Held

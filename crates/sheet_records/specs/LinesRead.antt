@@ -37,7 +37,7 @@ use Rattle.sheet.specs.declared.stepping.Step.{Step}
 use Rattle.sheet.specs.declared.stepping.Step.TheVariants as step
 use Rattle.sheet_records.specs.SameRecords.{records_of, SameNames, SameRecord, same-site, same-link, GivenAmong, LinksBelow}
 use Rattle.sheet_records.specs.RecordLaws.{a_site_is_no_link}
-use Rattle.sheet_records.specs.Held.{Holds, site_stays, new_site, more_site, more_link}
+use Rattle.sheet_records.specs.Held.{Holds}
 
 -- ---- records that cannot stand on one sheet
 
@@ -60,17 +60,6 @@ pub a_link_does_not_count : (r : Record) → IsLink Reserved r → as_site r ≡
 unfolding as_site same
 a_link_does_not_count r is = rw (link_parts Reserved r is).letter
 
--- ---- links below their sites
-
--- one more record, which has its sites among all above if it is a link
-links_below_more : (above rs : List Record) (r : Record) → LinksBelow above rs
-    → (IsLink Reserved r → GivenAmong (above ++ rs) (field r 1) × GivenAmong (above ++ rs) (field r 2)) → LinksBelow above (rs ++ (r ∷ []))
-links_below_more above [] r h k = (rw (append-nil above) at k, tt)
-links_below_more above (q ∷ rs) r h k = (
-  h.0,
-  links_below_more (above ++ (q ∷ [])) rs r h.1 (rw (append_assoc above (q ∷ []) rs) k),
-)
-
 -- ---- names
 
 -- where no two sites have the same name, one site has a name
@@ -84,30 +73,11 @@ one_site_of_a_name s names different f g v w h k e =
     (λ m. absurd (different (v - 1) (omega (arith, h.site)) (w - 1) (omega (arith, k.site)) (sym same)))
     (λ m. omega arith))
 
--- ---- the lines
-
-lines_of_line : (l rest : List ℕ) → ((i : ℕ) → i < length l → get_or l i 0 ≢ 10) → lines_of (l ++ 10 ∷ rest) ≡ l ∷ lines_of rest
-unfolding lines_of push
-lines_of_line [] rest h = refl
-lines_of_line (b ∷ l) rest h = rw (ne_eqb b 10 (h 0 (omega arith)), lines_of_line l rest (λ i k. h (suc i) (omega arith)))
-
--- the records from an offset on are that of the line there and those below
-pub records_step : (s : List ℕ) (at : ℕ) → Ended s at → records (drop at s) ≡ fields_at s at ∷ records (drop (after_line s at) s)
-unfolding records
-records_step s at e = rw (ended_lines_cover_the_sheet s at e, lines_of_line (line_at s at) (drop (after_line s at) s) (line_holds_no_ten s at))
-
 pub no_records : (s : List ℕ) (at : ℕ) → length s ≤ at → records (drop at s) ≡ []
 unfolding records lines_of
 no_records s at l = rw (drop_of_length-le s l)
 
 module _ (ed : Edition) (s : List ℕ) where
-  -- a line that is read without fault is ended
-  an_accepted_line_is_ended : (net : Network) (k at : ℕ) (after : Network) → read_line ed s net k at ≡ accepted after → Ended s at
-  unfolding read_line
-  an_accepted_line_is_ended net k at after e = cases (dec_lt (at + length (line_at s at)) (length s))
-      (λ l. l)
-      (λ l. let no : refused 2 k ≡ accepted after = sym (ap (added net) (unended_step ed s net k at (omega arith))) ∙ e in contradiction cc)
-
   -- what holds of the records above a line and of the network read from them
   pub record Kept (above : List Record) (net : Network) : Type 0 where
     pub holds : Holds ed s above net
@@ -120,164 +90,7 @@ module _ (ed : Edition) (s : List ℕ) where
     pub rest : records_of s ≡ above ++ records (drop at s)
     pub kept : Kept above net
 
-  module _ (above : List Record) (net : Network) (K : Kept above net) (at : ℕ) where
-    abbrev here : Record
-    here = fields_at s at
-
-    -- a site line
-    site-kept : IsSite here → Sound ed s (with_site net (first_name s at) (mark here)) → Kept (above ++ (here ∷ [])) (with_site net (first_name s at) (mark here))
-    unfolding tally
-    site-kept is sound =
-        let H = K.holds in
-        let q = first_name s at in
-        let m = mark here in
-        let after = with_site net q m in
-        let n = length net.names in
-        let new = new_site ed s net above H at is in
-        let long = length-append net.names (q ∷ []) in
-        record {
-          holds = more_site ed s net above H at is;
-          below = links_below_more [] above here K.below (λ l. absurd (a_site_is_no_link here is l));
-          apart = apart_more Meet above here K.apart (λ r z meet. elim meet [
-            | at-a-site a b name ↦ elim (H.held r z) [
-              | inl k ↦
-                  let old = site_stays ed s net H.marks q m k.0 r k.1 in
-                  let place : suc n - 1 ≡ n = omega arith in
-                  sound.different n (omega arith) (k.0 - 1) (omega (arith, k.1.site))
-                  (ap capitals old.name ∙ name ∙ sym (ap capitals (rw place at new.name)))
-              | inr k ↦ a_site_is_no_link r a k.1.is-link
-            ]
-            | at-a-link a b names ↦ a_site_is_no_link here is b
-          ]);
-          counted = omega (arith, long, K.counted, tally-append as_site above (here ∷ []), a_site_counts here is);
-        }
-
-    -- a link line of a network sheet
-    link-kept : ed.sizing ≡ Reserved → (a b c : ℕ) → IsLinkLine ed s net.names at a b c → Sound ed s net → Sound ed s (with_link net (a, b) c)
-        → Kept (above ++ (here ∷ [])) (with_link net (a, b) c)
-    unfolding tally
-    link-kept network a b c is sound after =
-        let H = K.holds in
-        let is-link : IsLink Reserved here = subst (λ z. IsLink z here) network is.is-link.link in
-        let given : (f : List ℕ) (v : ℕ) → Named s net.names f v → GivenAmong above f = λ f v h.
-        let k = H.sites v h.site in (k.0, k.1, k.2.is-site, ap capitals (sym k.2.name) ∙ h.name) in
-        let fresh : label (reverse net.links) a ≢ label (reverse net.links) b
-        = (rw (reverse_aux-append net.links ((a, b) ∷ []) []) at after.fresh).0 in
-        let apart : ¬ (Joined net.links a b) = λ j. fresh ((joined_reversed net.links a b).1 (joined-label net.links j)) in
-        record {
-          holds = more_link ed s net above H at network a b c is;
-          below = links_below_more [] above here K.below (λ l. (given (field here 1) a is.first, given (field here 2) b is.second));
-          apart = apart_more Meet above here K.apart (λ r z meet. elim meet [
-            | at-a-site x y name ↦ a_site_is_no_link here y is-link
-            | at-a-link x y names ↦ elim (H.held r z) [
-              | inl k ↦ a_site_is_no_link r k.1.is-site x
-              | inr k ↦
-                  let h = k.1 in
-                  let j : Joined net.links (one net.links k.0) (two net.links k.0) = link k.0 h.link in
-                  elim names [
-                    | inl e ↦
-                        let p = one_site_of_a_name s net.names sound.different _ _ _ a h.first is.first e.0 in
-                        let q = one_site_of_a_name s net.names sound.different _ _ _ b h.second is.second e.1 in
-                        apart (subst (λ v. Joined net.links v b) p (subst (Joined net.links (one net.links k.0)) q j))
-                    | inr e ↦
-                        let p = one_site_of_a_name s net.names sound.different _ _ _ b h.first is.second e.0 in
-                        let q = one_site_of_a_name s net.names sound.different _ _ _ a h.second is.first e.1 in
-                        apart (back (subst (λ v. Joined net.links v a) p (subst (Joined net.links (one net.links k.0)) q j)))
-                  ]
-            ]
-          ]);
-          counted = omega (arith, K.counted, tally-append as_site above (here ∷ []), a_link_does_not_count here is-link);
-        }
-
-  -- a line below the heading that is read is kept
-  line_read : ed.sizing ≡ Reserved → (above : List Record) (net : Network) (k at : ℕ) (after : Network) → k ≢ 1 → Sound ed s net → Sound ed s after
-      → ReadTo at net above → read_line ed s net k at ≡ accepted after → ReadTo (after_line s at) after (above ++ (fields_at s at ∷ []))
-  unfolding read_line
-  line_read network above net k at after d sound sound' R e = record { rest = on; kept = by (step_of ed s net k at) (step_adds ed s net k at) e }
-    where
-      on : records_of s ≡ (above ++ (fields_at s at ∷ [])) ++ records (drop (after_line s at) s)
-      on = R.rest ∙ ap (λ y. above ++ y) (records_step s at (an_accepted_line_is_ended net k at after e))
-          ∙ sym (append_assoc above (fields_at s at ∷ []) (records (drop (after_line s at) s)))
-
-      by : (w : Step) → Adds ed s net k at w → added net w ≡ accepted after → Kept (above ++ (fields_at s at ∷ [])) after
-      by step.Nothing h e = absurd (d h)
-      by (step.Site a b m) h e =
-          let same : with_site net (first_name s at) (mark (fields_at s at)) ≡ after = rw (← h.1, ← h.2) cc in
-          subst (Kept (above ++ (fields_at s at ∷ []))) same (site-kept above net R.kept at h.0 (subst (Sound ed s) (sym same) sound'))
-      by (step.Link a b c) h e =
-          let same : with_link net (a, b) c ≡ after = cc in
-          subst (Kept (above ++ (fields_at s at ∷ []))) same (link-kept above net R.kept at network a b c h sound (subst (Sound ed s) (sym same) sound'))
-      by (step.Refused n m) h e = contradiction cc
-
-  nothing-is-kept : Kept [] empty
-  unfolding tally
-  nothing-is-kept = record {
-    holds = record {
-      sites = λ v p. absurd (omega arith);
-      links = λ j l. absurd (omega arith);
-      held = λ r z. absurd z;
-      marks = refl;
-      capacities = refl;
-    };
-    below = tt;
-    apart = tt;
-    counted = refl;
-  }
-
-  -- line 1 is read: it is the heading, and adds nothing
-  heading_read : (net after : Network) → read_line ed s net 1 0 ≡ accepted after → (after ≡ net) × (is_heading ed (fields_at s 0) ≡ true)
-  unfolding read_line heading_step
-  heading_read net after e = by (is_heading ed (fields_at s 0))
-      (sym (ap (added net) (first_step ed s net 1 0 (an_accepted_line_is_ended net 1 0 after e) refl)) ∙ e)
-    where
-      by : (t : Bool) → added net (cond t step.Nothing (step.Refused 2 1)) ≡ accepted after → (after ≡ net) × (t ≡ true)
-      by true q = (cc, refl)
-      by false q = contradiction cc
-
   -- at line 1 nothing is read; below it, line 1 is the heading, and the lines above have been read
   abbrev pub ReadSoFar : ℕ → ℕ → Network → Type 0
   ReadSoFar k at net = ((k ≡ 1) × (at ≡ 0) × (net ≡ empty))
       ⊎ ((k ≢ 1) × (is_heading ed (fields_at s 0) ≡ true) × ((above : List Record) × ReadTo at net above))
-
-  pub what_is_reached_is_read : ed.sizing ≡ Reserved → {k at : ℕ} {net : Network} → Reached ed s k at net
-      → (1 ≤ k) × (at ≤ length s) × Sound ed s net × ReadSoFar k at net
-  unfolding records_of
-  what_is_reached_is_read network start = (omega arith, omega arith, none_is_sound ed s, inl (refl, refl, refl))
-  what_is_reached_is_read network (next {k = k} {at = at} {net = net} {after = after} r l e) =
-      let h = what_is_reached_is_read network r in
-      let sound : Sound ed s after = subst (Accepts (Sound ed s)) e (a_line_keeps_sound ed s net k h.2 at h.1) in
-      let o = by h.2 sound h.3 in
-      (omega (arith, h.0), after-within ed s at, sound, inr (λ z. omega (arith, h.0), o.0, o.1))
-    where
-      by : Sound ed s net → Sound ed s after → ReadSoFar k at net
-          → (is_heading ed (fields_at s 0) ≡ true) × ((above : List Record) × ReadTo (after_line s at) after above)
-      by sound sound' (inl z) =
-          let read : read_line ed s net 1 0 ≡ accepted after = rw (← z.0, ← z.1) e in
-          let head = heading_read net after read in
-          let same : empty ≡ after = sym (head.0 ∙ z.2) in
-          let step = records_step s 0 (an_accepted_line_is_ended net 1 0 after read) in
-          (head.1, ([], rw z.1 (record { rest = ap (drop 1) step; kept = subst (Kept []) same nothing-is-kept })))
-      by sound sound' (inr (d, head, (above, R))) = (head, (above ++ (fields_at s at ∷ []), line_read network above net k at after d sound sound' R e))
-
-  -- where all lines are read, the records are those of the sheet
-  pub read_to_the_end : {k at : ℕ} {net : Network} → length s ≤ at → ReadSoFar k at net → Kept (records_of s) net
-  unfolding records_of
-  read_to_the_end l (inl z) =
-      let none : records_of s ≡ [] = ap (drop 1) (no_records s 0 (omega (arith, z.1))) in
-      rw (none, z.2) nothing-is-kept
-  read_to_the_end {at = at} {net} l (inr (d, head, (above, R))) =
-      let all : above ≡ records_of s = sym (append-nil above) ∙ ap (λ y. above ++ y) (sym (no_records s at l)) ∙ sym R.rest in
-      subst (λ rs. Kept rs net) all R.kept
-
-  module _ (network : ed.sizing ≡ Reserved) (net : Network) (e : read_as ed s ≡ accepted net) where
-    pub an_accepted_sheet_keeps_its_records : Kept (records_of s) net
-    an_accepted_sheet_keeps_its_records =
-        let z = an_accepted_sheet_is_read_to_its_end ed s net e in read_to_the_end z.3 (what_is_reached_is_read network z.2).3
-
-    -- an accepted sheet gives a site for each site record and a link for each link record, and no other
-    pub an_accepted_sheet_holds_its_records : Holds ed s (records_of s) net
-    an_accepted_sheet_holds_its_records = an_accepted_sheet_keeps_its_records.holds
-
-    -- and each link of it stands below its two sites
-    pub an_accepted_sheet_has_each_link_below_its_sites : LinksBelow [] (records_of s)
-    an_accepted_sheet_has_each_link_below_its_sites = an_accepted_sheet_keeps_its_records.below

@@ -36,10 +36,12 @@ use Rattle.sheet_records.specs.SameRecords.{EachLinkBelowItsSites, SameFrame}
 use Rattle.sheet_records.specs.RecordLaws.{a_site_is_no_link}
 use Rattle.sheet_records.proofs.RecordLaws.{names_turned, names_chained, record_turned}
 use Rattle.sheet_records.specs.Held.{LinkRecord, Holds}
-use Rattle.sheet_records.specs.LinesRead.{Meet, at-a-site, at-a-link, as_site, a_site_counts, a_link_does_not_count, records_step}
+use Rattle.sheet_records.specs.LinesRead.{Meet, at-a-site, at-a-link, as_site, a_site_counts, a_link_does_not_count}
+use Rattle.sheet_records.proofs.LinesRead.{records_step}
 use Rattle.sheet_records.proofs.LinesRead.{meet_turned, meet_carried}
-use Rattle.sheet_records.specs.LinesRead.{Kept, ReadTo, what_is_reached_is_read, read_to_the_end, an_accepted_sheet_keeps_its_records}
-use Rattle.sheet_records.specs.LinesRead.{an_accepted_sheet_has_each_link_below_its_sites}
+use Rattle.sheet_records.specs.LinesRead.{Kept, ReadTo}
+use Rattle.sheet_records.proofs.LinesRead.{what_is_reached_is_read, read_to_the_end, an_accepted_sheet_keeps_its_records}
+use Rattle.sheet_records.proofs.LinesRead.{an_accepted_sheet_has_each_link_below_its_sites}
 use Rattle.shuffled.specs.Networks.{found_by_name, site_to}
 use Rattle.shuffled.specs.Accepted.{accepted_exactly_if_each_link_is_below, refused_with_6_alone}
 

@@ -22,10 +22,11 @@ use Rattle.demands.specs.ReadBack.{figures_say}
 use Rattle.demands.specs.Sets.{set_by, the_owner_told_is_the_owner}
 use Rattle.demands.proofs.MetLaws.{the_plan_is_printed}
 use Rattle.shuffled.specs.SameReports.{SameSite, EachIsThere, SamePrinted}
-use Rattle.shuffled.specs.Networks.{among-is-there}
-use Rattle.shuffled.specs.Agree.{Agree, the_halves_agree}
-use Rattle.shuffled.specs.Lines.{same-site-turned}
-use Rattle.shuffled.specs.ShuffledSheets.{each-is-among, each-is-among-turned}
+use Rattle.shuffled.proofs.Networks.{among-is-there}
+use Rattle.shuffled.specs.Agree.{Agree}
+use Rattle.shuffled.proofs.Agree.{the_halves_agree}
+use Rattle.shuffled.proofs.Lines.{same-site-turned}
+use Rattle.shuffled.proofs.ShuffledSheets.{each-is-among, each-is-among-turned}
 
 -- ---- the sets told
 

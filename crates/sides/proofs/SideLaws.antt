@@ -15,16 +15,36 @@ use Rattle.theory_regions.specs.Regions.{first_size, given}
 use Rattle.theory_regions.specs.JoinedTree.{Border, Bordered}
 use Rattle.theory_regions.specs.Sharing.{Named}
 use Rattle.theory_regions.specs.Meeting.{link-sites}
-use Rattle.theory_regions.specs.FarSites.{lone_iff}
-use Rattle.theory_regions.specs.Again.{trimmed_again_has_each_link}
+use Rattle.theory_regions.proofs.FarSites.{lone_iff}
+use Rattle.theory_regions.proofs.Again.{trimmed_again_has_each_link}
 use Rattle.exchanges.specs.Shared.{region_of, site_name}
 use Rattle.exchanges.specs.SharedLaws.{the_network_is_named, a_look_up_finds_the_site_of_a_name}
 use Rattle.sides.specs.Outcome.{site_of, link_named, show_over, show_read, first_shown, refusal, delivered, answer_over, answer_read, answered}
 use Rattle.sides.specs.Causes.{MayShare, AcceptedSide}
-use Rattle.side_links.specs.LinkLaws.{a_link_that_is_found_joins_them, a_link_between_them_is_found}
+use Rattle.side_links.proofs.LinkLaws.{a_link_that_is_found_joins_them, a_link_between_them_is_found}
 use Rattle.sides.specs.declared.First.TheVariants.{Shown}
 use Rattle.sides.specs.declared.First.TheVariants as first
 use Rattle.sides.specs.SideLaws.{no_link_is_meant}
+use Rattle.sides.specs.SideLaws.{its_link}
+
+-- ---- what a step comes to
+module _ {known : List Edition} {s : List ℕ} {net : Network} {name name' : List ℕ} {p : Border} (A : AcceptedSide known s net name name' p) where
+  module _ (told : ℕ) (l : List ℕ) where
+    pub a_larger_number_is_refused : look net.capacities p.shared < told → answered known s name name' told l ≡ refusal 18 0 l
+    unfolding answered answer_read answer_over
+    a_larger_number_is_refused h =
+        rw (A.read, its_link A, lt-ltb _ _ A.share.link, lt-leb _ _ h) refl
+
+    module _ (h : told ≤ look net.capacities p.shared) where
+      pub a_shorter_list_is_refused : length l < length net.links → answered known s name name' told l ≡ refusal 9 0 l
+      unfolding answered answer_read answer_over
+      a_shorter_list_is_refused short =
+          rw (A.read, its_link A, lt-ltb _ _ A.share.link, le-leb _ _ h, lt-leb _ _ short) refl
+
+      pub its_answer_is_delivered : length net.links ≤ length l → answered known s name name' told l ≡ delivered (given (region_of net) p.shared told) l
+      unfolding answered answer_read answer_over
+      its_answer_is_delivered long =
+          rw (A.read, its_link A, lt-ltb _ _ A.share.link, le-leb _ _ h, le-leb _ _ long) refl
 
 module _ (known : List Edition) (s name name' : List ℕ) where
   pub a_sheet_refused_shows_nothing : (k line : ℕ) → read_sheet known s ≡ refused k line → first_shown known s name name' ≡ first.Refused k line

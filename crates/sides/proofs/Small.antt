@@ -12,7 +12,8 @@ use Rattle.sheet.proofs.Answers.{refusals_have_sheet_numbers}
 use Rattle.theory_trees.specs.Sites.{by_link}
 use Rattle.theory_regions.specs.Regions.{first_size, own_sum, given}
 use Rattle.theory_regions.specs.JoinedTree.{Border}
-use Rattle.theory_regions.specs.Again.{trimmed_is_greatest, no_size_is_passed}
+use Rattle.theory_regions.specs.Again.{trimmed_is_greatest}
+use Rattle.theory_regions.proofs.Again.{no_size_is_passed}
 use Rattle.exchanges.specs.Shared.{region_of}
 use Rattle.sides.specs.Outcome.{first_number, first_line, size_of, first_shown, number, line_of, count_of, sum_of, answered}
 use Rattle.sides.specs.Causes.{AcceptedSide, FirstCause, of_the_sheet, no_such_link, Cause, of_the_first_step, number_too_large, list_too_short}

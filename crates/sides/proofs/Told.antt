@@ -19,7 +19,7 @@ use Rattle.sides.specs.SideLaws.{meant?}
 use Rattle.sides.proofs.SideLaws.{a_sheet_refused_shows_nothing, a_sheet_refused_is_given_nothing}
 use Rattle.sides.specs.SideLaws.{its_first_size_is_shown, a_size_for_each_link}
 use Rattle.sides.proofs.SideLaws.{without-a-link-nothing-is-shown, without-a-link-nothing-is-given}
-use Rattle.sides.specs.SideLaws.{a_larger_number_is_refused, a_shorter_list_is_refused, its_answer_is_delivered}
+use Rattle.sides.proofs.SideLaws.{a_larger_number_is_refused, a_shorter_list_is_refused, its_answer_is_delivered}
 use Rattle.sides.specs.declared.First.{First}
 use Rattle.sides.specs.declared.First.TheVariants.{Shown}
 use Rattle.sides.specs.declared.First.TheVariants as first

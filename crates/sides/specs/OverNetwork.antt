@@ -61,7 +61,7 @@ module _ {s : List ℕ} {network : Lists} (r : Listed s network) where
   the_names_are_distinct =
       let net = an_accepted_sheet_is_within_the_largest s r.net r.read in rw names_of_lists (distinct_names net.names net.different)
 
-  as_many : m ≡ length r.net.links
+  pub as_many : m ≡ length r.net.links
   unfolding lists
   as_many = rw r.listed refl
 
@@ -72,7 +72,7 @@ module _ {s : List ℕ} {network : Lists} (r : Listed s network) where
       (take m network.capacity)
   the_lists_are_a_tree = rw (← (the_marks_are_taken_apart r)) at (the_network_is_a_marked_tree (the_lists_are_taken_apart r))
 
-  the_region_is_the_networks : listed network (take m network.capacity) ≡ region_of r.net
+  pub the_region_is_the_networks : listed network (take m network.capacity) ≡ region_of r.net
   the_region_is_the_networks =
       let a = the_lists_are_taken_apart r in
       let told : accepted a.net ≡ accepted r.net = sym a.read ∙ r.read in
@@ -80,10 +80,10 @@ module _ {s : List ℕ} {network : Lists} (r : Listed s network) where
       alike (the_links_are_the_networks a) a.counted (the_marks_are_taken_apart r) a.sizes ∙ ap region_of same
 
   module _ (name name' : List ℕ) (j : ℕ) (e : j ≡ link_of (listed network []) (site_in s network name) (site_in s network name')) where
-    abbrev region : Region
+    abbrev pub region : Region
     region = listed network (take m network.capacity)
 
-    its_link : link_named s r.net name name' ≡ j
+    pub its_link : link_named s r.net name name' ≡ j
     unfolding link_of lone
     its_link = sym (e ∙ rw names_of_lists (ap (λ a. link_of a (site_found (lookup s r.net.names name)) (site_found (lookup s r.net.names name')))
         the_region_is_the_networks))
@@ -99,50 +99,3 @@ module _ {s : List ℕ} {network : Lists} (r : Listed s network) where
     pub a_link_shows_its_size : j < m → first_shown editions s name name' ≡ Shown (first_size region j)
     unfolding show_over
     a_link_shows_its_size h = shown_by ∙ rw (lt-ltb j (length r.net.links) (omega (arith, as_many)), the_region_is_the_networks) refl
-
-    module _ (told : ℕ) (l : List ℕ) where
-      answered-by : answered editions s name name' told l ≡ answer_over (region_of r.net) j told l
-      unfolding answered answer_read
-      answered-by = rw (r.read, its_link) refl
-
-      pub no_link_is_given_nothing : m ≤ j → answered editions s name name' told l ≡ refusal 18 0 l
-      unfolding answer_over
-      no_link_is_given_nothing h = answered-by ∙ rw (le-ltb j (length r.net.links) (omega (arith, as_many))) refl
-
-      module _ (h : j < m) where
-        here : j < length r.net.links
-        here = omega (arith, as_many)
-
-        its_size : look r.net.capacities j ≡ look network.capacity j
-        its_size = rw (← (ap (λ a. a.capacities) the_region_is_the_networks)) (get_or-take m network.capacity j 0 h)
-
-        pub a_larger_number_is_given_nothing : look network.capacity j < told → answered editions s name name' told l ≡ refusal 18 0 l
-        unfolding answer_over
-        a_larger_number_is_given_nothing k =
-            answered-by ∙ rw (lt-ltb j (length r.net.links) here, lt-leb told (look r.net.capacities j) (omega (arith, its_size))) refl
-
-        module _ (k : told ≤ look network.capacity j) where
-          pub a_shorter_list_is_given_nothing : length l < m → answered editions s name name' told l ≡ refusal 9 0 l
-          unfolding answer_over
-          a_shorter_list_is_given_nothing short = answered-by ∙ rw (
-            lt-ltb j (length r.net.links) here,
-            le-leb told (look r.net.capacities j) (omega (arith, its_size)),
-            lt-leb (length r.net.links) (length l) (omega (arith, as_many)),
-          ) refl
-
-          as-many-sizes : length (given region j told).sizes ≡ m
-          unfolding given
-          as-many-sizes =
-              let room = length-take-le m network.one (room_for_the_links r).0 in
-              trimmed_again_for_each_link the_lists_are_a_tree j told (omega (arith, room)) ∙ room
-
-          pub the_answer_is_given : m ≤ length l → answered editions s name name' told l
-              ≡ record { outcome = Answered m (given region j told).sum; list = (given region j told).sizes ++ drop m l }
-          unfolding answer_over
-          the_answer_is_given long = answered-by ∙ rw (
-            lt-ltb j (length r.net.links) here,
-            le-leb told (look r.net.capacities j) (omega (arith, its_size)),
-            le-leb (length r.net.links) (length l) (omega (arith, as_many)),
-            ← the_region_is_the_networks,
-            as-many-sizes,
-          ) refl

@@ -18,7 +18,6 @@ use Rattle.sides.specs.Outcome.{first_number, first_line, size_of, first_shown, 
 use Rattle.sides.specs.Causes.{AcceptedSide, FirstCause, of_the_sheet, no_such_link, Cause, of_the_first_step, number_too_large, list_too_short}
 use Rattle.sides.specs.SideLaws.{meant?}
 use Rattle.sides.specs.SideLaws.{its_first_size_is_shown, a_size_for_each_link}
-use Rattle.sides.specs.SideLaws.{a_larger_number_is_refused, a_shorter_list_is_refused, its_answer_is_delivered}
 use Rattle.sides.specs.declared.First.{First}
 use Rattle.sides.specs.declared.First.TheVariants.{Shown}
 use Rattle.sides.specs.declared.First.TheVariants as first

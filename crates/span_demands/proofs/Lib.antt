@@ -1,1 +1,2 @@
 pub mod MetLaws
+pub mod ReadBack

@@ -24,7 +24,8 @@ use Rattle.demands.specs.ReadBack.{figures_say}
 use Rattle.demands.proofs.ReadBack.{report_read_back}
 use Rattle.span_demands.specs.Printed.{read_span}
 use Rattle.span_demands.specs.Asked.{with_sizes, SpanAsked, PlanNumbers}
-use Rattle.span_demands.specs.ReadBack.{span_says, the_span_is_read_back}
+use Rattle.span_demands.specs.ReadBack.{span_says}
+use Rattle.span_demands.proofs.ReadBack.{the_span_is_read_back}
 
 module _ (s : List ℕ) (low high : Network) (read_low : read_as ranges_low s ≡ accepted low) (read_high : read_as ranges_high s ≡ accepted high) where
   -- the two networks of a range sheet

@@ -83,43 +83,8 @@ module _ (p : Span) (plain : (v : ℕ) → Plain (p.names v)) where
 module _ {ed : Edition} {s : List ℕ} {low : Network} (N : IsNetwork ed s low) (high : Network)
     (highs : length high.capacities ≡ length low.links) (leasts : length (trimmed_sizes low) ≡ length low.links)
     (greatests : length (trimmed_sizes high) ≡ length low.links) where
-  abbrev p : Span
+  abbrev pub p : Span
   p = span_of s low high
 
-  abbrev site : List ℕ → ℕ
-  site = site_named s low
-
-  abbrev name : ℕ → List ℕ
-  name v = name_at s low.names (v - 1)
-
-  abbrev ls : List (ℕ × ℕ)
+  abbrev pub ls : List (ℕ × ℕ)
   ls = low.links
-
-  module _ {B : Type 0} (g : Record → B) where
-    by_link : (l : List B) (d : B) → length ls ≡ length l
-        → ((j : ℕ) → j < length ls → g (bytes "L" ∷ name (one ls j) ∷ name (two ls j) ∷ decimal (look low.capacities j)
-        ∷ decimal (look high.capacities j) ∷ decimal (look (trimmed_sizes low) j) ∷ decimal (look (trimmed_sizes high) j) ∷ []) ≡ get_or l j d)
-        → map g (headed (bytes "L") (records (span_text p))) ≡ l
-    unfolding span_of
-    by_link l d e same =
-        ap (map g) (link-lines p (site-name-is-plain N))
-        ∙ map-map g (range_fields p (site-name-is-plain N)) (upfrom 0 (length p.ones))
-        ∙ rw (length-map ls (λ r. r.0) ∙ e) (map-places l d (λ j. g (range_fields p (site-name-is-plain N) j))
-        (λ j k. rw (get_or-map (λ r. r.0) ls j (0, 0), get_or-map (λ r. r.1) ls j (0, 0)) (same j (omega arith))))
-
-  -- the bytes of the report say what it shows
-  pub the_span_is_read_back : read_span s low (span_report s low high) ≡ span_says low high
-  unfolding read_span read_span_records span_says span_report span_of
-  the_span_is_read_back =
-      let first = first-line p (site-name-is-plain N) in
-      λ i. record {
-        heading = ap (λ l. field l 0) first i;
-        least = (ap (λ l. value (field l 1)) first ∙ decimal_read_back (largest_total low)) i;
-        greatest = (ap (λ l. value (field l 2)) first ∙ decimal_read_back (largest_total high)) i;
-        links = by_link (λ l. (site (field l 1), site (field l 2))) ls (0, 0) refl
-            (λ j k. rw (name_read_back N (one ls j) (N.tree.ends j k).0, name_read_back N (two ls j) (N.tree.ends j k).1)) i;
-        lows = by_link (λ l. value (field l 3)) low.capacities 0 (sym N.capacities) (λ j k. decimal_read_back _) i;
-        highs = by_link (λ l. value (field l 4)) high.capacities 0 (sym highs) (λ j k. decimal_read_back _) i;
-        leasts = by_link (λ l. value (field l 5)) (trimmed_sizes low) 0 (sym leasts) (λ j k. decimal_read_back _) i;
-        greatests = by_link (λ l. value (field l 6)) (trimmed_sizes high) 0 (sym greatests) (λ j k. decimal_read_back _) i;
-      }

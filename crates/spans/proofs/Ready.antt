@@ -41,7 +41,72 @@ use Rattle.planner.specs.Taken.{padded-length, padded-front, links-again}
 use Rattle.planner.specs.Works.{named_site}
 use Rattle.planner.specs.declared.Outcome.TheVariants.{Refused}
 use Rattle.spans.specs.Outcome.{network_of, span_read, spanned}
-use Rattle.spans.specs.Ready.{Apart, Listed, m, n, total_by, within_the_largest}
+use Rattle.spans.specs.Ready.{Apart, Listed, m, n, total_by}
+
+-- an accepted range sheet is a tree within the limits of the largest edition
+pub within_the_largest : (ed : Edition) (s : List ℕ) (net : Network) → ed.sites ≤ SITES → ed.size ≤ SIZE → read_as ed s ≡ accepted net → IsNetwork largest s net
+within_the_largest ed s net few small e =
+    let N = an_accepted_sheet_is_a_tree ed s net e in
+    record {
+      tree = N.tree;
+      few = omega (arith, N.few);
+      capacities = N.capacities;
+      sizes = λ j l. omega (arith, N.sizes j l);
+      marks = N.marks;
+      marked = N.marked;
+      names = N.names;
+      different = N.different;
+    }
+
+module _ {s : List ℕ} {low high : Lists} (r : Listed s low high) where
+  lower-given : IsNetwork largest s r.lower
+  lower-given = within_the_largest ranges_low s r.lower (omega arith) (omega arith) r.read_low
+
+  upper_given : IsNetwork largest s r.upper
+  upper_given = within_the_largest ranges_high s r.upper (omega arith) (omega arith) r.read_high
+
+  -- as many high sizes as links
+  each-high : length r.upper.capacities ≡ length r.lower.links
+  each-high = upper_given.capacities ∙ ap length r.ranged.links
+
+  firsts_length : length (map (λ l. l.0) r.lower.links) ≡ length r.lower.links
+  firsts_length = length-map r.lower.links (λ l. l.0)
+
+  seconds_length : length (map (λ l. l.1) r.lower.links) ≡ length r.lower.links
+  seconds_length = length-map r.lower.links (λ l. l.1)
+
+  -- there is a place for each link, and for the mark of each site
+  pub room_for_the_links : (m r ≤ length low.one) × (m r ≤ length low.two) × (n r ≤ length low.mark) × (m r ≤ length low.capacity)
+      × (m r ≤ length high.capacity)
+  unfolding lists
+  room_for_the_links =
+      let few : length r.lower.links ≤ LINKS = omega (arith, lower-given.tree.links, lower-given.few) in
+      rw (r.low-listed, r.high-listed) (
+        omega (arith, padded-length SITES (map (λ l. l.0) r.lower.links) (omega (arith, firsts_length))),
+        omega (arith, padded-length SITES (map (λ l. l.1) r.lower.links) (omega (arith, seconds_length))),
+        omega (arith, padded-length SITES r.lower.marks (omega (arith, lower-given.marks, lower-given.few)), lower-given.few),
+        omega (arith, padded-length SITES r.lower.capacities (omega (arith, lower-given.capacities))),
+        omega (arith, padded-length SITES r.upper.capacities (omega (arith, each-high))),
+      )
+
+  pub the_lists_are_taken_apart : Apart s low.start low.end (n r) (take (m r) low.one) (take (m r) low.two) (take (n r) low.mark) (take (m r) low.capacity)
+      (take (m r) high.capacity)
+  unfolding lists
+  the_lists_are_taken_apart = rw (r.low-listed, r.high-listed) (record {
+    lower = r.lower;
+    upper = r.upper;
+    read_low = r.read_low;
+    read_high = r.read_high;
+    ranged = r.ranged;
+    started = refl;
+    stopped = refl;
+    counted = refl;
+    firsts = padded-front SITES (length r.lower.links) (map (λ l. l.0) r.lower.links) firsts_length;
+    seconds = padded-front SITES (length r.lower.links) (map (λ l. l.1) r.lower.links) seconds_length;
+    marked = padded-front SITES (length r.lower.names) r.lower.marks lower-given.marks;
+    lows = padded-front SITES (length r.lower.links) r.lower.capacities lower-given.capacities;
+    highs = padded-front SITES (length r.lower.links) r.upper.capacities each-high;
+  })
 
 -- an accepted sheet's lists
 pub accepted_is_listed : (s : List ℕ) → (reading (read_as ranges_low s)).answer ≡ answered.Accepted

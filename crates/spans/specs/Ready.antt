@@ -55,21 +55,6 @@ pub record Listed (s : List ℕ) (low high : Lists) : Type 0 where
   pub low-listed : low ≡ lists lower
   pub high-listed : high ≡ lists upper
 
--- an accepted range sheet is a tree within the limits of the largest edition
-pub within_the_largest : (ed : Edition) (s : List ℕ) (net : Network) → ed.sites ≤ SITES → ed.size ≤ SIZE → read_as ed s ≡ accepted net → IsNetwork largest s net
-within_the_largest ed s net few small e =
-    let N = an_accepted_sheet_is_a_tree ed s net e in
-    record {
-      tree = N.tree;
-      few = omega (arith, N.few);
-      capacities = N.capacities;
-      sizes = λ j l. omega (arith, N.sizes j l);
-      marks = N.marks;
-      marked = N.marked;
-      names = N.names;
-      different = N.different;
-    }
-
 -- ---- taken apart
 
 -- the lists of an accepted range sheet: where its names start and stop, its number of sites, its links, its marks, its low and its high sizes
@@ -95,61 +80,8 @@ module _ {s : List ℕ} {low high : Lists} (r : Listed s low high) where
   abbrev pub n : ℕ
   n = low.sites
 
-  lower-given : IsNetwork largest s r.lower
-  lower-given = within_the_largest ranges_low s r.lower (omega arith) (omega arith) r.read_low
-
-  upper_given : IsNetwork largest s r.upper
-  upper_given = within_the_largest ranges_high s r.upper (omega arith) (omega arith) r.read_high
-
-  -- as many high sizes as links
-  each-high : length r.upper.capacities ≡ length r.lower.links
-  each-high = upper_given.capacities ∙ ap length r.ranged.links
-
-  firsts_length : length (map (λ l. l.0) r.lower.links) ≡ length r.lower.links
-  firsts_length = length-map r.lower.links (λ l. l.0)
-
-  seconds_length : length (map (λ l. l.1) r.lower.links) ≡ length r.lower.links
-  seconds_length = length-map r.lower.links (λ l. l.1)
-
-  -- there is a place for each link, and for the mark of each site
-  pub room_for_the_links : (m ≤ length low.one) × (m ≤ length low.two) × (n ≤ length low.mark) × (m ≤ length low.capacity)
-      × (m ≤ length high.capacity)
-  unfolding lists
-  room_for_the_links =
-      let few : length r.lower.links ≤ LINKS = omega (arith, lower-given.tree.links, lower-given.few) in
-      rw (r.low-listed, r.high-listed) (
-        omega (arith, padded-length SITES (map (λ l. l.0) r.lower.links) (omega (arith, firsts_length))),
-        omega (arith, padded-length SITES (map (λ l. l.1) r.lower.links) (omega (arith, seconds_length))),
-        omega (arith, padded-length SITES r.lower.marks (omega (arith, lower-given.marks, lower-given.few)), lower-given.few),
-        omega (arith, padded-length SITES r.lower.capacities (omega (arith, lower-given.capacities))),
-        omega (arith, padded-length SITES r.upper.capacities (omega (arith, each-high))),
-      )
-
-  pub the_lists_are_taken_apart : Apart s low.start low.end n (take m low.one) (take m low.two) (take n low.mark) (take m low.capacity)
-      (take m high.capacity)
-  unfolding lists
-  the_lists_are_taken_apart = rw (r.low-listed, r.high-listed) (record {
-    lower = r.lower;
-    upper = r.upper;
-    read_low = r.read_low;
-    read_high = r.read_high;
-    ranged = r.ranged;
-    started = refl;
-    stopped = refl;
-    counted = refl;
-    firsts = padded-front SITES (length r.lower.links) (map (λ l. l.0) r.lower.links) firsts_length;
-    seconds = padded-front SITES (length r.lower.links) (map (λ l. l.1) r.lower.links) seconds_length;
-    marked = padded-front SITES (length r.lower.names) r.lower.marks lower-given.marks;
-    lows = padded-front SITES (length r.lower.links) r.lower.capacities lower-given.capacities;
-    highs = padded-front SITES (length r.lower.links) r.upper.capacities each-high;
-  })
-
 -- ---- what is worked out
 
 -- the largest total of a tree that is given as lists, in halves
 unfoldable pub total_by : ℕ → List ℕ → List ℕ → List ℕ → List ℕ → ℕ
 total_by n one two marks c = total (pair_list_of_parts (links one two) n (look (capacities n one two marks c)) (look (ends (links one two) n marks)))
-
--- ---- the span is small
-
--- ---- what is written

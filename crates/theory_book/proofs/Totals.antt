@@ -8,7 +8,7 @@ use Rattle.model.specs.Parts.{pair_list_of_parts}
 use Rattle.model.specs.declared.Pair.{Pair}
 use Rattle.theory_trees.proofs.Greatest.{balanced_is_greatest}
 use Rattle.theory_walk.specs.Sound.{Sound}
-use Rattle.theory_walk.specs.PartsTheorem.{pair_list_of_parts_is_sound, pair_list_of_parts_has_the_greatest_total}
+use Rattle.theory_walk.proofs.PartsTheorem.{pair_list_of_parts_is_sound, pair_list_of_parts_has_the_greatest_total}
 use Rattle.theory_book.specs.Listing.{In}
 use Rattle.theory_book.specs.Book.{Entry, book, ends_in, trimmed_in, halves}
 use Rattle.theory_book.proofs.Entries.{every_entry_is_a_tree_with_its_sizes}

@@ -77,51 +77,6 @@ module _ (ls : Links) (c : ℕ → ℕ) (es : List Pair) (p : Pair) where
     crowds : overfilled ls c es p ≡ 0 → NoPlace → answer_open ls c es p ≡ 16 → Opening
     fits : overfilled ls c es p ≡ 0 → (NoPlace → ⊥) → answer_open ls c es p ≡ 0 → Opening
 
-  pub opening : Opening
-  opening = same? (overfilled ls c es p) 0
-      (λ z. same? (open_of p.first p.second es) 0
-      (λ o. cases (dec_lt (length es) OPEN)
-      (λ l. Opening.fits z (λ w. omega (arith, w.full)) (opens_new z o l))
-      (λ l. Opening.crowds z (record { closed = o; full = omega arith }) (says_16 z o (omega arith))))
-      (λ o. Opening.fits z (λ w. o w.closed) (opens_more z o)))
-      (λ d. Opening.overfills (overfilled-some d) (says_15 d))
-
-  -- ---- the answers, exactly
-
-  pub answered_15_exactly_where_a_link_on_the_path_would_be_overfilled : (answer_open ls c es p ≡ 15) ↔ Overfilled
-  answered_15_exactly_where_a_link_on_the_path_would_be_overfilled = (λ e. by e opening, λ o. says_15 (overfilled_by o))
-    where
-      by : answer_open ls c es p ≡ 15 → Opening → Overfilled
-      by e (Opening.overfills o a) = o
-      by e (Opening.crowds z w a) = absurd (omega arith)
-      by e (Opening.fits z d a) = absurd (omega arith)
-
-  pub answered_16_exactly_where_nothing_is_overfilled_and_there_is_no_place : (answer_open ls c es p ≡ 16) ↔ ((Overfilled → ⊥) × NoPlace)
-  answered_16_exactly_where_nothing_is_overfilled_and_there_is_no_place = (λ e. by e opening, λ w. back w opening)
-    where
-      by : answer_open ls c es p ≡ 16 → Opening → (Overfilled → ⊥) × NoPlace
-      by e (Opening.overfills o a) = absurd (omega arith)
-      by e (Opening.crowds z w a) = (λ o. overfilled_by o z, w)
-      by e (Opening.fits z d a) = absurd (omega arith)
-
-      back : (Overfilled → ⊥) × NoPlace → Opening → answer_open ls c es p ≡ 16
-      back w (Opening.overfills o a) = absurd (w.0 o)
-      back w (Opening.crowds z v a) = a
-      back w (Opening.fits z d a) = absurd (d w.1)
-
-  pub an_opening_is_answered_0_exactly_where_no_cause_applies : (answer_open ls c es p ≡ 0) ↔ ((Overfilled → ⊥) × (NoPlace → ⊥))
-  an_opening_is_answered_0_exactly_where_no_cause_applies = (λ e. by e opening, λ w. back w opening)
-    where
-      by : answer_open ls c es p ≡ 0 → Opening → (Overfilled → ⊥) × (NoPlace → ⊥)
-      by e (Opening.overfills o a) = absurd (omega arith)
-      by e (Opening.crowds z w a) = absurd (omega arith)
-      by e (Opening.fits z d a) = (λ o. overfilled_by o z, d)
-
-      back : (Overfilled → ⊥) × (NoPlace → ⊥) → Opening → answer_open ls c es p ≡ 0
-      back w (Opening.overfills o a) = absurd (w.0 o)
-      back w (Opening.crowds z v a) = absurd (w.1 v)
-      back w (Opening.fits z d a) = a
-
   pub answered_14_exactly_where_less_is_open : (answer_give_up ls c es p ≡ 14) ↔ (open_of p.first p.second es < p.amount)
   answered_14_exactly_where_less_is_open = (
     λ e. cases (dec_lt (open_of p.first p.second es) p.amount) (λ l. l) (λ l. absurd (omega (arith, gives_up (omega arith)))),

@@ -10,7 +10,7 @@ use Rattle.model.specs.Trimming.{balanced}
 use Rattle.model.specs.declared.Pair.{Pair}
 use Rattle.theory_trees.proofs.Greatest.{balanced_is_greatest, balanced_grows}
 use Rattle.theory_trees.specs.Sites.{sum_at_mono}
-use Rattle.theory_walk.specs.PartsTheorem.{pair_list_of_parts_is_sound, pair_list_of_parts_has_the_greatest_total}
+use Rattle.theory_walk.proofs.PartsTheorem.{pair_list_of_parts_is_sound, pair_list_of_parts_has_the_greatest_total}
 
 -- a choice of capacities in the ranges from low to high: a whole number for each link, between its low and its high one
 pub record Choice (ls : Links) (low high c : List ℕ) : Type 0 where

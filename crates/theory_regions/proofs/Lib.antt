@@ -1,2 +1,9 @@
 pub mod Examples
 pub mod FarSites
+pub mod Again
+pub mod Exchange
+pub mod JoinedNames
+pub mod Numbered
+pub mod SharingLaws
+pub mod Totals
+pub mod TwoRegions

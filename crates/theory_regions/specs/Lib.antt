@@ -4,7 +4,6 @@ pub mod Carried
 pub mod Lowered
 pub mod Meeting
 pub mod Again
-pub mod Exchange
 pub mod Totals
 pub mod Numbers
 pub mod Numbered
@@ -12,5 +11,4 @@ pub mod FarSites
 pub mod TwoRegions
 pub mod Sharing
 pub mod SharingLaws
-pub mod JoinedNames
 pub mod Examples

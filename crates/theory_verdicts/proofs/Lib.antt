@@ -1,3 +1,4 @@
 pub mod Accounts
 pub mod Earlier
 pub mod Loads
+pub mod Largest

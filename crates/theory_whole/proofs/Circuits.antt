@@ -13,7 +13,8 @@ use Rattle.model.specs.WholeLoads.{parent_of, above, no_intervals, take_all, int
 use Rattle.model.specs.declared.Pair.{Pair}
 use Rattle.theory_trees.specs.Trees.{local_one}
 use Rattle.theory_walk.specs.Sound.{Sound}
-use Rattle.theory_walk.specs.PartsTheorem.{pair_list_of_parts_is_sound, pair_list_of_parts_is_even}
+use Rattle.theory_walk.specs.PartsTheorem.{pair_list_of_parts_is_even}
+use Rattle.theory_walk.proofs.PartsTheorem.{pair_list_of_parts_is_sound}
 use Rattle.theory_whole.specs.Counting.{odd_at}
 use Rattle.theory_whole.specs.Solution.{Solution}
 use Rattle.theory_whole.specs.Inward.{most_is_small}
@@ -22,7 +23,8 @@ use Rattle.theory_whole.specs.Links.{upward_out}
 use Rattle.theory_whole.proofs.PlanLoads.{plan_loads}
 use Rattle.theory_whole.specs.Plans.{Network, one-above, plain, largest_loads, largest-best}
 use Rattle.theory_whole.proofs.Plans.{by_elimination}
-use Rattle.theory_whole.specs.LinkSets.{odd_counted, sets_are_end_sets, sizes_meet_loads}
+use Rattle.theory_whole.specs.LinkSets.{sets_are_end_sets}
+use Rattle.theory_whole.proofs.LinkSets.{odd_counted, sizes_meet_loads}
 use Rattle.theory_whole.specs.Circuits.{PairsWhole}
 
 module _ {ls : Links} {n : ℕ} (T : Tree ls n) (terminal : ℕ → ℕ) (leaves : (v : ℕ) → Site n v → leaf ls v ≡ 1 → terminal v ≡ 1) where

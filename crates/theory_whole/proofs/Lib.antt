@@ -4,3 +4,8 @@ pub mod Inward
 pub mod Links
 pub mod PlanLoads
 pub mod Plans
+pub mod Counting
+pub mod LinkSets
+pub mod Pieces
+pub mod Sets
+pub mod Solution

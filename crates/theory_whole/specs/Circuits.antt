@@ -14,14 +14,15 @@ use Rattle.model.specs.WholeLoads.{parent_of, above, no_intervals, take_all, int
 use Rattle.model.specs.declared.Pair.{Pair}
 use Rattle.theory_trees.specs.Trees.{local_one}
 use Rattle.theory_walk.specs.Sound.{Sound}
-use Rattle.theory_walk.specs.PartsTheorem.{pair_list_of_parts_is_sound, pair_list_of_parts_is_even}
+use Rattle.theory_walk.specs.PartsTheorem.{pair_list_of_parts_is_even}
+use Rattle.theory_walk.proofs.PartsTheorem.{pair_list_of_parts_is_sound}
 use Rattle.theory_whole.specs.Counting.{odd_at}
 use Rattle.theory_whole.specs.Solution.{Solution}
 use Rattle.theory_whole.specs.Inward.{most_is_small}
 use Rattle.theory_whole.specs.Outward.{loop_solution}
 use Rattle.theory_whole.specs.Links.{upward_out}
 use Rattle.theory_whole.specs.Plans.{Network, one-above, plain, largest_loads, largest-best}
-use Rattle.theory_whole.specs.LinkSets.{odd_counted, sets_are_end_sets, sizes_meet_loads}
+use Rattle.theory_whole.specs.LinkSets.{sets_are_end_sets}
 
 -- ---- the pairs of whole loads
 

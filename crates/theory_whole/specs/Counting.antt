@@ -9,19 +9,3 @@ module _ (parent c most owner : ℕ → ℕ) where
   -- c: the capacity of the link from each site to its parent, 0 at the root
   unfoldable pub odd_at : ℕ → ℕ
   odd_at v = let odd = (most v + c v) % 2 in pick (owner v) 0 (pick (owner (parent v)) 0 (pick (c v) 0 odd 0) odd) 0
-
-  pub odd_owned : (v : ℕ) → owner v ≢ 0 → odd_at v ≡ 0
-  unfolding odd_at
-  odd_owned v d = rw (pick_other d)
-
-  pub odd_up : (v : ℕ) → owner v ≡ 0 → owner (parent v) ≢ 0 → odd_at v ≡ (most v + c v) % 2
-  unfolding odd_at
-  odd_up v e d = rw (pick_same e, pick_other d)
-
-  pub odd_zero : (v : ℕ) → owner v ≡ 0 → owner (parent v) ≡ 0 → c v ≡ 0 → odd_at v ≡ most v % 2
-  unfolding odd_at
-  odd_zero v e f z = rw (pick_same e, pick_same f) (omega (arith, pick_same z ((most v + c v) % 2) 0))
-
-  pub odd_more : (v : ℕ) → owner v ≡ 0 → owner (parent v) ≡ 0 → c v ≢ 0 → odd_at v ≡ 0
-  unfolding odd_at
-  odd_more v e f d = rw (pick_same e, pick_same f) (omega (arith, pick_other d ((most v + c v) % 2) 0))

@@ -4,9 +4,9 @@ use Rattle.std.proofs.Common.{inl}
 use Rattle.lists.specs.Numbers.{is, count, over}
 use Rattle.theory_whole.specs.Rooted.{Rooted}
 use Rattle.theory_whole.specs.Loads.{Good, at_ends, Inwards, Outwards, load_good, load-best}
-use Rattle.theory_whole.specs.Sets.{Chains, Owners, set_size, own, owner-end, sizes-total}
+use Rattle.theory_whole.specs.Sets.{Chains, Owners, set_size, own, owner-end}
 use Rattle.theory_whole.specs.Counting.{odd_at}
-use Rattle.theory_whole.specs.Pieces.{Firsts, leaving, odd_pieces_lem}
+use Rattle.theory_whole.specs.Pieces.{Firsts, leaving}
 
 pub record Solution (us : List ℕ) (par c term : ℕ → ℕ) : Type 0 where
   pub A : ℕ → ℕ
@@ -38,13 +38,3 @@ module _ {us : List ℕ} {par pos : ℕ → ℕ} (R : Rooted us par pos) {c term
 
   pub solution_owner : (v : ℕ) → 1 ≤ count us v → (X.owner v ≡ 0) ⊎ ((1 ≤ count us (X.owner v)) × (term (X.owner v) ≡ 1))
   solution_owner v p = owner-end R X.inwards X.chains X.owners v (inl p)
-
-  -- the sizes of the sets, less the odd pieces, are what the loads bring to the terminals
-  pub solution_sizes : over us (λ t. is (term t) 1 * set_size us par c term X.owner t)
-      ≡ at_ends us par c term X.load + over us (odd_at par c X.B X.owner)
-  solution_sizes = sizes-total R X.inwards X.chains X.owners X.outwards
-
-  -- 5: that many pieces are odd
-  pub solution_odd : {rep : ℕ → ℕ} → Firsts us par c X.owner rep
-      → over us (odd_at par c X.B X.owner) ≡ over us (λ r. is (X.owner r) 0 * (is (rep r) r * (leaving us par c X.owner rep r % 2)))
-  solution_odd F = odd_pieces_lem R X.inwards X.chains X.owners F

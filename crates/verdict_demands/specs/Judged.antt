@@ -19,11 +19,13 @@ use Rattle.model.specs.Booking.{places_of}
 use Rattle.model.specs.declared.Pair.{Pair}
 use Rattle.model.specs.declared.Request.TheVariants.{Open}
 use Rattle.theory_walk.specs.Sound.{Sound}
-use Rattle.theory_walk.specs.PartsTheorem.{pair_list_of_parts_lower_first, amounts_are_bounded}
+use Rattle.theory_walk.specs.PartsTheorem.{amounts_are_bounded}
+use Rattle.theory_walk.proofs.PartsTheorem.{pair_list_of_parts_lower_first}
 use Rattle.theory_verdicts.specs.HandPlan.{entries, account, overloaded, largest_total}
 use Rattle.theory_verdicts.specs.Accounts.{drawn}
 use Rattle.theory_verdicts.proofs.Loads.{what_fits_overloads_nothing}
-use Rattle.theory_verdicts.specs.Largest.{NoneGreater, a_plan_has_the_largest_total_exactly_if_none_is_greater}
+use Rattle.theory_verdicts.specs.Largest.{NoneGreater}
+use Rattle.theory_verdicts.proofs.Largest.{a_plan_has_the_largest_total_exactly_if_none_is_greater}
 use Rattle.text_writers.specs.Fields.{line}
 use Rattle.sheet.proofs.Editions.{an_accepted_sheet_is_within_the_largest}
 use Rattle.sheet.specs.Sheet.{Network, accepted, read_sheet, edition_of}

@@ -37,6 +37,7 @@ use Rattle.log_requests.specs.Requests.{lines_from, request_at, requests, is_end
 use Rattle.log_requests.specs.RequestLaws.{after-within, lines_end, lines_step, all_lines}
 use Rattle.log_requests.specs.TwoEnds.{Asking}
 use Rattle.log_requests.specs.TwoEnds as two
+use Rattle.log_requests.proofs.TwoEnds as two_laws
 use Rattle.verdict_demands.specs.Offsets.{joined, fields_of_joined, a-line-is-there, the_line_is_joined, the_line_is_ended, what_follows}
 use Rattle.verdict_demands.specs.Decimals.{a-decimal-is-a-number}
 
@@ -106,7 +107,7 @@ module _ (ed : Edition) (s : List ℕ) (net : Network) (N : IsNetwork ed s net) 
           second = ap (λ fs. lookup s net.names (field fs 2)) is ∙ found e.second r.second-site;
           free = (free_iff_route net.links (is_end net) n N.tree.ends e r.first-site r.second-site).1 r;
         } in
-        two.asked-between s net.names net.links (is_end net) text at asking true true (asks_makes_plan (line_at text at) asks) ends
+        two_laws.asked-between s net.names net.links (is_end net) text at asking true true (asks_makes_plan (line_at text at) asks) ends
         ∙ ap (λ x. Open (record { first = e.first; second = e.second; amount = x })) read
 
     -- the lines that are written of pairs ask for them, one by one

@@ -22,8 +22,9 @@ use Rattle.text_lines.specs.Lines.{line_at}
 use Rattle.sheet.specs.Sheet.{Network}
 use Rattle.log_lines.specs.LogLines.{plan_letter, plan_line}
 use Rattle.log_lines.proofs.BookingLaws.{asks_makes_plan}
-use Rattle.log_lines.specs.FaultyPlanLines.{PlanFault, no_letter, wrong_count, bad_name, bare_name, bad_number, wrong_amount, Tells, a_plan_line_tells}
-use Rattle.log_lines.specs.FaultyPlanLines.{a_plan_line_is_a_fault_just_for_its_cause}
+use Rattle.log_lines.specs.FaultyPlanLines.{PlanFault, no_letter, wrong_count, bad_name, bare_name, bad_number, wrong_amount, Tells}
+use Rattle.log_lines.proofs.FaultyPlanLines.{a_plan_line_tells}
+use Rattle.log_lines.proofs.FaultyPlanLines.{a_plan_line_is_a_fault_just_for_its_cause}
 use Rattle.log_lines.specs.declared.Line.{Line}
 use Rattle.log_lines.specs.declared.Line.TheVariants.{Booking, Fault}
 use Rattle.log_requests.specs.Requests.{lines, request_by, request_at, requests, is_end}
@@ -31,6 +32,7 @@ use Rattle.log_requests.specs.RequestLaws.{unended_line, ended_line}
 use Rattle.log_requests.proofs.RequestLaws.{what_a_line_asks, as_many_requests_as_lines}
 use Rattle.log_requests.specs.TwoEnds.{Asking, amount_of}
 use Rattle.log_requests.specs.TwoEnds as two
+use Rattle.log_requests.proofs.TwoEnds as two_laws
 
 -- over the network of an accepted sheet s
 module _ (s : List ℕ) (net : Network) (plan : List ℕ) where
@@ -81,11 +83,11 @@ module _ (s : List ℕ) (net : Network) (plan : List ℕ) where
 
   asked-between : (p : ℕ) {a b : ℕ} → WellFormed p → TwoEnds p a b → asks (start p) ≡ request.Open (pair a b (amount_of plan (start p)))
   asked-between p k z =
-      two.asked-between s net.names net.links (is_end net) plan (start p) k true true (asks_makes_plan (line_at plan (start p)) k.asks) z
+      two_laws.asked-between s net.names net.links (is_end net) plan (start p) k true true (asks_makes_plan (line_at plan (start p)) k.asks) z
 
   asked_of_none : (p : ℕ) → WellFormed p → NotTwoEnds p → asks (start p) ≡ request.Fault 6
   asked_of_none p k none =
-      two.asked_of_none s net.names net.links (is_end net) plan (start p) k true true (asks_makes_plan (line_at plan (start p)) k.asks) none
+      two_laws.asked_of_none s net.names net.links (is_end net) plan (start p) k true true (asks_makes_plan (line_at plan (start p)) k.asks) none
 
   -- what a line is found to be: a fault with its number, or a pair of two ends
   data Found (p : ℕ) : Type 0 where

@@ -4,7 +4,7 @@ use borrow.Author.Rules.{rules}
 use Rattle.model.specs.Edition.{editions}
 use Rattle.planner.specs.Taken.{accepted_is_listed}
 use Rattle.exchanges.proofs.Taken.{refusal_is_read}
-use Rattle.exchanges.specs.Told.{first_refused}
+use Rattle.exchanges.proofs.Told.{first_refused}
 use Rattle.exchanges.proofs.exchange.Statement.{statement}
 use Rattle.exchanges.proofs.exchange.Tie as tie
 

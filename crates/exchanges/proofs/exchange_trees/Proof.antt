@@ -2,7 +2,7 @@
 use mathlib.Core.Path.{sym, ap, ◌∙◌}
 use native.Mathlib.Omega.{arith}
 use borrow.Author.Rules.{rules}
-use Rattle.exchanges.specs.Taken.{partners_are_sites, apart-is-told, shared_is_told, shared_is_a_link}
+use Rattle.exchanges.proofs.Taken.{partners_are_sites, apart-is-told, shared_is_told, shared_is_a_link}
 use Rattle.exchanges.proofs.Taken.{names_are_distinct}
 use Rattle.exchanges.proofs.exchange_trees.Statement.{statement}
 use Rattle.exchanges.proofs.exchange_trees.Tie as tie

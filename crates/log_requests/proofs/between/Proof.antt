@@ -7,7 +7,8 @@ use Rattle.lists.specs.Numbers.{look}
 use Rattle.model.specs.Booking.{pair}
 use Rattle.tree.specs.Offer.{links}
 use Rattle.log_requests.specs.Requests.{request_for, between}
-use Rattle.log_requests.specs.RequestLaws.{Named, a_free_pair_is_asked_for, a_pair_that_is_not_free_gets_6}
+use Rattle.log_requests.specs.RequestLaws.{Named}
+use Rattle.log_requests.proofs.RequestLaws.{a_free_pair_is_asked_for, a_pair_that_is_not_free_gets_6}
 use Rattle.log_requests.proofs.between.Statement.{statement}
 use Rattle.log_requests.proofs.between.Tie as tie
 

@@ -3,7 +3,8 @@ use mathlib.Core.Logic.{inl, inr}
 use mathlib.Core.Path.{sym, ◌∙◌}
 use borrow.Author.Rules.{rules}
 use borrow.Author.Tests.{eqb-true, eqb-false}
-use Rattle.side_links.specs.LinkLaws.{no_link_is_told, both_are_sites, the_link_is_told, none-is-far-is-told}
+use Rattle.side_links.specs.LinkLaws.{both_are_sites}
+use Rattle.side_links.proofs.LinkLaws.{no_link_is_told, the_link_is_told, none-is-far-is-told}
 use Rattle.side_links.proofs.LinkLaws.{one-site-is-told}
 use Rattle.side_links.proofs.link_of.Statement.{statement}
 use Rattle.side_links.proofs.link_of.Tie as tie

@@ -4,8 +4,9 @@ use native.Mathlib.Omega.{arith}
 use borrow.Author.Rules.{rules}
 use Rattle.planner.specs.Taken.{room_for_the_links}
 use Rattle.region_sizes.specs.Offered.{a_tree_is_sited}
-use Rattle.sides.specs.OverNetwork.{the_names_are_distinct, the_lists_are_a_tree, few_links, no_link_is_given_nothing}
-use Rattle.sides.specs.OverNetwork.{a_larger_number_is_given_nothing, a_shorter_list_is_given_nothing, the_answer_is_given}
+use Rattle.sides.specs.OverNetwork.{the_names_are_distinct, the_lists_are_a_tree, few_links}
+use Rattle.sides.proofs.OverNetwork.{no_link_is_given_nothing}
+use Rattle.sides.proofs.OverNetwork.{a_larger_number_is_given_nothing, a_shorter_list_is_given_nothing, the_answer_is_given}
 use Rattle.sides.specs.declared.Outcome.TheVariants.{Answered}
 use Rattle.sides.proofs.answer_network.Statement.{statement}
 use Rattle.sides.proofs.answer_network.Tie as tie

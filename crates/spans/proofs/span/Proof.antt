@@ -4,7 +4,8 @@ use Rattle.model.specs.Edition.{ranges_high}
 use Rattle.sheet.specs.Sheet.{read_as}
 use Rattle.sheet.specs.Reading.{reading}
 use borrow.Author.Rules.{rules}
-use Rattle.spans.specs.Ready.{Listed, room_for_the_links, the_lists_are_taken_apart}
+use Rattle.spans.specs.Ready.{Listed}
+use Rattle.spans.proofs.Ready.{room_for_the_links, the_lists_are_taken_apart}
 use Rattle.spans.proofs.Ready.{accepted_is_listed, refused_is_told}
 use Rattle.spans.proofs.span.Statement.{statement}
 use Rattle.spans.proofs.span.Tie as tie

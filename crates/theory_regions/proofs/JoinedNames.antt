@@ -8,7 +8,8 @@ use Rattle.theory_regions.specs.JoinedTree.{Border, place, glued, joined_tree}
 use Rattle.theory_regions.specs.Sharing.{Named, SharesOneLink}
 use Rattle.theory_regions.specs.Meeting.{near-site, far-site}
 use Rattle.theory_regions.specs.Totals.{the_joined_tree_is_a_tree}
-use Rattle.theory_regions.specs.Numbered.{place-near, place-far, glued-first, glued-far, glued-second, joined_sized, the_joined_tree_joins}
+use Rattle.theory_regions.specs.Numbered.{place-near, place-far}
+use Rattle.theory_regions.proofs.Numbered.{glued-first, glued-far, glued-second, joined_sized, the_joined_tree_joins}
 use Rattle.theory_regions.specs.TwoRegions.{Neighbours}
 use Rattle.theory_regions.specs.SharingLaws.{what_shares_one_link_is_neighbours}
 

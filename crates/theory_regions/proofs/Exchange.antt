@@ -14,8 +14,9 @@ use Rattle.theory_regions.specs.Regions.{Region, ends_in, trimmed, first_size, t
 use Rattle.theory_regions.specs.JoinedTree.{Border, Bordered, Joins}
 use Rattle.theory_regions.specs.Carried.{spread, spread-own, spread_none}
 use Rattle.theory_regions.specs.Meeting.{turned, light_in_the_joined_tree, balanced_in_the_region, joint_of_a_region}
-use Rattle.theory_regions.specs.Again.{trimmed_is_greatest, trimmed_again_is_greatest, the_shared_link_has_the_lesser}
-use Rattle.theory_regions.specs.Again.{no_size_is_passed, no_other_is_greater}
+use Rattle.theory_regions.specs.Again.{trimmed_is_greatest}
+use Rattle.theory_regions.proofs.Again.{trimmed_again_is_greatest, the_shared_link_has_the_lesser}
+use Rattle.theory_regions.proofs.Again.{no_size_is_passed, no_other_is_greater}
 
 module _ {a b t : Region} {p q : Border} {site₁ link₁ site₂ link₂ : ℕ → ℕ} (A : Bordered a p) (B : Bordered b q)
     (J : Joins a p b q t site₁ link₁ site₂ link₂) where
