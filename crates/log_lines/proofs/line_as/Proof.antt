@@ -48,18 +48,13 @@ field-requires c κs =
 returns-2 : tie.Need-returns-in_default
 returns-2 c = sym (rw c.in_default.is at (line-is c.before))
 
-returns-3 : tie.Need-returns-then-amount-lt1
-returns-3 c =
-    let sized = c.before in
-    let amount = sized.in-Within.is in
-    sym (rw (amount, lt-leb 1 _ c.if-amount-lt1.true) at (line-is sized.before))
-
 add-t17 : tie.Need-overflow_add-result
 add-t17 c =
     let else1 = c.before.before.before.before.before in
     let s = else1.before.before.before.before.before in
     omega (arith, ends_of_names s.args.line.now s.args.letter (is-formed else1).0 s.args.found s.requires)
 
+-- The test of the amount is left to `omega`, here and below: it finds it among the facts.
 returns-4 : tie.Need-returns
 returns-4 c =
     let sized = c.before.before.before in
@@ -68,7 +63,7 @@ returns-4 c =
     let ends = ends_of_names s.args.line.now s.args.letter (is-formed else1).0 s.args.found s.requires in
     let one = length (field (fields s.args.line.now) 1) in
     let next : 2 + one + 1 ≡ 3 + one = omega arith in
-    rw (ends.1, ends.2, next) (sym (rw (sized.in-Within.is, le-leb 1 _ c.before.before.if-amount-lt1.false) at (line-is sized.before)))
+    rw (ends.1, ends.2, next) (sym (rw (sized.in-Within.is, le-leb 1 sized.in-Within.amount (omega arith)) at (line-is sized.before)))
 
 pub line_as_spec : {M : Type 1} → statement M
 line_as_spec =
@@ -83,7 +78,9 @@ line_as_spec =
     (λ c. search rules)
     (λ c. search rules)
     returns-2
-    returns-3
+    (λ c.
+    let sized = c.before in
+    sym (rw (sized.in-Within.is, lt-leb 1 sized.in-Within.amount (omega arith)) at (line-is sized.before)))
     (λ c. search rules)
     add-t17
     (λ c. search rules)

@@ -8,19 +8,14 @@ use borrow.Author.Rules.{rules}
 use Rattle.sheet_kinds.proofs.second.Statement.{statement}
 use Rattle.sheet_kinds.proofs.second.Tie as tie
 
-returns : tie.Need-returns-then-found-lt5
-returns c =
-    let s = c.before.before.before in
-    sym (no_reserve s.args.most (fields s.args.line.now) (omega (arith, count_of_split s.args.line.now s.args.found s.requires)))
-
-field-requires : tie.Need-field-requires
-field-requires c κs = search rules
-
-size-of-requires : tie.Need-size_of-requires
-size-of-requires c κs = search rules
-
-returns-2 : tie.Need-returns
-returns-2 c = rw c.before.field.ensures at c.size_of.ensures
-
+-- That there are fewer than five fields is left to `omega`, which finds the test among the facts.
 pub second_spec : {M : Type 1} → statement M
-second_spec = tie.close (tie.spec returns field-requires size-of-requires returns-2)
+second_spec =
+    tie.close
+    (tie.spec
+    (λ c.
+    let s = c.before.before.before in
+    sym (no_reserve s.args.most (fields s.args.line.now) (omega (arith, count_of_split s.args.line.now s.args.found s.requires))))
+    (λ c κs. search rules)
+    (λ c κs. search rules)
+    (λ c. rw c.before.field.ensures at c.size_of.ensures))

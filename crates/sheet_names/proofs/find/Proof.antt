@@ -1,5 +1,5 @@
 -- `find` meets its contract. The invariant: the sites from the one on the way back do not have the name.
-use mathlib.Core.Bool.{true≢false}
+use mathlib.Core.Bool.{true, false, true≢false}
 use mathlib.Core.Path.{◌≡◌, sym, ap, ◌∙◌}
 use Prim.Native.Nat.{◌≤◌, ◌<◌, ◌+◌, ◌-◌}
 use native.Mathlib.Omega.{arith}
@@ -8,7 +8,8 @@ use lib.ListN.{length}
 use Rattle.lists.specs.Numbers.{look}
 use Rattle.text_fields.specs.Fields.{same, capitals, same_name}
 use Rattle.text_fields.specs.FieldLaws.{same_are_equal, equal_are_same}
-use Rattle.sheet_names.specs.Names.{HASHES, ranges, name_at}
+use Rattle.sheet_names.specs.Names.{HASHES, part, ranges, name_at, lookup}
+use Rattle.sheet_names.specs.declared.Found.TheVariants.{At}
 use Rattle.sheet_names.specs.LookupLaws.{length-ranges, range_at}
 use Rattle.sheet_names.specs.TableLaws.{hash-below, Back, back_from, back_to, goes_back, none-there, site-there, lies_there}
 use Rattle.sheet_names.proofs.find.Statement.{statement}
@@ -41,16 +42,28 @@ lies top some =
     let a = start.args in
     lies_there a.starts.now a.ends.now a.sites start.requires.1.distinct (top.loop-site.site - 1) (omega (arith, top.loop-site.invariant.0))
 
--- what the test says: whether the site has the name
-tested : (c : tie.After-same_name invariant-loop decreases-loop) → let top = c.before.before.before.before.before.before.before in
-    let a = top.before.before.before.before.before.before.args in
-    c.same_name.result
-    ≡ same_name (name_at a.sheet.now (ranges a.starts.now a.ends.now 0 a.sites) (top.loop-site.site - 1)) a.name.now
-tested c =
-    let top = c.before.before.before.before.before.before.before in
-    let a = top.before.before.before.before.before.before.args in
-    rw (range_at a.starts.now a.ends.now a.sites (top.loop-site.site - 1) (omega arith))
-    c.same_name.ensures
+-- where the site has the name, it is the one that is looked up
+found : (top : tie.At-loop-site invariant-loop decreases-loop) → 1 ≤ top.loop-site.site → let a = top.before.before.before.before.before.before.args in
+    same_name (part a.sheet.now (look a.starts.now (top.loop-site.site - 1), look a.ends.now (top.loop-site.site - 1))) a.name.now ≡ true
+    → At top.loop-site.site ≡ lookup a.sheet.now (ranges a.starts.now a.ends.now 0 a.sites) a.name.now
+found top some e =
+    let start = top.before.before.before.before.before.before in
+    let a = start.args in
+    let has : same_name (name_at a.sheet.now (ranges a.starts.now a.ends.now 0 a.sites) (top.loop-site.site - 1)) a.name.now ≡ true =
+    rw (range_at a.starts.now a.ends.now a.sites (top.loop-site.site - 1) (omega arith)) e in
+    sym (site-there start.requires.1 a.name.now top.loop-site.site some top.loop-site.invariant.1.within (same_are_equal _ _ has))
+
+-- where it has another, the way goes on from the site before it with the same hash
+passed : (top : tie.At-loop-site invariant-loop decreases-loop) → 1 ≤ top.loop-site.site → let a = top.before.before.before.before.before.before.args in
+    same_name (part a.sheet.now (look a.starts.now (top.loop-site.site - 1), look a.ends.now (top.loop-site.site - 1))) a.name.now ≡ false
+    → Back a.sheet.now (ranges a.starts.now a.ends.now 0 a.sites) a.name.now (look a.table.now (HASHES + top.loop-site.site))
+passed top some e =
+    let start = top.before.before.before.before.before.before in
+    let a = start.args in
+    let other : same_name (name_at a.sheet.now (ranges a.starts.now a.ends.now 0 a.sites) (top.loop-site.site - 1)) a.name.now ≡ false =
+    rw (range_at a.starts.now a.ends.now a.sites (top.loop-site.site - 1) (omega arith)) e in
+    back_to start.requires.1 a.name.now top.loop-site.site top.loop-site.invariant.1 some
+    (λ h. true≢false (sym (equal_are_same (capitals a.name.now)) ∙ ap (λ g. same g (capitals a.name.now)) (sym h) ∙ other))
 
 -- the next site is an older one
 next : (c : tie.After-site-in-loop-site-1 invariant-loop decreases-loop) → let top = c.before.before.before.before.before.before.before.before.before.before in
@@ -60,23 +73,10 @@ next c =
     let start = top.before.before.before.before.before.before in
     goes_back start.requires.1 start.args.name.now top.loop-site.site (omega arith) top.loop-site.invariant.1.within
 
-returns : tie.Need-returns-then-same_name invariant-loop decreases-loop
-returns c =
-    let top = c.before.before.before.before.before.before.before.before in
-    let start = top.before.before.before.before.before.before in
-    sym (site-there start.requires.1 start.args.name.now top.loop-site.site (omega arith)
-    top.loop-site.invariant.1.within (same_are_equal _ _ (sym (tested c.before) ∙ c.if-same_name.true)))
-
+-- What the test says of the name is left to `cc`, here and below: it finds it among the facts.
 loop-again : tie.Need-loop-site-preserved invariant-loop decreases-loop
 loop-again c =
-    let test = c.before.before in
-    let top = c.before.before.before.before.before.before.before.before.before.before in
-    let start = top.before.before.before.before.before.before in
-    let f = start.args.name.now in (
-      omega (arith, next c),
-      back_to start.requires.1 f top.loop-site.site top.loop-site.invariant.1 (omega arith)
-          (λ e. true≢false (sym (equal_are_same (capitals f)) ∙ ap (λ g. same g (capitals f)) (sym e) ∙ sym (tested test.before) ∙ test.if-same_name.false)),
-    )
+    (omega (arith, next c), passed c.before.before.before.before.before.before.before.before.before.before (omega arith) cc)
 
 returns-2 : tie.Need-returns invariant-loop decreases-loop
 returns-2 c =
@@ -105,7 +105,7 @@ find_spec =
     (λ c. omega (arith, lies c.before.before.before.before.before (omega arith)))
     (λ c. omega (arith, lies c.before.before.before.before.before (omega arith)))
     (λ c κs. search rules)
-    returns
+    (λ c. found c.before.before.before.before.before.before.before.before (omega arith) cc)
     (λ c. omega arith)
     (λ c. omega arith)
     (λ c. omega arith)
