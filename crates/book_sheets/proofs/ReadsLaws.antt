@@ -26,7 +26,7 @@ use Rattle.book_sheets.specs.Rows.{row, line_row}
 use Rattle.book_sheets.specs.Steps.{NamesAre, below_the_heading}
 use Rattle.book_sheets.proofs.Steps.{heading_is_read, heading_step_lem, a_site_is_read, the_rest_follows, the_names_go_on}
 use Rattle.book_sheets.proofs.Steps.{a_link_is_read, the_rest_follows_a_link}
-use Rattle.book_sheets.specs.Reads.{Behind, Fits, ReadAs, s, n, net}
+use Rattle.book_sheets.specs.Reads.{Behind, Fits, ReadAs}
 
 sites_read : (ed : Edition) (s : List ℕ) (m v k at : ℕ) (net : Network) (rest : List ℕ) → drop at s ≡ site_lines (upfrom v m) ++ rest → 2 ≤ k
     → v ≡ suc (length net.names) → length net.names + m ≤ ed.sites → length net.names + m < 1000 → NamesAre s net.names
@@ -172,23 +172,29 @@ unfolding line
 heading_short = refl
 
 module _ (e : Entry) (fits : Fits e) where
-  abbrev below : List ℕ
-  below = site_lines (sites (n e fits)) ++ link_lines e.links e.sizes
+  abbrev pub s : List ℕ
+  s = sheet_of e
 
-  between : Each (λ l. Site (n e fits) l.0 × Site (n e fits) l.1) e.links
-  between = each-place (λ l. Site (n e fits) l.0 × Site (n e fits) l.1) (0, 0) e.links fits.tree.ends
+  abbrev pub n : ℕ
+  n = e.sites
+
+  abbrev below : List ℕ
+  below = site_lines (sites n) ++ link_lines e.links e.sizes
+
+  between : Each (λ l. Site n l.0 × Site n l.1) e.links
+  between = each-place (λ l. Site n l.0 × Site n l.1) (0, 0) e.links fits.tree.ends
 
   within : Each (λ c. c ≤ edition1.size) e.sizes
   within = each-place (λ c. c ≤ edition1.size) 0 e.sizes fits.small
 
-  starts : drop 0 (s e fits) ≡ row heading ++ (10 ∷ below)
+  starts : drop 0 s ≡ row heading ++ (10 ∷ below)
   unfolding sheet_of
   starts = line_row _ _ below
 
-  some : 1 ≤ length (s e fits)
+  some : 1 ≤ length s
   some = omega (arith, ap length starts, length-append (row heading) (10 ∷ below))
 
-  short : length (s e fits) ≤ edition1.bytes
+  short : length s ≤ edition1.bytes
   unfolding sheet_of
   short = omega (
     arith,
@@ -196,45 +202,49 @@ module _ (e : Entry) (fits : Fits e) where
     fits.tree.links,
     heading_short,
     length-append (line heading) below,
-    length-append (site_lines (sites (n e fits))) (link_lines e.links e.sizes),
-    site_lines_short 1 (n e fits) (omega (arith, fits.few)),
-    link_lines_short (n e fits) e.links e.sizes (omega (arith, fits.few)) between within,
+    length-append (site_lines (sites n)) (link_lines e.links e.sizes),
+    site_lines_short 1 n (omega (arith, fits.few)),
+    link_lines_short n e.links e.sizes (omega (arith, fits.few)) between within,
   )
 
-  edition : edition_of editions (s e fits) ≡ edition1
+  edition : edition_of editions s ≡ edition1
   unfolding edition_of
-  edition = rw (heading_is_read edition1 (s e fits) below refl refl starts)
+  edition = rw (heading_is_read edition1 s below refl refl starts)
 
-  pub behind : Behind edition1 (s e fits) 2 (0 + length (row heading) + 1) empty (n e fits) (link_lines e.links e.sizes)
-  behind = sites_read edition1 (s e fits) (n e fits) 1 2 (0 + length (row heading) + 1) empty (link_lines e.links e.sizes)
-      (below_the_heading edition1 (s e fits) below refl refl starts) (omega arith) refl (omega (arith, fits.few)) (omega (arith, fits.few)) (λ i l. absurd (omega arith))
+  pub behind : Behind edition1 s 2 (0 + length (row heading) + 1) empty n (link_lines e.links e.sizes)
+  behind = sites_read edition1 s n 1 2 (0 + length (row heading) + 1) empty (link_lines e.links e.sizes)
+      (below_the_heading edition1 s below refl refl starts) (omega arith) refl (omega (arith, fits.few)) (omega (arith, fits.few)) (λ i l. absurd (omega arith))
 
-  counted : length (net e fits).names ≡ n e fits
+  -- the network of the sheet
+  abbrev pub net : Network
+  net = record { names = behind.network.names; marks = replicate n 0; links = e.links; capacities = e.sizes }
+
+  counted : length net.names ≡ n
   counted = omega (arith, behind.counted)
 
   fresh : Fresh (reverse (behind.network.links ++ e.links))
   fresh = rw behind.links (tree_links_are_fresh (tree_reversed fits.tree))
 
-  lines_are_read : read_lines edition1 (s e fits) (length (s e fits)) 1 0 empty ≡ accepted (net e fits)
+  lines_are_read : read_lines edition1 s (length s) 1 0 empty ≡ accepted net
   lines_are_read =
-      let all : length (s e fits) ≡ length (s e fits) - 0 = omega arith in
-      ap (λ fuel. read_lines edition1 (s e fits) fuel 1 0 empty) all ∙ heading_step_lem edition1 (s e fits) below refl refl starts empty ∙ behind.read
-      ∙ links_read_lem edition1 (s e fits) e.links e.sizes behind.line behind.offset (n e fits) behind.network behind.follows behind.later refl fits.sized
+      let all : length s ≡ length s - 0 = omega arith in
+      ap (λ fuel. read_lines edition1 s fuel 1 0 empty) all ∙ heading_step_lem edition1 s below refl refl starts empty ∙ behind.read
+      ∙ links_read_lem edition1 s e.links e.sizes behind.line behind.offset n behind.network behind.follows behind.later refl fits.sized
       (sym counted) (omega (arith, fits.few)) between within behind.names fresh
       ∙ rw (behind.marks, behind.links, behind.capacities)
 
-  finished : finish (net e fits) ≡ accepted (net e fits)
+  finished : finish net ≡ accepted net
   unfolding finish
   finished = rw (
     counted,
-    le-leb 2 (n e fits) fits.tree.big,
-    each-is-joined e.links (sites (n e fits)) (each-site (λ x. label e.links x ≡ label e.links 1) 1 (n e fits) (λ x p q. fits.tree.whole x (omega arith))),
+    le-leb 2 n fits.tree.big,
+    each-is-joined e.links (sites n) (each-site (λ x. label e.links x ≡ label e.links 1) 1 n (λ x p q. fits.tree.whole x (omega arith))),
   )
 
-  pub the_sheet_is_read_as_its_entry : ReadAs e (net e fits)
+  pub the_sheet_is_read_as_its_entry : ReadAs e net
   unfolding read_as and_then
   the_sheet_is_read_as_its_entry = record {
-    read = rw (edition, le-leb 1 (length (s e fits)) some, le-leb (length (s e fits)) edition1.bytes short, lines_are_read) finished;
+    read = rw (edition, le-leb 1 (length s) some, le-leb (length s) edition1.bytes short, lines_are_read) finished;
     count = counted;
     names = λ v p. behind.names (v - 1) (omega (arith, counted)) ∙ ap site_name (omega arith);
     marks = refl;

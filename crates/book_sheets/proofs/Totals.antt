@@ -20,7 +20,8 @@ use Rattle.demands.specs.Printed.{Printed, read_report, bytes_printed}
 use Rattle.demands.specs.Asked.{Demand2, IsReport, Prints, a_full_report, a-refusal}
 use Rattle.demands.proofs.Demands.{the_program_prints_a_full_report_or_the_cause}
 use Rattle.book_sheets.specs.Sheet.{sheet_of}
-use Rattle.book_sheets.specs.Reads.{Fits, ReadAs, net}
+use Rattle.book_sheets.specs.Reads.{Fits, ReadAs}
+use Rattle.book_sheets.proofs.ReadsLaws.{net}
 use Rattle.book_sheets.proofs.ReadsLaws.{the_sheet_is_read_as_its_entry}
 use Rattle.book_sheets.specs.Totals.{PrintsTotal}
 

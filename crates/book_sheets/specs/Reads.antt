@@ -59,14 +59,3 @@ pub record ReadAs (e : Entry) (net : Network) : Type 0 where
   pub marks : net.marks ≡ replicate e.sites 0
   pub links : net.links ≡ e.links
   pub capacities : net.capacities ≡ e.sizes
-
-module _ (e : Entry) (fits : Fits e) where
-  abbrev pub s : List ℕ
-  s = sheet_of e
-
-  abbrev pub n : ℕ
-  n = e.sites
-
-  -- the network of the sheet
-  abbrev pub net : Network
-  net = record { names = behind.network.names; marks = replicate n 0; links = e.links; capacities = e.sizes }

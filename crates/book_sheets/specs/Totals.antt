@@ -21,7 +21,7 @@ use Rattle.demands.specs.Printed.{Printed, read_report, bytes_printed}
 use Rattle.demands.specs.Asked.{Demand2, IsReport, Prints, a_full_report, a-refusal}
 use Rattle.demands.proofs.Demands.{the_program_prints_a_full_report_or_the_cause}
 use Rattle.book_sheets.specs.Sheet.{sheet_of}
-use Rattle.book_sheets.specs.Reads.{Fits, ReadAs, net}
+use Rattle.book_sheets.specs.Reads.{Fits, ReadAs}
 
 -- the bytes r are the full report on the sheet of an entry, which is read as the entry, and the total printed there is the entry's
 pub record PrintsTotal (e : Entry) (r : List ℕ) : Type 0 where
