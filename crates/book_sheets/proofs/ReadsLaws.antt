@@ -6,19 +6,18 @@ use mathlib.Core.List.{List, [], ◌∷◌, ◌++◌, flat_map, append_assoc, ap
 use native.Mathlib.Omega.{arith}
 use borrow.Author.Tests.{le-leb}
 use Rattle.std.proofs.Math.ListN.{length-append}
-use Rattle.lists.specs.Numbers.{upfrom, look, Each}
+use Rattle.lists.specs.Numbers.{upfrom, Each}
 use Rattle.lists.specs.Sums.{is_same, is_one}
 use Rattle.model.specs.Limits.{SIZE}
 use Rattle.model.specs.Edition.{edition1, editions}
-use Rattle.model.specs.Flows.{Links, Site, Tree, sites, label, joined}
+use Rattle.model.specs.Flows.{Links, Site, sites, label, joined}
 use Rattle.model.specs.declared.Edition.{Edition}
 use Rattle.model.specs.declared.Sizing.TheVariants.{Reserved}
 use Rattle.theory_trees.specs.Labels.{Fresh}
 use Rattle.theory_trees.proofs.Fresh.{tree_links_are_fresh, tree_reversed, joined_reversed}
 use Rattle.text_writers.specs.Fields.{decimal, line}
 use Rattle.text_writers.specs.Decimal.{decimal-within}
-use Rattle.sheet_names.specs.Names.{name_at}
-use Rattle.sheet.specs.Sheet.{Network, accepted, empty, with_site, with_link, and_then, read_lines, all_joined, finish, read_as, edition_of, read_sheet}
+use Rattle.sheet.specs.Sheet.{Network, accepted, empty, with_site, with_link, and_then, read_lines, all_joined, finish, read_as, edition_of}
 use Rattle.sheet.specs.ReadLaws.{lines_end}
 use Rattle.theory_book.specs.Book.{Entry}
 use Rattle.book_sheets.specs.Sheet.{site_name, site_row, link_row, heading, site_lines, link_lines, sheet_of}

@@ -1,14 +1,11 @@
 -- A line of the sheet read: the heading, a site line and a link line add what they say. By the forms of lines and the look-up of names.
 use Rattle.std.specs.Prelude.{◌≡◌, true, ◌≢◌, List, [], ◌∷◌, ◌++◌, ℕ, suc, ◌+◌, ◌-◌, ◌≤◌, ◌<◌, take, drop}
 use Rattle.std.proofs.Math.Path.{refl, ap}
-use Rattle.std.proofs.Common.{sym, ◌∙◌, subst, inl, length-drop, take_at, drop_at, drop-drop, take_all}
+use Rattle.std.proofs.Common.{sym, ◌∙◌, subst, inl, length-drop, take_at, take_all}
 use native.Mathlib.Omega.{arith}
-use Rattle.std.proofs.Math.Decide.{dec_lt}
 use borrow.Author.Tests.{ne_eqb, lt-leb}
-use Rattle.std.proofs.Math.ListN.{length, length-append, get_or-append}
-use Rattle.std.proofs.lemmas.List.{get_or_at}
+use Rattle.std.proofs.Math.ListN.{length, length-append}
 use Rattle.lists.specs.Numbers.{Each}
-use Rattle.lists.specs.Sums.{cases}
 use Rattle.model.specs.Flows.{joined}
 use Rattle.model.specs.Text.{bytes}
 use Rattle.model.specs.declared.Edition.{Edition}
@@ -21,10 +18,9 @@ use Rattle.sheet_kinds.specs.LineKinds.{is_heading, kind, mark, size, reserve, c
 use Rattle.sheet_kinds.specs.LineKindLaws.{site_is_its_parts, link_is_its_parts, Together, no_fifth}
 use Rattle.sheet_kinds.specs.KindForms.{a_site_by_its_form, a_link_by_its_form, link_name_is_field_1, link_name_is_field_2}
 use Rattle.sheet_kinds.specs.declared.Line.TheVariants as kinds
-use Rattle.sheet_names.specs.Names.{part, lookup, name_at}
-use Rattle.sheet_names.specs.LookupLaws.{Says, lookup_says, first_is_found}
-use Rattle.sheet_names.specs.declared.Found.{Found}
-use Rattle.sheet_names.specs.declared.Found.TheVariants.{At, Absent}
+use Rattle.sheet_names.specs.Names.{part, lookup}
+use Rattle.sheet_names.specs.LookupLaws.{first_is_found}
+use Rattle.sheet_names.specs.declared.Found.TheVariants.{At}
 use Rattle.sheet.specs.Sheet.{Network, accepted, with_site, with_link, site_step, link_step, heading_step, record_step, read_line, and_then, read_lines}
 use Rattle.sheet.specs.ReadLaws.{lines_step}
 use Rattle.sheet.specs.StepCases.{first_step, later_step}

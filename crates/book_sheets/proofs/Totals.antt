@@ -7,7 +7,7 @@ use Rattle.model.specs.Limits.{REPORT}
 use Rattle.model.specs.Edition.{editions}
 use Rattle.model.specs.Flows.{Links, Multiflow, ends, total}
 use Rattle.model.specs.declared.Pair.{Pair}
-use Rattle.sheet.specs.Sheet.{Network, edition_of}
+use Rattle.sheet.specs.Sheet.{edition_of}
 use Rattle.sheet.specs.SheetTheorem.{a_sheet_is_refused_for_its_cause}
 use Rattle.planner.specs.Outcome.{answered}
 use Rattle.theory_book.specs.Listing.{In}
@@ -20,7 +20,7 @@ use Rattle.demands.specs.Printed.{Printed, read_report, bytes_printed}
 use Rattle.demands.specs.Asked.{Demand2, IsReport, Prints, a_full_report, a-refusal}
 use Rattle.demands.proofs.Demands.{the_program_prints_a_full_report_or_the_cause}
 use Rattle.book_sheets.specs.Sheet.{sheet_of}
-use Rattle.book_sheets.specs.Reads.{Fits, ReadAs}
+use Rattle.book_sheets.specs.Reads.{Fits}
 use Rattle.book_sheets.proofs.ReadsLaws.{net}
 use Rattle.book_sheets.proofs.ReadsLaws.{the_sheet_is_read_as_its_entry}
 use Rattle.book_sheets.specs.Totals.{PrintsTotal}

@@ -1,30 +1,17 @@
 -- The sheet of an entry is accepted, and read as its links and sizes: line after line, each site under a new name, each link between sites that those above do
 -- not join, and in the end all are joined.
-use Rattle.std.specs.Prelude.{◌≡◌, true, ◌≢◌, ℕ, zero, suc, ◌+◌, ◌-◌, ◌*◌, ◌≤◌, ◌<◌, length, get_or, drop, replicate}
-use Rattle.std.proofs.Math.Path.{refl, ap}
-use Rattle.std.proofs.Common.{sym, ◌∙◌, length-drop}
-use mathlib.Core.List.{List, [], ◌∷◌, ◌++◌, flat_map, append_assoc, append-nil, reverse, reverse-append, reverse-cons}
-use native.Mathlib.Omega.{arith}
-use borrow.Author.Tests.{le-leb}
-use Rattle.std.proofs.Math.ListN.{length-append}
-use Rattle.lists.specs.Numbers.{upfrom, look, Each}
-use Rattle.lists.specs.Sums.{is_same, is_one}
-use Rattle.model.specs.Limits.{SIZE}
+use Rattle.std.specs.Prelude.{◌≡◌, ℕ, ◌+◌, ◌-◌, ◌≤◌, ◌<◌, length, drop, replicate}
+use mathlib.Core.List.{List, [], ◌++◌}
+use Rattle.lists.specs.Numbers.{look}
 use Rattle.model.specs.Edition.{edition1, editions}
-use Rattle.model.specs.Flows.{Links, Site, Tree, sites, label, joined}
+use Rattle.model.specs.Flows.{Site, Tree, sites}
 use Rattle.model.specs.declared.Edition.{Edition}
-use Rattle.model.specs.declared.Sizing.TheVariants.{Reserved}
-use Rattle.theory_trees.specs.Labels.{Fresh}
-use Rattle.theory_trees.proofs.Fresh.{tree_links_are_fresh, tree_reversed, joined_reversed}
-use Rattle.text_writers.specs.Fields.{decimal, line}
-use Rattle.text_writers.specs.Decimal.{decimal-within}
+use Rattle.text_writers.specs.Fields.{line}
 use Rattle.sheet_names.specs.Names.{name_at}
-use Rattle.sheet.specs.Sheet.{Network, accepted, empty, with_site, with_link, and_then, read_lines, all_joined, finish, read_as, edition_of, read_sheet}
-use Rattle.sheet.specs.ReadLaws.{lines_end}
+use Rattle.sheet.specs.Sheet.{Network, accepted, read_lines, read_sheet}
 use Rattle.theory_book.specs.Book.{Entry}
-use Rattle.book_sheets.specs.Sheet.{site_name, site_row, link_row, heading, site_lines, link_lines, sheet_of}
-use Rattle.book_sheets.specs.Rows.{row, line_row}
-use Rattle.book_sheets.specs.Steps.{NamesAre, below_the_heading}
+use Rattle.book_sheets.specs.Sheet.{site_name, sheet_of}
+use Rattle.book_sheets.specs.Steps.{NamesAre}
 
 -- ---- the site lines
 

@@ -1,38 +1,24 @@
 -- A line of the sheet read: the heading, a site line and a link line add what they say. By the forms of lines and the look-up of names.
-use Rattle.std.specs.Prelude.{◌≡◌, true, ◌≢◌, List, [], ◌∷◌, ◌++◌, ℕ, suc, ◌+◌, ◌-◌, ◌≤◌, ◌<◌, take, drop}
+use Rattle.std.specs.Prelude.{◌≡◌, List, [], ◌∷◌, ◌++◌, ℕ, suc, ◌+◌, ◌-◌, ◌<◌, drop}
 use Rattle.std.proofs.Math.Path.{refl, ap}
-use Rattle.std.proofs.Common.{sym, ◌∙◌, subst, inl, length-drop, take_at, drop_at, drop-drop, take_all}
+use Rattle.std.proofs.Common.{sym, ◌∙◌, drop_at, drop-drop}
 use native.Mathlib.Omega.{arith}
 use Rattle.std.proofs.Math.Decide.{dec_lt}
-use borrow.Author.Tests.{ne_eqb, lt-leb}
 use Rattle.std.proofs.Math.ListN.{length, length-append, get_or-append}
 use Rattle.std.proofs.lemmas.List.{get_or_at}
 use Rattle.lists.specs.Numbers.{Each}
 use Rattle.lists.specs.Sums.{cases}
-use Rattle.model.specs.Flows.{joined}
-use Rattle.model.specs.Text.{bytes}
 use Rattle.model.specs.declared.Edition.{Edition}
 use Rattle.model.specs.declared.Sizing.TheVariants.{Reserved}
-use Rattle.text_lines.specs.Lines.{line_length, line_at, after_line}
-use Rattle.text_lines.specs.LineLaws.{after_ended_line}
-use Rattle.text_fields.specs.Fields.{fields, same}
-use Rattle.text_writers.specs.Fields.{decimal}
-use Rattle.sheet_kinds.specs.LineKinds.{is_heading, kind, mark, size, reserve, capacity, IsSite, IsLink}
-use Rattle.sheet_kinds.specs.LineKindLaws.{site_is_its_parts, link_is_its_parts, Together, no_fifth}
-use Rattle.sheet_kinds.specs.KindForms.{a_site_by_its_form, a_link_by_its_form, link_name_is_field_1, link_name_is_field_2}
 use Rattle.sheet_kinds.specs.declared.Line.TheVariants as kinds
 use Rattle.sheet_names.specs.Names.{part, lookup, name_at}
-use Rattle.sheet_names.specs.LookupLaws.{Says, lookup_says, first_is_found}
+use Rattle.sheet_names.specs.LookupLaws.{Says, lookup_says}
 use Rattle.sheet_names.specs.declared.Found.{Found}
 use Rattle.sheet_names.specs.declared.Found.TheVariants.{At, Absent}
-use Rattle.sheet.specs.Sheet.{Network, accepted, with_site, with_link, site_step, link_step, heading_step, record_step, read_line, and_then, read_lines}
-use Rattle.sheet.specs.ReadLaws.{lines_step}
-use Rattle.sheet.specs.StepCases.{first_step, later_step}
-use Rattle.sheet.specs.Sound.{part_of_line}
-use Rattle.demands.specs.Parsing.{Plain, decimal-plain, decimal_read_back}
-use Rattle.book_sheets.specs.Sheet.{site_name, site_row, link_row, heading}
-use Rattle.book_sheets.specs.Rows.{row, NoEnd, fields_back, row_no_end, a-decimal-is-a-number, a-site-name-is-a-name, a_site_name_is_not_bare}
-use Rattle.book_sheets.specs.Rows.{a-site-name-is-plain, names_tell_sites}
+use Rattle.demands.specs.Parsing.{Plain}
+use Rattle.book_sheets.specs.Sheet.{site_name, heading}
+use Rattle.book_sheets.specs.Rows.{row, NoEnd, row_no_end}
+use Rattle.book_sheets.specs.Rows.{names_tell_sites}
 
 module _ (s : List ℕ) (at : ℕ) (l rest : List ℕ) (plain : NoEnd l) (here : drop at s ≡ l ++ (10 ∷ rest)) where
   pub rest-is : drop (at + length l + 1) s ≡ rest

@@ -1,8 +1,8 @@
 -- Document 01's worked report, star 5, 1, 1, a report headed `whole` (02, Card 2) and the line of a refusal, read off their bytes: by computation.
-use Rattle.std.specs.Prelude.{◌≡◌, refl, List, [], ◌∷◌, ◌++◌, ℕ}
+use Rattle.std.specs.Prelude.{◌≡◌, refl, [], ◌∷◌}
 use Rattle.model.specs.Text.{bytes}
 use Rattle.sheet_kinds.specs.LineKinds.{push, fields, same, value_from}
-use Rattle.sheet.specs.Sheet.{Network, capitals, lookup_from}
+use Rattle.sheet.specs.Sheet.{capitals, lookup_from}
 use Rattle.demands.specs.Printed.{lines_of, records, headed, first_line, number_read, line_read, dash, site_found, site_named, read_records, read_report}
 use Rattle.demands.specs.Example.{net, sheet, whole, worked}
 

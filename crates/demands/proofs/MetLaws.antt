@@ -1,5 +1,5 @@
 -- What planning tells and what every report says is what is asked: the outcomes by the cases of planning, the report by what it says (`planSays`),
-use Rattle.std.specs.Prelude.{◌≡◌, refl, List, map, ℕ, ◌≤◌, ◌<◌, length}
+use Rattle.std.specs.Prelude.{◌≡◌, refl, List, ℕ, ◌≤◌, ◌<◌, length}
 use Rattle.std.proofs.Math.Path.{sym}
 use Rattle.std.proofs.Common.{ap, ◌∙◌, arith}
 use Rattle.model.specs.Limits.{REPORT}
@@ -8,8 +8,6 @@ use Rattle.lists.specs.Numbers.{look}
 use Rattle.model.specs.Flows.{sites}
 use Rattle.model.specs.Text.{bytes}
 use Rattle.model.specs.declared.Edition.{Edition}
-use Rattle.lists.specs.Sums.{contradiction}
-use Rattle.lists.specs.Maps.{map-map}
 use Rattle.theory_trees.proofs.TerminalCuts.{cut_sizes_sum_to_the_terminals}
 use Rattle.theory_trees.proofs.Bounds.{what_fits_fits_the_balanced, a_full_multiflow_has_the_greatest_total}
 use Rattle.theory_walk.proofs.PartsTheorem.{pair_list_of_parts_ascends, pair_list_of_parts_lower_first}
@@ -21,10 +19,9 @@ use Rattle.sheet.specs.SheetTheorem.{IsNetwork, an_accepted_sheet_is_a_tree, a_s
 use Rattle.report.specs.Report.{report, refusal_line}
 use Rattle.planner.specs.Outcome.{number, Reporter, planned, Answer, answered_by}
 use Rattle.planner.specs.Figures.{Figures, halves, Showable, figures_have_sound_pairs, trimmed_are_greatest, halves_can_be_shown}
-use Rattle.demands.specs.Printed.{site_count, is_end, ends_among, read_report, printed_by, bytes_printed}
-use Rattle.demands.specs.Asked.{WithoutCause, Demand1, ShowsSheet, SizesAsGiven, Demand2, InOrder, Demand3, IsReport, IsRefusal}
+use Rattle.demands.specs.Printed.{site_count, is_end, read_report, printed_by, bytes_printed}
+use Rattle.demands.specs.Asked.{Demand1, ShowsSheet, SizesAsGiven, Demand2, InOrder, Demand3, IsReport, IsRefusal}
 use Rattle.demands.specs.Asked.{faulty_sheet, long-report, full_report, Prints, a_full_report, a-refusal}
-use Rattle.demands.specs.Lists.{map-own}
 use Rattle.demands.specs.Plans.{full_plan, trimmed_is_greatest, full_plan_is_sound, full_plan_fits}
 use Rattle.demands.specs.Records.{refusal-line, refusal-fields, refusal-at}
 use Rattle.demands.proofs.Records.{refusal-number}

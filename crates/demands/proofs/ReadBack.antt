@@ -20,7 +20,7 @@ use Rattle.sheet_names.specs.Names.{name_at}
 use Rattle.sheet.specs.SheetTheorem.{IsNetwork}
 use Rattle.report.specs.Report.{decimal, owner_name, Plan, report_of, report}
 use Rattle.planner.specs.Figures.{Figures, halves, pairs_by, plan_showing, the_report_shows_halves, Showable, figures_have_sound_pairs, halves_can_be_shown}
-use Rattle.demands.specs.Printed.{Record, records, headed, last_field, site_named, is_end, ends_among, dash, EndSet, Printed, read_records, read_report}
+use Rattle.demands.specs.Printed.{Record, records, headed, last_field, site_named, is_end, ends_among, dash, EndSet, read_records, read_report}
 use Rattle.demands.specs.Parsing.{decimal_read_back}
 use Rattle.demands.specs.Records.{head_fields, link_fields, site_fields, cut_fields, cut_lines, odd_fields, pair_fields}
 use Rattle.demands.specs.Records.{first-line, link-lines, site-lines, cut-lines, odd_lines, pair-lines}

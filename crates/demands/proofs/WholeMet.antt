@@ -16,7 +16,7 @@ use Rattle.sheet.specs.SheetTheorem.{IsNetwork, an_accepted_sheet_is_a_tree}
 use Rattle.report.specs.Report.{whole_report}
 use Rattle.planner.specs.Figures.{wholes, pairs_by, the_whole_report_shows_wholes}
 use Rattle.planner.specs.WholeFigures.{wholes_are_largest, wholes_can_be_shown}
-use Rattle.demands.specs.Printed.{site_count, is_end, ends_among, Printed, read_report, size_sum}
+use Rattle.demands.specs.Printed.{site_count, is_end, ends_among, read_report, size_sum}
 use Rattle.demands.specs.AskedWhole.{FittingWhole, LargestPlan, PrintedSets, IsWholeReport}
 use Rattle.demands.specs.Agree.{odd_pieces_agree}
 use Rattle.demands.specs.ReadBack.{figures_say}

@@ -15,7 +15,7 @@ use Rattle.text_fields.specs.FieldLaws.{not_same}
 use Rattle.sheet_kinds.specs.LineKinds.{same, field, value}
 use Rattle.report.specs.Report.{decimal, lines, Plan, head_record, link_record, link_line, owner_name, site_record, site_line, cut_record, cut_line, pair_line}
 use Rattle.report.specs.Report.{odd_line, report_of, line, refusal_line}
-use Rattle.demands.specs.Printed.{Record, lines_of, records, headed, first_line, number_read, line_read}
+use Rattle.demands.specs.Printed.{Record, lines_of, records, headed, first_line, line_read}
 use Rattle.demands.specs.Parsing.{Plain, line_read_back, decimal-plain, lines_read_back, headed-append, headed_parts}
 use Rattle.demands.specs.Parsing.{decimal_read_back}
 

@@ -1,16 +1,15 @@
 -- What the regions of an accepted pair are told and lent back: the trimmed sizes of the joined tree, and sums that added are its total in halves; and that of
-use Rattle.std.specs.Prelude.{List, ◌≡◌, refl, ℕ, ◌+◌, ◌<◌, length, drop}
+use Rattle.std.specs.Prelude.{List, ◌≡◌, refl, ℕ, ◌<◌, length, drop}
 use Rattle.std.proofs.Common.{◌∙◌, arith}
 use Rattle.std.proofs.Math.ListN.{get_or-append}
 use Rattle.lists.specs.Numbers.{look}
-use Rattle.model.specs.Flows.{Tree, total}
 use Rattle.model.specs.declared.Edition.{Edition}
 use Rattle.sheet.specs.Sheet.{Network}
-use Rattle.theory_regions.specs.Regions.{Region, trimmed, Given}
+use Rattle.theory_regions.specs.Regions.{Region, Given}
 use Rattle.theory_regions.specs.JoinedTree.{Border, Joins, position, joined_tree}
-use Rattle.theory_regions.specs.TwoRegions.{Largest, plan_of, OfTheJoinedTree}
+use Rattle.theory_regions.specs.TwoRegions.{OfTheJoinedTree}
 use Rattle.exchanges.specs.Shared.{region_of, shown}
-use Rattle.exchanges.specs.Outcome.{first_of, second_of, Exchanged, filled, exchanged}
+use Rattle.exchanges.specs.Outcome.{first_of, second_of, filled, exchanged}
 use Rattle.exchanges.specs.Causes.{AcceptedPair}
 use Rattle.exchanges.specs.SharedLaws.{a_size_for_each_link, first_given, second_given, the_regions_have_what_the_joined_tree_has}
 use Rattle.exchanges.specs.SharedLaws.{and_what_every_joined_tree_has}

@@ -1,18 +1,16 @@
 -- The networks of two accepted sheets taken apart into lists, as the code has them, and the exchange between them, case by case.
-use Rattle.std.specs.Prelude.{List, ◌++◌, ◌≡◌, ℕ, ◌≤◌, ◌<◌, length, take, drop}
+use Rattle.std.specs.Prelude.{List, ◌≡◌, ℕ, ◌≤◌, ◌<◌, length, take}
 use Rattle.std.proofs.Common.{inl, inr, sym, ap, subst, ◌∙◌, arith}
 use Rattle.std.proofs.Math.Path.{refl, ap₂}
-use borrow.Author.Tests.{le-leb, lt-leb}
 use Rattle.lists.specs.Numbers.{look}
 use Rattle.lists.specs.Sums.{contradiction}
-use Rattle.model.specs.Edition.{editions, largest}
+use Rattle.model.specs.Edition.{editions}
 use Rattle.model.specs.Flows.{Site}
 use Rattle.model.specs.Limits.{SITES}
 use Rattle.planner.specs.Taken.{Listed, the_lists_are_taken_apart, the_marks_are_taken_apart, the_links_are_the_networks, the_network_is_a_marked_tree}
 use Rattle.region_links.specs.Partners.{partner_in, Holds}
 use Rattle.region_sharing.specs.Shared.{shared_by}
 use Rattle.region_sharing.specs.declared.Shared.TheVariants.{Apart, Over}
-use Rattle.region_sizes.specs.Laws.{trimmed_again_for_each_link}
 use Rattle.region_sizes.specs.Offered.{region_by}
 use Rattle.sheet.specs.ListLaws.{names_are}
 use Rattle.sheet.specs.Sound.{distinct_names}
@@ -23,20 +21,17 @@ use Rattle.sheet_names.specs.LookupLaws.{length-ranges}
 use Rattle.sheet_names.specs.Names.{ranges, Distinct}
 use Rattle.sheet.specs.declared.Answer.TheVariants as answered
 use Rattle.sheet.specs.declared.Lists.{Lists}
-use Rattle.theory_regions.specs.Regions.{Region, first_size, Given, given}
 use Rattle.theory_regions.specs.Sharing.{Partners, Sharing, apart, sharing, sharing_of}
 use Rattle.theory_regions.specs.SharingLaws.{Tells, tells_none, tells-some}
 use Rattle.theory_regions.proofs.SharingLaws.{the_decision_tells}
-use Rattle.tree.specs.Accepted.{MarkedTree}
 use Rattle.tree.specs.Links.{length-links}
 use Rattle.tree.specs.Offer.{links}
 use Rattle.exchanges.specs.Causes.{BothRead}
-use Rattle.exchanges.specs.Outcome.{Exchanged, refusal, told, filled, deliver, exchange_over, exchanged}
+use Rattle.exchanges.specs.Outcome.{refusal, told, exchange_over, exchanged}
 use Rattle.exchanges.specs.Shared.{region_of, site_name, partner}
 use Rattle.exchanges.specs.SharedLaws.{the_network_is_named}
 use Rattle.exchanges.proofs.SharedLaws.{look_ups_find_partners, the_sharing_is_told, the_shared_link_is_one}
 use Rattle.exchanges.proofs.Told.{by_sharing}
-use Rattle.exchanges.specs.declared.Outcome.TheVariants.{Answered}
 use Rattle.exchanges.specs.Taken.{Taken, a, net, network_by}
 use Rattle.exchanges.specs.Taken.{deliver_between, b, first, second}
 

@@ -1,27 +1,25 @@
 -- What the exchange between two regions tells, for any two sheets and any two lent lists: each number for its cause and for no other, and the lists after.
-use Rattle.std.specs.Prelude.{List, ◌++◌, ◌↔◌, ◌⊎◌, ◌≡◌, ℕ, ◌+◌, ◌≤◌, ◌<◌, length, drop}
-use Rattle.std.proofs.Common.{inl, inr, sym, ap, ◌∙◌, arith}
+use Rattle.std.specs.Prelude.{List, ◌↔◌, ◌≡◌, ℕ, ◌≤◌, ◌<◌, length}
+use Rattle.std.proofs.Common.{sym, ap, ◌∙◌, arith}
 use Rattle.std.proofs.Math.Path.{refl}
 use Rattle.std.proofs.Math.Decide.{dec_le}
 use borrow.Author.Tests.{le-leb, lt-leb}
 use Rattle.lists.specs.Sums.{cases, contradiction}
 use Rattle.model.specs.declared.Edition.{Edition}
 use Rattle.sheet.specs.Sheet.{Network, Read, refused, accepted, read_sheet, edition_of}
-use Rattle.sheet.proofs.Answers.{refusals_have_sheet_numbers}
 use Rattle.sheet.specs.SheetTheorem.{a_sheet_is_refused_for_its_cause}
-use Rattle.theory_regions.specs.Regions.{Given}
 use Rattle.theory_regions.specs.JoinedTree.{Border}
 use Rattle.theory_regions.specs.Sharing.{Sharing, apart, sharing}
 use Rattle.theory_regions.specs.SharingLaws.{Tells, tells_none, tells-some}
 use Rattle.exchanges.specs.Shared.{region_of, site_name, sharing_in}
-use Rattle.exchanges.specs.Outcome.{sheet_of, number, line_of, none, first_of, second_of, Exchanged, refusal, told, filled, deliver}
+use Rattle.exchanges.specs.Outcome.{sheet_of, number, line_of, refusal, told, filled, deliver}
 use Rattle.exchanges.specs.Outcome.{exchange_over, exchange_read, exchanged}
 use Rattle.exchanges.specs.Causes.{BothRead, AcceptedPair, Cause, of_the_first, of_the_second, no_shared_link}
 use Rattle.exchanges.specs.Causes.{first_list_too_short, second_list_too_short}
 use Rattle.exchanges.proofs.SharedLaws.{apart_exactly_unless_they_share, the_sharing_is_told, the_shared_link_is_one}
 use Rattle.exchanges.specs.SharedLaws.{a_size_for_each_link, first_given, second_given}
 use Rattle.exchanges.specs.declared.Outcome.TheVariants.{Answered, Refused}
-use Rattle.exchanges.specs.Told.{IsRefused, BothAnswered, Room, ExchangeTold, both-answered, for_its_cause, u, v}
+use Rattle.exchanges.specs.Told.{Room, ExchangeTold, both-answered, for_its_cause, u, v}
 
 -- ---- case by case
 module _ (known : List Edition) (s t l m : List ℕ) where

@@ -1,21 +1,12 @@
 -- What the regions of an accepted pair are told and lent back: the trimmed sizes of the joined tree, and sums that added are its total in halves; and that of
 -- the other sheet it depends on one number alone. Document 02, Card 10.
-use Rattle.std.specs.Prelude.{List, ◌≡◌, refl, ℕ, ◌+◌, ◌<◌, length, drop}
-use Rattle.std.proofs.Common.{◌∙◌, arith}
-use Rattle.std.proofs.Math.ListN.{get_or-append}
+use Rattle.std.specs.Prelude.{◌≡◌, ℕ, ◌+◌, ◌<◌, length}
 use Rattle.lists.specs.Numbers.{look}
 use Rattle.model.specs.Flows.{Tree, total}
-use Rattle.model.specs.declared.Edition.{Edition}
 use Rattle.sheet.specs.Sheet.{Network}
-use Rattle.theory_regions.specs.Regions.{Region, trimmed, Given}
-use Rattle.theory_regions.specs.JoinedTree.{Border, Joins, position, joined_tree}
-use Rattle.theory_regions.specs.TwoRegions.{Largest, plan_of, OfTheJoinedTree}
-use Rattle.exchanges.specs.Shared.{region_of, shown}
-use Rattle.exchanges.specs.Outcome.{first_of, second_of, Exchanged, filled, exchanged}
-use Rattle.exchanges.specs.Causes.{AcceptedPair}
-use Rattle.exchanges.specs.SharedLaws.{a_size_for_each_link, first_given, second_given, the_regions_have_what_the_joined_tree_has}
-use Rattle.exchanges.specs.SharedLaws.{and_what_every_joined_tree_has}
-use Rattle.exchanges.specs.Told.{Room}
+use Rattle.theory_regions.specs.Regions.{Region, trimmed}
+use Rattle.theory_regions.specs.TwoRegions.{Largest, plan_of}
+use Rattle.exchanges.specs.Outcome.{first_of, second_of, Exchanged}
 
 -- what the exchange o tells and leaves is what the tree t has, in which the links of the two sheets have the numbers link₁ and link₂
 pub record OfTheWhole (net other : Network) (t : Region) (link₁ link₂ : ℕ → ℕ) (o : Exchanged) : Type 0 where

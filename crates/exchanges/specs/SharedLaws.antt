@@ -1,13 +1,13 @@
 -- Two accepted sheets as two regions: each is a tree with a capacity for each link and no name twice, and the look-ups of names find the names in common.
 -- So the decision tells what is asked of a pair, and where it holds all is so that document 02 says of the joined tree.
-use Rattle.std.specs.Prelude.{List, ◌↔◌, ◌⊎◌, ◌≡◌, refl, ℕ, ◌-◌, length}
+use Rattle.std.specs.Prelude.{List, ◌⊎◌, ◌≡◌, refl, ℕ, ◌-◌, length}
 use Rattle.std.proofs.Common.{inl, inr, sym, arith}
 use Rattle.std.proofs.Math.Decide.{dec_lt}
 use Rattle.lists.specs.Sums.{cases}
 use Rattle.model.specs.Flows.{Site}
 use Rattle.model.specs.declared.Edition.{Edition}
 use Rattle.text_fields.specs.Fields.{capitals}
-use Rattle.sheet_names.specs.Names.{name_at, lookup}
+use Rattle.sheet_names.specs.Names.{lookup}
 use Rattle.sheet_names.specs.LookupLaws.{Says, lookup_says}
 use Rattle.sheet_names.specs.declared.Found.{Found}
 use Rattle.sheet_names.specs.declared.Found.TheVariants.{At, Absent}
@@ -15,16 +15,14 @@ use Rattle.sheet.specs.Sheet.{Network, accepted, read_sheet, edition_of}
 use Rattle.sheet.specs.SheetTheorem.{IsNetwork, an_accepted_sheet_is_a_tree}
 use Rattle.theory_regions.specs.JoinedTree.{Border, Joins, position, glued, joined_tree}
 use Rattle.theory_regions.specs.Regions.{Region, Given, given}
-use Rattle.theory_regions.specs.Sharing.{Named, Partners, apart}
-use Rattle.theory_regions.specs.SharingLaws.{Tells, the_shared_link_is_no_choice}
-use Rattle.theory_regions.proofs.SharingLaws.{the_decision_tells, apart_exactly_if_no_link_is_shared}
+use Rattle.theory_regions.specs.Sharing.{Named}
 use Rattle.theory_regions.specs.SharingLaws.{what_shares_one_link_is_neighbours}
 use Rattle.theory_regions.proofs.JoinedNames.{the_joined_tree_is_named}
 use Rattle.theory_regions.specs.TwoRegions.{Neighbours, OfTheJoinedTree}
 use Rattle.theory_regions.proofs.TwoRegions.{two_regions_have_what_every_joined_tree_has, the_joined_tree_of_two_regions}
 use Rattle.theory_regions.proofs.Again.{trimmed_again_has_each_link}
 use Rattle.region_links.specs.Partners.{site_found}
-use Rattle.exchanges.specs.Shared.{region_of, site_name, partner, Share, sharing_in, shown, given_to}
+use Rattle.exchanges.specs.Shared.{region_of, site_name, shown, given_to}
 use Rattle.exchanges.specs.Causes.{BothRead, AcceptedPair}
 
 -- the network of a sheet is a named region

@@ -1,39 +1,18 @@
 -- The networks of two accepted sheets taken apart into lists, as the code has them, and the exchange between them, case by case.
-use Rattle.std.specs.Prelude.{List, ◌++◌, ◌≡◌, ℕ, ◌≤◌, ◌<◌, length, take, drop}
-use Rattle.std.proofs.Common.{inl, inr, sym, ap, subst, ◌∙◌, arith}
-use Rattle.std.proofs.Math.Path.{refl, ap₂}
+use Rattle.std.specs.Prelude.{List, ◌++◌, ◌≡◌, ℕ, ◌≤◌, ◌<◌, length, drop}
+use Rattle.std.proofs.Common.{arith}
+use Rattle.std.proofs.Math.Path.{refl}
 use borrow.Author.Tests.{le-leb, lt-leb}
-use Rattle.lists.specs.Numbers.{look}
-use Rattle.lists.specs.Sums.{contradiction}
 use Rattle.model.specs.Edition.{editions, largest}
-use Rattle.model.specs.Flows.{Site}
-use Rattle.model.specs.Limits.{SITES}
-use Rattle.planner.specs.Taken.{Listed, the_lists_are_taken_apart, the_marks_are_taken_apart, the_links_are_the_networks, the_network_is_a_marked_tree}
-use Rattle.region_links.specs.Partners.{partner_in, Holds}
-use Rattle.region_sharing.specs.Shared.{shared_by}
-use Rattle.region_sharing.specs.declared.Shared.TheVariants.{Apart, Over}
 use Rattle.region_sizes.specs.Laws.{trimmed_again_for_each_link}
 use Rattle.region_sizes.specs.Offered.{region_by}
-use Rattle.sheet.specs.ListLaws.{names_are}
-use Rattle.sheet.specs.Sound.{distinct_names}
-use Rattle.sheet.proofs.Editions.{an_accepted_sheet_is_within_the_largest}
-use Rattle.sheet.specs.Reading.{lists, reading}
-use Rattle.sheet.specs.Sheet.{Network, Read, refused, accepted, read_sheet}
-use Rattle.sheet_names.specs.LookupLaws.{length-ranges}
-use Rattle.sheet_names.specs.Names.{ranges, Distinct}
+use Rattle.sheet.specs.Sheet.{Network, accepted, read_sheet}
+use Rattle.sheet_names.specs.Names.{ranges}
 use Rattle.sheet.specs.declared.Answer.TheVariants as answered
-use Rattle.sheet.specs.declared.Lists.{Lists}
 use Rattle.theory_regions.specs.Regions.{Region, first_size, Given, given}
-use Rattle.theory_regions.specs.Sharing.{Partners, Sharing, apart, sharing, sharing_of}
-use Rattle.theory_regions.specs.SharingLaws.{Tells, tells_none, tells-some}
-use Rattle.theory_regions.proofs.SharingLaws.{the_decision_tells}
 use Rattle.tree.specs.Accepted.{MarkedTree}
-use Rattle.tree.specs.Links.{length-links}
 use Rattle.tree.specs.Offer.{links}
-use Rattle.exchanges.specs.Causes.{BothRead}
-use Rattle.exchanges.specs.Outcome.{Exchanged, refusal, told, filled, deliver, exchange_over, exchanged}
-use Rattle.exchanges.specs.Shared.{region_of, site_name, partner}
-use Rattle.exchanges.specs.SharedLaws.{the_network_is_named}
+use Rattle.exchanges.specs.Outcome.{Exchanged, refusal, told, filled, deliver}
 use Rattle.exchanges.specs.declared.Outcome.TheVariants.{Answered}
 
 -- the answers for two regions that share link j of the first and link k of the second

@@ -1,26 +1,18 @@
 -- What the exchange between two regions tells, for any two sheets and any two lent lists: each number for its cause and for no other, and the lists after.
 -- Document 02, Card 10.
-use Rattle.std.specs.Prelude.{List, ◌++◌, ◌↔◌, ◌⊎◌, ◌≡◌, ℕ, ◌+◌, ◌≤◌, ◌<◌, length, drop}
-use Rattle.std.proofs.Common.{inl, inr, sym, ap, ◌∙◌, arith}
+use Rattle.std.specs.Prelude.{List, ◌++◌, ◌⊎◌, ◌≡◌, ℕ, ◌+◌, ◌≤◌, ◌<◌, length, drop}
+use Rattle.std.proofs.Common.{inl, inr, arith}
 use Rattle.std.proofs.Math.Path.{refl}
-use Rattle.std.proofs.Math.Decide.{dec_le}
-use borrow.Author.Tests.{le-leb, lt-leb}
-use Rattle.lists.specs.Sums.{cases, contradiction}
 use Rattle.model.specs.declared.Edition.{Edition}
-use Rattle.sheet.specs.Sheet.{Network, Read, refused, accepted, read_sheet, edition_of}
+use Rattle.sheet.specs.Sheet.{Network, edition_of}
 use Rattle.sheet.proofs.Answers.{refusals_have_sheet_numbers}
-use Rattle.sheet.specs.SheetTheorem.{a_sheet_is_refused_for_its_cause}
 use Rattle.theory_regions.specs.Regions.{Given}
 use Rattle.theory_regions.specs.JoinedTree.{Border}
-use Rattle.theory_regions.specs.Sharing.{Sharing, apart, sharing}
-use Rattle.theory_regions.specs.SharingLaws.{Tells, tells_none, tells-some}
-use Rattle.exchanges.specs.Shared.{region_of, site_name, sharing_in}
-use Rattle.exchanges.specs.Outcome.{sheet_of, number, line_of, none, first_of, second_of, Exchanged, refusal, told, filled, deliver}
-use Rattle.exchanges.specs.Outcome.{exchange_over, exchange_read, exchanged}
-use Rattle.exchanges.specs.Causes.{BothRead, AcceptedPair, Cause, of_the_first, of_the_second, no_shared_link}
+use Rattle.exchanges.specs.Outcome.{sheet_of, number, line_of, none, first_of, second_of, Exchanged, told}
+use Rattle.exchanges.specs.Outcome.{exchanged}
+use Rattle.exchanges.specs.Causes.{AcceptedPair, Cause, of_the_first, of_the_second, no_shared_link}
 use Rattle.exchanges.specs.Causes.{first_list_too_short, second_list_too_short}
-use Rattle.exchanges.specs.SharedLaws.{a_size_for_each_link, first_given, second_given}
-use Rattle.exchanges.specs.declared.Outcome.TheVariants.{Answered, Refused}
+use Rattle.exchanges.specs.SharedLaws.{first_given, second_given}
 
 -- refused with a sheet, a number and a line: the counts and the sums are 0, and both lists keep their values
 pub record IsRefused (x k line : ℕ) (l m : List ℕ) (o : Exchanged) : Type 0 where

@@ -8,17 +8,16 @@ use Rattle.std.proofs.Math.ListN.{length}
 use borrow.Author.Tests.{eq-eqb, ne_eqb, le-leb}
 use Rattle.model.specs.Limits.{AMOUNT}
 use Rattle.text_fields.specs.Fields.{same, fields, field, value}
-use Rattle.text_grammar.specs.Grammar.{split, checked, fault_of, size_of}
+use Rattle.text_grammar.specs.Grammar.{split, fault_of, size_of}
 use Rattle.text_grammar.specs.SplitLaws.{end_of_split, field_lies}
 use Rattle.text_grammar.specs.FormLaws.{formed_or_faulty}
 use Rattle.text_grammar.specs.RuleLaws as rule
 use Rattle.text_grammar.specs.declared.Fields.{Fields}
 use Rattle.text_grammar.specs.declared.Check.{Check}
 use Rattle.text_grammar.specs.declared.Check.TheVariants as check
-use Rattle.text_grammar.specs.declared.Size.{Size}
 use Rattle.text_grammar.specs.declared.Size.TheVariants.{Within, Above}
 use Rattle.sheet_kinds.specs.FormedLines.{second-end, third_end, part_of_field_1, part_of_field_2}
-use Rattle.log_lines.specs.LogLines.{sign, log_form, amount_form, plan_letter, judged, booking, line_as, log_line, plan_line}
+use Rattle.log_lines.specs.LogLines.{sign, log_form, plan_letter, judged, booking, line_as, log_line, plan_line}
 use Rattle.log_lines.specs.declared.Line.{Line}
 use Rattle.log_lines.specs.declared.Line.TheVariants.{Booking, Fault}
 use Rattle.log_lines.specs.BookingLaws.{Asks, IsFormed, asking, booking_of, formed_keeps}

@@ -10,18 +10,17 @@ use Rattle.model.specs.Limits.{AMOUNT}
 use Rattle.model.specs.Text.{bytes}
 use Rattle.text_fields.specs.Fields.{same, fields, field, value}
 use Rattle.text_fields.specs.FieldLaws.{same_are_equal, equal_are_same, not_same}
-use Rattle.text_grammar.specs.declared.Form.{Form}
 use Rattle.text_grammar.specs.declared.Check.{Check}
 use Rattle.text_grammar.specs.declared.Check.TheVariants as check
-use Rattle.text_grammar.specs.Grammar.{checked, fault_of, WrongCount, BadName, BareName, BadNumber}
+use Rattle.text_grammar.specs.Grammar.{checked, fault_of}
 use Rattle.text_grammar.specs.FormLaws.{another_letter}
 use Rattle.text_grammar.specs.RuleLaws as rule
 use Rattle.log_lines.specs.LogLines.{sign, log_form, judged, booking, line_as, log_line}
-use Rattle.log_lines.specs.BookingLaws.{IsFormed, formed_keeps, Asks, asking, judged_cases}
+use Rattle.log_lines.specs.BookingLaws.{IsFormed, formed_keeps, asking, judged_cases}
 use Rattle.log_lines.proofs.BookingLaws.{letter_tells}
 use Rattle.log_lines.specs.declared.Line.{Line}
-use Rattle.log_lines.specs.declared.Line.TheVariants.{Booking, Fault}
-use Rattle.log_lines.specs.FaultyLogLines.{NoSign, Broken, WrongAmount, wrong_count, bad_number, wrong_amount, LineFault, bare_name, bad_name, no_sign, Tells}
+use Rattle.log_lines.specs.declared.Line.TheVariants.{Fault}
+use Rattle.log_lines.specs.FaultyLogLines.{WrongAmount, wrong_count, bad_number, wrong_amount, LineFault, bare_name, bad_name, no_sign, Tells}
 
 module _ (l : List ℕ) where
   booking-tells : (opens : Bool) → IsFormed (sign opens) (fields l) → Tells l (booking opens (fields l))

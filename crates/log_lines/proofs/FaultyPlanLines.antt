@@ -1,5 +1,5 @@
 -- When a line of a plan drawn by hand is a fault, each number just for its cause: 2 no `P`, 10 wrong number of fields, 11 bad name, 17 name of digits alone,
-use Rattle.std.specs.Prelude.{Bool, cond, ◌&&◌, List, ◌⊎◌, ◌↔◌, ◌≢◌, ◌≡◌, ℕ, ◌≤◌, ◌<◌}
+use Rattle.std.specs.Prelude.{Bool, cond, ◌&&◌, List, ◌⊎◌, ◌↔◌, ◌≢◌, ◌≡◌, ℕ, ◌<◌}
 use Rattle.std.proofs.Math.Bool.{true, false}
 use Rattle.std.proofs.Math.Logic.{inl, inr}
 use Rattle.std.proofs.Common.{⊎_elim, subst, arith}
@@ -10,14 +10,13 @@ use Rattle.model.specs.Limits.{AMOUNT}
 use Rattle.model.specs.Text.{bytes}
 use Rattle.text_fields.specs.Fields.{fields, field, value}
 use Rattle.text_fields.specs.FieldLaws.{not_same}
-use Rattle.text_grammar.specs.declared.Form.{Form}
 use Rattle.text_grammar.specs.declared.Check.{Check}
 use Rattle.text_grammar.specs.declared.Check.TheVariants as check
-use Rattle.text_grammar.specs.Grammar.{checked, fault_of, WrongCount, BadName, BareName, BadNumber}
+use Rattle.text_grammar.specs.Grammar.{checked, fault_of}
 use Rattle.text_grammar.specs.FormLaws.{another_letter}
 use Rattle.text_grammar.specs.RuleLaws as rule
-use Rattle.log_lines.specs.LogLines.{amount_form, plan_letter, judged, booking, line_as, log_line, plan_line, line_by}
-use Rattle.log_lines.specs.BookingLaws.{IsFormed, Asks, asking, judged_cases}
+use Rattle.log_lines.specs.LogLines.{plan_letter, judged, booking, line_as, log_line, plan_line, line_by}
+use Rattle.log_lines.specs.BookingLaws.{IsFormed, asking, judged_cases}
 use Rattle.log_lines.specs.FaultyLogLines as log
 use Rattle.log_lines.proofs.FaultyLogLines as log_laws
 use Rattle.log_lines.specs.declared.Line.{Line}

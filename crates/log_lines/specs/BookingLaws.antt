@@ -1,24 +1,17 @@
 -- What a line is that asks for something: formed, with an amount within the limit, its names being its fields 1 and 2. By the places of the fields.
-use Rattle.std.specs.Prelude.{Bool, false, cond, ◌&&◌, List, [], ◌∷◌, ◌≢◌, ◌≡◌, refl, ℕ, ◌+◌, ◌-◌, ◌≤◌, ◌<◌, leb, get_or, take, drop}
-use Rattle.std.proofs.Math.Bool.{true}
-use Rattle.std.proofs.lemmas.Bool.{false≢true}
-use Rattle.std.proofs.Common.{⊎_elim, sym, ap, ◌∙◌}
-use native.Mathlib.Omega.{arith}
+use Rattle.std.specs.Prelude.{Bool, cond, List, [], ◌≢◌, ◌≡◌, ℕ, ◌+◌, ◌≤◌, leb}
+use Rattle.std.proofs.Common.{⊎_elim}
 use Rattle.std.proofs.Math.ListN.{length}
-use borrow.Author.Tests.{eq-eqb, ne_eqb, le-leb}
 use Rattle.model.specs.Limits.{AMOUNT}
-use Rattle.text_fields.specs.Fields.{same, fields, field, value}
-use Rattle.text_grammar.specs.Grammar.{split, checked, fault_of, size_of}
-use Rattle.text_grammar.specs.SplitLaws.{end_of_split, field_lies}
+use Rattle.text_fields.specs.Fields.{fields, field, value}
+use Rattle.text_grammar.specs.Grammar.{checked, fault_of}
 use Rattle.text_grammar.specs.FormLaws.{formed_or_faulty}
 use Rattle.text_grammar.specs.RuleLaws as rule
-use Rattle.text_grammar.specs.declared.Fields.{Fields}
 use Rattle.text_grammar.specs.declared.Check.{Check}
 use Rattle.text_grammar.specs.declared.Check.TheVariants as check
 use Rattle.text_grammar.specs.declared.Size.{Size}
 use Rattle.text_grammar.specs.declared.Size.TheVariants.{Within, Above}
-use Rattle.sheet_kinds.specs.FormedLines.{second-end, third_end, part_of_field_1, part_of_field_2}
-use Rattle.log_lines.specs.LogLines.{sign, log_form, amount_form, plan_letter, judged, booking, line_as, log_line, plan_line}
+use Rattle.log_lines.specs.LogLines.{amount_form, judged}
 use Rattle.log_lines.specs.declared.Line.{Line}
 use Rattle.log_lines.specs.declared.Line.TheVariants.{Booking, Fault}
 

@@ -1,25 +1,16 @@
 -- When a line of a log is a fault, each number just for its cause: 2 neither `+` nor `-`, 10 wrong number of fields, 11 bad name, 17 name of digits alone,
 -- 12 badly written number, in this order; then 3, an amount of 0 or above the limit. Document 02, Cards 6 and 9. By the first field: the sign chooses the
 -- form.
-use Rattle.std.specs.Prelude.{Bool, cond, ◌&&◌, List, [], ◌∷◌, ◌⊎◌, ◌↔◌, ◌≢◌, ◌≡◌, ℕ, ◌<◌}
-use Rattle.std.proofs.Math.Bool.{true, false, false≢true}
-use Rattle.std.proofs.Math.Logic.{inl, inr}
-use Rattle.std.proofs.Common.{⊎_elim, sym, subst, ◌∙◌, arith}
-use Rattle.std.proofs.Math.Path.{refl}
-use Rattle.std.proofs.Math.Dec.{leb}
-use borrow.Author.Tests.{leb-true, leb-false, le-leb, lt-leb}
+use Rattle.std.specs.Prelude.{Bool, List, [], ◌⊎◌, ◌≢◌, ◌≡◌, ℕ, ◌<◌}
 use Rattle.model.specs.Limits.{AMOUNT}
 use Rattle.model.specs.Text.{bytes}
-use Rattle.text_fields.specs.Fields.{same, fields, field, value}
-use Rattle.text_fields.specs.FieldLaws.{same_are_equal, equal_are_same, not_same}
+use Rattle.text_fields.specs.Fields.{fields, field, value}
 use Rattle.text_grammar.specs.declared.Form.{Form}
-use Rattle.text_grammar.specs.declared.Check.{Check}
 use Rattle.text_grammar.specs.declared.Check.TheVariants as check
-use Rattle.text_grammar.specs.Grammar.{checked, fault_of, WrongCount, BadName, BareName, BadNumber}
-use Rattle.text_grammar.specs.FormLaws.{another_letter}
+use Rattle.text_grammar.specs.Grammar.{WrongCount, BadName, BareName, BadNumber}
 use Rattle.text_grammar.specs.RuleLaws as rule
-use Rattle.log_lines.specs.LogLines.{sign, log_form, judged, booking, line_as, log_line}
-use Rattle.log_lines.specs.BookingLaws.{IsFormed, formed_keeps, Asks, asking, judged_cases}
+use Rattle.log_lines.specs.LogLines.{sign, log_form}
+use Rattle.log_lines.specs.BookingLaws.{IsFormed, Asks, asking}
 use Rattle.log_lines.specs.declared.Line.{Line}
 use Rattle.log_lines.specs.declared.Line.TheVariants.{Booking, Fault}
 

@@ -1,24 +1,16 @@
 -- When a line of a plan drawn by hand is a fault, each number just for its cause: 2 no `P`, 10 wrong number of fields, 11 bad name, 17 name of digits alone,
 -- 12 badly written number, in this order, as in a log; then 3, an amount of 0 or above the limit. Document 02, Card 12.
-use Rattle.std.specs.Prelude.{Bool, cond, ◌&&◌, List, ◌⊎◌, ◌↔◌, ◌≢◌, ◌≡◌, ℕ, ◌≤◌, ◌<◌}
-use Rattle.std.proofs.Math.Bool.{true, false}
-use Rattle.std.proofs.Math.Logic.{inl, inr}
-use Rattle.std.proofs.Common.{⊎_elim, subst, arith}
-use Rattle.std.proofs.Math.Path.{refl}
-use Rattle.std.proofs.Math.Dec.{leb}
-use borrow.Author.Tests.{leb-true, leb-false, le-leb, lt-leb}
+use Rattle.std.specs.Prelude.{List, ◌⊎◌, ◌≢◌, ◌≡◌, ℕ, ◌≤◌, ◌<◌}
+use Rattle.std.proofs.Math.Bool.{true}
 use Rattle.model.specs.Limits.{AMOUNT}
 use Rattle.model.specs.Text.{bytes}
 use Rattle.text_fields.specs.Fields.{fields, field, value}
-use Rattle.text_fields.specs.FieldLaws.{not_same}
 use Rattle.text_grammar.specs.declared.Form.{Form}
-use Rattle.text_grammar.specs.declared.Check.{Check}
 use Rattle.text_grammar.specs.declared.Check.TheVariants as check
-use Rattle.text_grammar.specs.Grammar.{checked, fault_of, WrongCount, BadName, BareName, BadNumber}
-use Rattle.text_grammar.specs.FormLaws.{another_letter}
+use Rattle.text_grammar.specs.Grammar.{WrongCount, BadName, BareName, BadNumber}
 use Rattle.text_grammar.specs.RuleLaws as rule
-use Rattle.log_lines.specs.LogLines.{amount_form, plan_letter, judged, booking, line_as, log_line, plan_line, line_by}
-use Rattle.log_lines.specs.BookingLaws.{IsFormed, Asks, asking, judged_cases}
+use Rattle.log_lines.specs.LogLines.{amount_form, plan_letter}
+use Rattle.log_lines.specs.BookingLaws.{IsFormed, Asks, asking}
 use Rattle.log_lines.specs.FaultyLogLines as log
 use Rattle.log_lines.specs.declared.Line.{Line}
 use Rattle.log_lines.specs.declared.Line.TheVariants.{Booking, Fault}

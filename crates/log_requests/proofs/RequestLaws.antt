@@ -2,16 +2,14 @@
 use Rattle.std.specs.Prelude.{Bool, ◌≢◌, ◌≡◌, ltb, drop, get_or}
 use Rattle.std.proofs.Math.Bool.{true, false, cond}
 use mathlib.Core.List.{List, [], ◌∷◌, map}
-use Rattle.std.proofs.Math.Path.{refl, sym, ap}
+use Rattle.std.proofs.Math.Path.{refl}
 use Prim.Native.Nat.{ℕ, zero, suc, ◌+◌, ◌-◌, ◌≤◌, ◌<◌}
-use Rattle.std.proofs.Math.Nat.{sub-zero}
 use native.Mathlib.Omega.{arith}
-use borrow.Author.Tests.{lt-ltb, le-ltb}
 use Rattle.std.proofs.Math.ListN.{length, length-map}
 use Rattle.lists.specs.Numbers.{less, look, Each}
 use Rattle.lists.specs.Sums.{pick_same, pick_other, pick_cases, same?}
 use Rattle.model.specs.Limits.{AMOUNT}
-use Rattle.model.specs.Flows.{Links, Site}
+use Rattle.model.specs.Flows.{Links}
 use Rattle.model.specs.Parts.{free_pair}
 use Rattle.model.specs.Pairing.{lower_first}
 use Rattle.model.specs.Booking.{pair, Proper, Asked}
@@ -20,8 +18,7 @@ use Rattle.model.specs.declared.Request.{Request}
 use Rattle.model.specs.declared.Request.TheVariants as request
 use Rattle.theory_trees.specs.FreePairs.{free_parts, free_turned}
 use Rattle.theory_log.specs.Requests.{OpensOnly}
-use Rattle.text_lines.specs.Lines.{line_length, line_at, after_line, has_line}
-use Rattle.text_lines.specs.LineLaws.{length_of_line, no_line_past_the_sheet, after-line-is-later}
+use Rattle.text_lines.specs.Lines.{line_length, line_at}
 use Rattle.sheet_names.specs.LookupLaws.{Says, lookup_says}
 use Rattle.sheet_names.specs.declared.Found.{Found}
 use Rattle.sheet_names.specs.declared.Found.TheVariants.{At, Absent}
@@ -31,7 +28,7 @@ use Rattle.log_lines.specs.FaultyPlanLines.{AmountTold}
 use Rattle.log_lines.proofs.FaultyPlanLines.{a_line_tells_its_amount}
 use Rattle.log_lines.specs.declared.Line.{Line}
 use Rattle.log_lines.specs.declared.Line.TheVariants.{Booking, Fault}
-use Rattle.log_requests.specs.Requests.{lines_from, lines, line_of, request_for, between, request_by, request_at, requests}
+use Rattle.log_requests.specs.Requests.{lines, line_of, request_for, between, request_by, request_at, requests}
 use Rattle.log_requests.specs.RequestLaws.{Free, Named}
 
 -- ---- the two sites

@@ -3,7 +3,6 @@ use Rattle.std.specs.Prelude.{List, ◌≡◌, ℕ}
 use Rattle.lists.specs.Sums.{contradiction}
 use Rattle.model.specs.declared.Edition.{Edition}
 use Rattle.sheet.specs.Sheet.{Network, accepted, read_sheet, edition_of}
-use Rattle.sheet.specs.Causes.{Refusal}
 use Rattle.sheet.specs.SheetTheorem.{a_sheet_is_refused_for_its_cause}
 use Rattle.log_requests.specs.Sheets.{Sheet}
 

@@ -1,20 +1,17 @@
 -- What the two names of a formed line mean: two ends free to be joined, or not, with the reason; and what the line asks then.
-use Rattle.std.specs.Prelude.{Bool, List, ◌⊎◌, ◌≢◌, ◌≡◌, ℕ, ◌+◌, ◌<◌, length}
-use Rattle.std.proofs.Common.{inl, inr, sym, ap, ◌∙◌}
+use Rattle.std.specs.Prelude.{Bool, List, ◌≡◌, ℕ}
+use Rattle.std.proofs.Common.{◌∙◌}
 use Rattle.std.proofs.Math.Path.{refl}
-use Rattle.lists.specs.Sums.{same?, contradiction}
 use Rattle.model.specs.Flows.{Links}
-use Rattle.model.specs.Parts.{crossed, free_pair}
 use Rattle.model.specs.Booking.{pair}
 use Rattle.model.specs.declared.Request.TheVariants as request
-use Rattle.theory_trees.specs.FreePairs.{Crossing, crossed_by, crossed-some, free_parts, free_whole}
 use Rattle.text_lines.specs.Lines.{line_at}
-use Rattle.text_fields.specs.Fields.{fields, field, value}
+use Rattle.text_fields.specs.Fields.{fields, field}
 use Rattle.sheet_names.specs.declared.Found.{Found}
 use Rattle.sheet_names.specs.declared.Found.TheVariants.{At, Absent}
 use Rattle.sheet.specs.Sheet.{lookup}
 use Rattle.log_lines.specs.LogLines.{line_by}
-use Rattle.log_lines.specs.BookingLaws.{Asks, asking}
+use Rattle.log_lines.specs.BookingLaws.{asking}
 use Rattle.log_lines.proofs.BookingLaws.{name_is_field_1, name_is_field_2}
 use Rattle.log_requests.specs.Requests.{request_for, between, request_by, request_at}
 use Rattle.log_requests.specs.RequestLaws.{ended_line}

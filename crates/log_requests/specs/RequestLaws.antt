@@ -1,37 +1,23 @@
 -- The lines of a text one by one, and that what a line asks can be asked: two sites free to be joined and an amount within the limit.
-use Rattle.std.specs.Prelude.{Bool, ◌≢◌, ◌≡◌, ltb, drop, get_or}
+use Rattle.std.specs.Prelude.{Bool, ◌≡◌, drop}
 use Rattle.std.proofs.Math.Bool.{true, false, cond}
-use mathlib.Core.List.{List, [], ◌∷◌, map}
+use mathlib.Core.List.{List, [], ◌∷◌}
 use Rattle.std.proofs.Math.Path.{refl, sym, ap}
 use Prim.Native.Nat.{ℕ, zero, suc, ◌+◌, ◌-◌, ◌≤◌, ◌<◌}
 use Rattle.std.proofs.Math.Nat.{sub-zero}
 use native.Mathlib.Omega.{arith}
 use borrow.Author.Tests.{lt-ltb, le-ltb}
-use Rattle.std.proofs.Math.ListN.{length, length-map}
-use Rattle.lists.specs.Numbers.{less, look, Each}
-use Rattle.lists.specs.Sums.{pick_same, pick_other, pick_cases, same?}
-use Rattle.model.specs.Limits.{AMOUNT}
+use Rattle.std.proofs.Math.ListN.{length}
 use Rattle.model.specs.Flows.{Links, Site}
 use Rattle.model.specs.Parts.{free_pair}
-use Rattle.model.specs.Pairing.{lower_first}
-use Rattle.model.specs.Booking.{pair, Proper, Asked}
-use Rattle.model.specs.declared.Pair.{Pair}
-use Rattle.model.specs.declared.Request.{Request}
 use Rattle.model.specs.declared.Request.TheVariants as request
-use Rattle.theory_trees.specs.FreePairs.{free_parts, free_turned}
-use Rattle.theory_log.specs.Requests.{OpensOnly}
 use Rattle.text_lines.specs.Lines.{line_length, line_at, after_line, has_line}
 use Rattle.text_lines.specs.LineLaws.{length_of_line, no_line_past_the_sheet, after-line-is-later}
-use Rattle.sheet_names.specs.LookupLaws.{Says, lookup_says}
 use Rattle.sheet_names.specs.declared.Found.{Found}
 use Rattle.sheet_names.specs.declared.Found.TheVariants.{At, Absent}
-use Rattle.sheet.specs.Sheet.{lookup}
 use Rattle.log_lines.specs.LogLines.{line_by}
-use Rattle.log_lines.specs.FaultyPlanLines.{AmountTold}
-use Rattle.log_lines.proofs.FaultyPlanLines.{a_line_tells_its_amount}
-use Rattle.log_lines.specs.declared.Line.{Line}
-use Rattle.log_lines.specs.declared.Line.TheVariants.{Booking, Fault}
-use Rattle.log_requests.specs.Requests.{lines_from, lines, line_of, request_for, between, request_by, request_at, requests}
+use Rattle.log_lines.specs.declared.Line.TheVariants.{Fault}
+use Rattle.log_requests.specs.Requests.{lines_from, lines, line_of}
 
 -- ---- line by line
 module _ (text : List ℕ) where

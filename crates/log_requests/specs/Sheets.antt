@@ -1,10 +1,8 @@
 -- An accepted sheet with which a second text is read: it has no cause of its own, and this is its network.
 use Rattle.std.specs.Prelude.{List, ◌≡◌, ℕ}
-use Rattle.lists.specs.Sums.{contradiction}
 use Rattle.model.specs.declared.Edition.{Edition}
 use Rattle.sheet.specs.Sheet.{Network, accepted, read_sheet, edition_of}
 use Rattle.sheet.specs.Causes.{Refusal}
-use Rattle.sheet.specs.SheetTheorem.{a_sheet_is_refused_for_its_cause}
 
 pub record Sheet (known : List Edition) (s : List ℕ) (net : Network) : Type 0 where
   pub no_cause : (k line : ℕ) → ¬ (Refusal (edition_of known s) s k line)

@@ -1,8 +1,8 @@
 -- Three ends on a path, the one between marked, computed (document 02, Card 7): its two neighbours may be joined with it, but not with each other.
-use Rattle.std.specs.Prelude.{true, [], ◌∷◌, ◌≡◌, refl, ℕ}
+use Rattle.std.specs.Prelude.{true, [], ◌≡◌, refl}
 use Rattle.std.proofs.Math.Decide.{ℕ_discrete}
-use Rattle.lists.specs.Numbers.{pick, is, differ, sum, look}
-use Rattle.model.specs.Flows.{Links, relabel, label, without, side, separates}
+use Rattle.lists.specs.Numbers.{pick, is, differ, sum}
+use Rattle.model.specs.Flows.{relabel, label, without, side, separates}
 use Rattle.model.specs.Parts.{another, crossed, free_pair}
 use Rattle.model.specs.Booking.{pair}
 use Rattle.model.specs.declared.Request.TheVariants.{Open, Fault}

@@ -1,5 +1,5 @@
 -- What a replay tells, for every sheet, every log and every lent list: each number for its cause and for no other, and the list after.
-use Rattle.std.specs.Prelude.{◌≡◌, ◌⊎◌, List, [], ◌++◌, ℕ, ◌≤◌, ◌<◌, drop}
+use Rattle.std.specs.Prelude.{◌≡◌, List, [], ℕ, ◌≤◌, ◌<◌}
 use Rattle.std.proofs.Math.Path.{refl, ap}
 use Rattle.std.proofs.Common.{inl, inr}
 use native.Mathlib.Omega.{arith}
@@ -11,19 +11,16 @@ use Rattle.model.specs.Limits.{LOGLINES, LOGBYTES}
 use Rattle.model.specs.Edition.{edition1, edition2, editions}
 use Rattle.model.specs.declared.Edition.{Edition}
 use Rattle.sheet.specs.Sheet.{Network, Read, refused, accepted, read_sheet, edition_of}
-use Rattle.sheet.specs.Causes.{Refusal}
 use Rattle.sheet.specs.Editions.{Headed, editions_before}
 use Rattle.sheet.proofs.Editions.{other_sheets_are_read_as_before}
 use Rattle.sheet.proofs.Editions.{the_new_heading_was_refused_with_2, the_new_heading_was_refused_with_1}
-use Rattle.sheet.specs.Answers.{SheetNumber}
 use Rattle.sheet.proofs.Answers.{refusals_have_sheet_numbers}
 use Rattle.sheet.specs.SheetTheorem.{a_sheet_is_refused_for_its_cause}
 use Rattle.model.specs.Booking.{answers}
 use Rattle.log_requests.specs.Requests.{lines_from, lines, requests}
 use Rattle.log_requests.specs.Sheets.{Sheet}
 use Rattle.log_requests.proofs.Sheets.{an_accepted_sheet}
-use Rattle.logs.specs.Log.{answers_of}
-use Rattle.logs.specs.Outcome.{Replayed, text_of, number, line_of, count_of, replay_over, replay_read, replayed}
+use Rattle.logs.specs.Outcome.{replay_over, replay_read, replayed}
 use Rattle.logs.specs.declared.Outcome.TheVariants.{Answered, Refused}
 use Rattle.logs.specs.Told.{ReplayTold, all-answered, faulty_sheet, few_places, long-log}
 

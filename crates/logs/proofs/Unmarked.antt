@@ -1,5 +1,5 @@
 -- What Card 7 changed in a log (document 02): where every end has one link, a log is answered as by the rule from before, which gave 6 unless the names were
-use Rattle.std.specs.Prelude.{Bool, cond, ◌&&◌, not, List, [], map, ◌≡◌, ℕ, eqb, length}
+use Rattle.std.specs.Prelude.{Bool, List, [], ◌≡◌, ℕ, length}
 use Rattle.std.proofs.Math.Bool.{false}
 use Rattle.std.proofs.Math.Path.{refl, sym}
 use Rattle.std.proofs.Common.{ap, ◌∙◌}
@@ -9,9 +9,8 @@ use Rattle.lists.specs.Sums.{same?}
 use Rattle.lists.specs.Maps.{map_same}
 use Rattle.lists.specs.Tallies.{each_all}
 use Rattle.model.specs.Flows.{Links, Tree}
-use Rattle.model.specs.Booking.{pair, answers}
+use Rattle.model.specs.Booking.{answers}
 use Rattle.model.specs.declared.Edition.{Edition}
-use Rattle.model.specs.declared.Request.{Request}
 use Rattle.model.specs.declared.Request.TheVariants as request
 use Rattle.theory_trees.specs.Leaves.{Outer}
 use Rattle.theory_trees.specs.FreePairs.{free_parts}
@@ -19,14 +18,14 @@ use Rattle.theory_trees.proofs.FreePairs.{outer_pairs_are_free}
 use Rattle.text_lines.specs.Lines.{line_at}
 use Rattle.sheet_names.specs.declared.Found.{Found}
 use Rattle.sheet_names.specs.declared.Found.TheVariants.{At, Absent}
-use Rattle.sheet.specs.Sheet.{Network, part, lookup, read_sheet, accepted, edition_of}
+use Rattle.sheet.specs.Sheet.{Network, read_sheet, accepted, edition_of}
 use Rattle.sheet.specs.SheetTheorem.{an_accepted_sheet_is_a_tree}
 use Rattle.log_lines.specs.declared.Line.{Line}
 use Rattle.log_lines.specs.declared.Line.TheVariants.{Booking, Fault}
 use Rattle.theory_trees.proofs.Ends.{unmarked_ends_are_leaves, unmarked_ends_are_outer}
 use Rattle.sheet.specs.Marks.{WithoutMarks}
 use Rattle.planner.specs.Unmarked.{leaves, unmarked}
-use Rattle.log_requests.specs.Requests.{lines, line_of, request_for, between, request_by, request_at, requests, is_end}
+use Rattle.log_requests.specs.Requests.{lines, line_of, between, request_by, request_at, requests, is_end}
 use Rattle.logs.specs.Log.{answers_of}
 use Rattle.log_requests.specs.RequestLaws.{Named}
 use Rattle.log_requests.proofs.RequestLaws.{a_free_pair_is_asked_for, a_pair_that_is_not_free_gets_6}

@@ -2,11 +2,11 @@
 -- requests of its lines. Document 02, Card 6 ("After every line each link's load is what the answered-0 lines opened over it less what they gave up, and never
 -- above twice its usable size").
 use Rattle.std.proofs.Math.Bool.{false}
-use mathlib.Core.List.{List, [], ◌∷◌, map}
-use Rattle.std.specs.Prelude.{◌↔◌, ◌≢◌, ◌≡◌, refl, ℕ, zero, suc, ◌+◌, ◌*◌, ◌≤◌, ◌<◌, length, take, drop, get_or}
+use mathlib.Core.List.{List, []}
+use Rattle.std.specs.Prelude.{◌↔◌, ◌≢◌, ◌≡◌, ℕ, suc, ◌+◌, ◌*◌, ◌≤◌, ◌<◌, length, take}
 use Rattle.std.proofs.Math.Path.{ap}
 use Rattle.std.proofs.Common.{◌∙◌, arith}
-use Rattle.std.proofs.Math.ListN.{length-map, get_or-append}
+use Rattle.std.proofs.Math.ListN.{length-map}
 use Rattle.lists.specs.Numbers.{look, Each}
 use Rattle.model.specs.Limits.{OPEN}
 use Rattle.lists.specs.Tallies.{each_both}
@@ -15,7 +15,6 @@ use Rattle.model.specs.Parts.{free_pair}
 use Rattle.model.specs.Booking.{places_of, answer, after, opened, given_up, Asked, Entry}
 use Rattle.model.specs.declared.Edition.{Edition}
 use Rattle.model.specs.declared.Pair.{Pair}
-use Rattle.model.specs.declared.Request.{Request}
 use Rattle.model.specs.declared.Request.TheVariants as request
 use Rattle.theory_trees.specs.FreePairs.{free_iff_route}
 use Rattle.theory_log.specs.Pairs.{Sites}
@@ -28,8 +27,6 @@ use Rattle.logs.specs.Log.{requests_of, answers_of}
 use Rattle.log_requests.specs.RequestLaws.{Free}
 use Rattle.log_requests.proofs.RequestLaws.{the_requests_can_be_asked, the_requests_open_free_pairs_only, what_a_line_asks}
 use Rattle.logs.specs.Causes as cause
-use Rattle.logs.specs.Outcome.{Replayed}
-use Rattle.logs.specs.Told.{AllAnswered}
 
 module _ (s : List ℕ) (net : Network) (log : List ℕ) where
   abbrev capacity_of : ℕ → ℕ

@@ -1,6 +1,6 @@
 -- Why a line of a log gets a number, in the order of document 02, Cards 6 and 7: form faults, 3, 6, then for `-` 14, for `+` 15, then 16. Each number just
 -- for its cause, and 0 just where no cause applies. By the line, the look-ups of its names, the path between its ends, and what is open.
-use Rattle.std.specs.Prelude.{Bool, List, ◌⊎◌, ◌↔◌, ◌≢◌, ◌≡◌, refl, ℕ, ◌+◌, ◌≤◌, ◌<◌, length}
+use Rattle.std.specs.Prelude.{Bool, List, ◌⊎◌, ◌↔◌, ◌≢◌, ◌≡◌, ℕ, ◌+◌, ◌≤◌, ◌<◌, length}
 use Rattle.std.proofs.Math.Bool.{true, false}
 use Rattle.std.proofs.Math.Logic.{inl, inr}
 use Rattle.std.proofs.Common.{⊎_elim, sym, subst, ◌∙◌, arith}

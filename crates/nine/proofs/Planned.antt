@@ -1,8 +1,7 @@
 -- The definitions give each of the nine sheets exactly its report: one proof, by computation, over the list.
-use Rattle.std.specs.Prelude.{◌≡◌, refl, length, replicate}
+use Rattle.std.specs.Prelude.{◌≡◌, refl}
 use mathlib.Core.List.{map, flat_map}
 use Rattle.std.proofs.Math.Decide.{ℕ_discrete, dec_le, dec_lt}
-use Rattle.model.specs.Edition.{editions}
 use Rattle.lists.specs.Numbers.{pick, is, differ, less, sum, over, count, upfrom}
 use Rattle.model.specs.Flows.{at, sum_at, leaf, end_at, ends, relabel, label, joined, total}
 use Rattle.model.specs.Trimming.{cut_at, cut_site, cut_sites, unvisited, first, remove, taken, elimination, balanced_along, balanced}
@@ -17,9 +16,8 @@ use Rattle.sheet.specs.Sheet.{capitals, lookup_from, site_step, link_step, headi
 use Rattle.sheet.specs.Sheet.{finish, read_as, edition_of}
 use Rattle.report.specs.Report.{digits, decimal, line, lines, plan_of, owner_name, head_record, link_record, link_line, site_record, site_line, cut_record, cut_line}
 use Rattle.report.specs.Report.{pair_line, report_of, report}
-use Rattle.planner.specs.Outcome.{Planned, Reporter, deliver, plan_read, planned_by}
-use Rattle.planner.specs.declared.Outcome.TheVariants.{Report}
-use Rattle.nine.specs.Sheets.{Example, sheets}
+use Rattle.planner.specs.Outcome.{deliver, plan_read, planned_by}
+use Rattle.nine.specs.Sheets.{sheets}
 use Rattle.nine.specs.Planned.{expected, planned_for}
 
 nine_sheets : map (planned_for report) sheets ≡ map expected sheets

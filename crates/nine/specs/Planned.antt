@@ -1,25 +1,10 @@
 -- The definitions give each of the nine sheets exactly its report: one proof, by computation, over the list.
-use Rattle.std.specs.Prelude.{◌≡◌, refl, length, replicate}
-use mathlib.Core.List.{map, flat_map}
-use Rattle.std.proofs.Math.Decide.{ℕ_discrete, dec_le, dec_lt}
+use Rattle.std.specs.Prelude.{length, replicate}
 use Rattle.model.specs.Edition.{editions}
-use Rattle.lists.specs.Numbers.{pick, is, differ, less, sum, over, count, upfrom}
-use Rattle.model.specs.Flows.{at, sum_at, leaf, end_at, ends, relabel, label, joined, total}
-use Rattle.model.specs.Trimming.{cut_at, cut_site, cut_sites, unvisited, first, remove, taken, elimination, balanced_along, balanced}
-use Rattle.model.specs.Cuts.{kept, group, in_cut, cut_size, cut_count, owner_among, owner}
-use Rattle.model.specs.Pairing.{put, take_halves, drop_halves, halves, give, match, joins, between, children, gather, alone, settle, walk, pairs_from}
-use Rattle.model.specs.Pairing.{lowest_inner, lower_first, before, insert, ordered}
-use Rattle.model.specs.Parts.{within, single, region, member, home, lowest, root, pairs_of_part, pair_of_link, pairs_of_parts, pair_list_of_parts}
-use Rattle.text_lines.specs.Lines.{line_length, line_at, after_line, has_line}
-use Rattle.sheet_kinds.specs.LineKinds.{same, push, fields, all, is_name, is_number, value_from, is_heading, checked_fields, checked, fault_of, judged}
-use Rattle.sheet_kinds.specs.LineKinds.{size_of, capacity_of, site_line as sheetSite, sized_link, link_line as sheetLink, kind_of, kind}
-use Rattle.sheet.specs.Sheet.{capitals, lookup_from, site_step, link_step, heading_step, record_step, step_of, read_line, and_then, read_lines, all_joined}
-use Rattle.sheet.specs.Sheet.{finish, read_as, edition_of}
-use Rattle.report.specs.Report.{digits, decimal, line, lines, plan_of, owner_name, head_record, link_record, link_line, site_record, site_line, cut_record, cut_line}
-use Rattle.report.specs.Report.{pair_line, report_of, report}
-use Rattle.planner.specs.Outcome.{Planned, Reporter, deliver, plan_read, planned_by}
+use Rattle.report.specs.Report.{report}
+use Rattle.planner.specs.Outcome.{Planned, Reporter, planned_by}
 use Rattle.planner.specs.declared.Outcome.TheVariants.{Report}
-use Rattle.nine.specs.Sheets.{Example, sheets}
+use Rattle.nine.specs.Sheets.{Example}
 
 -- planning a sheet by the definitions, into a buffer just as long as the report that is expected
 unfoldable pub planned_for : Reporter → Example → Planned

@@ -11,7 +11,6 @@ use Rattle.exchanges.specs.Causes.{Cause, of_the_first, of_the_second, no_shared
 use Rattle.exchanges.specs.SharedLaws.{a_size_for_each_link}
 use Rattle.exchanges.specs.Told.{ExchangeTold, for_its_cause, both-answered}
 use Rattle.exchanges.proofs.Told.{the_exchange_is_told_or_its_cause}
-use Rattle.exchanges.specs.declared.Answer.{Answer}
 use Rattle.exchanges.specs.declared.Outcome.{Outcome}
 use Rattle.exchanges.specs.declared.Outcome.TheVariants.{Answered, Refused}
 use Rattle.packing.specs.Packed.{packed_regions, unpacked_text, unpacked_number, unpacked_line, unpacked_length}

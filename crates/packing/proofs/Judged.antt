@@ -1,7 +1,6 @@
 -- The number that tells a judgement, taken apart, gives its outcome, for every sheet and plan: the text, which is 0 of a verdict and of nothing else;
-use Rattle.std.specs.Prelude.{true, false, cond, ◌≡◌, ◌≢◌, List, ℕ, ◌*◌, ◌≤◌}
+use Rattle.std.specs.Prelude.{true, false, List, ℕ}
 use Rattle.std.proofs.Common.{arith}
-use Rattle.model.specs.Limits.{AMOUNT, BYTES, PLANLINES}
 use Rattle.model.specs.Edition.{editions}
 use Rattle.sheet.proofs.Editions.{a_line_at_fault_is_within_the_limit}
 use Rattle.verdicts.specs.Outcome.{judged}

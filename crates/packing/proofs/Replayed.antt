@@ -1,10 +1,10 @@
 -- The number that tells a replay, taken apart, gives the outcome's text, number, line and count, for every sheet, log and list.
-use Rattle.std.specs.Prelude.{◌≡◌, List, ℕ, ◌≤◌}
+use Rattle.std.specs.Prelude.{List, ℕ, ◌≤◌}
 use Rattle.std.proofs.Common.{arith}
 use Rattle.model.specs.Limits.{BYTES, LOGLINES}
 use Rattle.model.specs.Edition.{editions}
 use Rattle.sheet.proofs.Editions.{a_line_at_fault_is_within_the_limit}
-use Rattle.logs.specs.Outcome.{text_of, number, line_of, count_of, replayed}
+use Rattle.logs.specs.Outcome.{replayed}
 use Rattle.logs.specs.Told.{ReplayTold, faulty_sheet, long-log, few_places, all-answered}
 use Rattle.logs.proofs.Told.{the_replay_is_told_or_its_cause}
 use Rattle.logs.specs.declared.Outcome.{Outcome}

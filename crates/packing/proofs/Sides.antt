@@ -1,9 +1,9 @@
 -- The numbers that tell the two steps of one region by itself, taken apart, give what the steps come to, for all sheets, names,
-use Rattle.std.specs.Prelude.{List, ◌≡◌, ℕ, ◌*◌, ◌≤◌}
+use Rattle.std.specs.Prelude.{List, ℕ, ◌*◌, ◌≤◌}
 use Rattle.std.proofs.Common.{arith}
 use Rattle.model.specs.Limits.{BYTES, LINKS, SIZE}
 use Rattle.model.specs.Edition.{editions}
-use Rattle.sides.specs.Outcome.{first_number, first_line, size_of, first_shown, answered}
+use Rattle.sides.specs.Outcome.{first_shown, answered}
 use Rattle.sides.specs.Small.{FirstSmall, SideSmall}
 use Rattle.sides.proofs.Small.{the_first_step_tells_small_numbers, the_second_step_tells_small_numbers}
 use Rattle.sides.specs.declared.First.{First}

@@ -1,16 +1,10 @@
 -- The number that tells a replay, taken apart, gives the outcome's text, number, line and count, for every sheet, log and list.
 -- Nothing is lost: a text is 1 or 2, numbers are at most 17, a line at fault is one of the sheet, and a log has at most LOGLINES lines.
-use Rattle.std.specs.Prelude.{◌≡◌, List, ℕ, ◌≤◌}
-use Rattle.std.proofs.Common.{arith}
+use Rattle.std.specs.Prelude.{◌≡◌, ℕ, ◌≤◌}
 use Rattle.model.specs.Limits.{BYTES, LOGLINES}
-use Rattle.model.specs.Edition.{editions}
-use Rattle.sheet.proofs.Editions.{a_line_at_fault_is_within_the_limit}
-use Rattle.logs.specs.Outcome.{text_of, number, line_of, count_of, replayed}
-use Rattle.logs.specs.Told.{ReplayTold, faulty_sheet, long-log, few_places, all-answered}
-use Rattle.logs.proofs.Told.{the_replay_is_told_or_its_cause}
+use Rattle.logs.specs.Outcome.{text_of, number, line_of, count_of}
 use Rattle.logs.specs.declared.Outcome.{Outcome}
-use Rattle.logs.specs.declared.Outcome.TheVariants.{Answered, Refused}
-use Rattle.packing.specs.Packed.{packed_replay, unpacked_text, unpacked_number, unpacked_line, unpacked_length}
+use Rattle.packing.specs.Packed.{unpacked_text, unpacked_number, unpacked_line, unpacked_length}
 
 -- how large the numbers of an outcome are
 pub record Bounded (o : Outcome) : Type 0 where

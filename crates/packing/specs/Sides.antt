@@ -1,18 +1,13 @@
 -- The numbers that tell the two steps of one region by itself, taken apart, give what the steps come to, for all sheets, names,
 -- numbers and lists. Nothing is lost: numbers are at most 19, a line at fault is one of the sheet, and sizes, counts and sums are within the limits.
-use Rattle.std.specs.Prelude.{List, ◌≡◌, ℕ, ◌*◌, ◌≤◌}
-use Rattle.std.proofs.Common.{arith}
-use Rattle.model.specs.Limits.{BYTES, LINKS, SIZE}
-use Rattle.model.specs.Edition.{editions}
-use Rattle.sides.specs.Outcome.{first_number, first_line, size_of, first_shown, answered}
-use Rattle.sides.specs.Small.{FirstSmall, SideSmall}
-use Rattle.sides.proofs.Small.{the_first_step_tells_small_numbers, the_second_step_tells_small_numbers}
+use Rattle.std.specs.Prelude.{◌≡◌, ℕ}
+use Rattle.sides.specs.Outcome.{first_number, first_line, size_of}
 use Rattle.sides.specs.declared.First.{First}
 use Rattle.sides.specs.declared.First.TheVariants as first
 use Rattle.sides.specs.declared.Outcome.{Outcome}
 use Rattle.sides.specs.declared.Outcome.TheVariants.{Answered, Refused}
 use Rattle.packing.specs.Packed.{unpacked_number, unpacked_line, unpacked_length}
-use Rattle.packing.specs.PackedSides.{packed_first, packed_side, unpacked_count, unpacked_sum}
+use Rattle.packing.specs.PackedSides.{unpacked_count, unpacked_sum}
 
 -- a value tells what a first step comes to
 pub record TellsFirst (value : ℕ) (o : First) : Type 0 where

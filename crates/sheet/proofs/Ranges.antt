@@ -2,7 +2,7 @@
 use Rattle.std.specs.Prelude.{Bool, cond, ◌&&◌, List, [], ◌∷◌, ◌++◌, ◌≡◌, ℕ, zero, suc, ◌+◌, ◌≤◌, eqb, leb, ltb, length, drop}
 use Rattle.std.proofs.Math.Bool.{true, false}
 use Rattle.std.proofs.Math.Path.{refl}
-use Rattle.std.proofs.Common.{sym, ap, subst, ◌∙◌, arith, length-append}
+use Rattle.std.proofs.Common.{ap, ◌∙◌, arith, length-append}
 use Rattle.lists.specs.Numbers.{look}
 use Rattle.model.specs.Edition.{ranges_low, ranges_high}
 use Rattle.model.specs.Flows.{sites, joined}
@@ -14,7 +14,7 @@ use Rattle.sheet_kinds.specs.declared.Line.TheVariants as line
 use Rattle.sheet_names.specs.declared.Found.{Found}
 use Rattle.sheet_names.specs.declared.Found.TheVariants.{At, Absent}
 use Rattle.sheet.specs.Sheet.{Network, empty, with_site, with_link, Read, refused, accepted}
-use Rattle.sheet.specs.Sheet.{part, lookup, site_by, site_step, link_step, heading_step, record_step}
+use Rattle.sheet.specs.Sheet.{part, lookup, site_step, link_step, heading_step, record_step}
 use Rattle.sheet.specs.Sheet.{step_of, added, read_line, and_then, read_lines, all_joined, finish, read_as}
 use Rattle.sheet.specs.declared.stepping.Step.{Step}
 use Rattle.sheet.specs.declared.stepping.Step.TheVariants.{Nothing, Site, Link, Refused}

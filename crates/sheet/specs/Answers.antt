@@ -1,21 +1,11 @@
 -- What reading a sheet answers, in both directions: a number at a line just for its cause, 0 just without one. Numbers are 1 to 8, 10 to 13, 17 or 19, and a
 -- line at fault is one of the sheet. Document 01, "The network sheet" (the table's columns "No." and "Returned"); 02, Cards 1, 5, 9 and 11. By the causes,
 -- one by one.
-use Rattle.std.specs.Prelude.{List, ◌⊎◌, ◌↔◌, ◌≢◌, ◌≡◌, ℕ, suc, ◌≤◌, ◌<◌, length}
-use Rattle.std.proofs.Common.{inl, inr, lt-ltb}
-use Rattle.std.proofs.Math.Path.{refl}
-use native.Mathlib.Omega.{arith}
-use Rattle.model.specs.declared.Edition.{Edition}
+use Rattle.std.specs.Prelude.{◌⊎◌, ◌≢◌, ◌≡◌, ℕ, ◌≤◌, ◌<◌}
 use Rattle.model.specs.declared.Sizing.{Sizing}
 use Rattle.model.specs.declared.Sizing.TheVariants.{Reserved}
-use Rattle.text_lines.specs.Lines.{has_line}
-use Rattle.text_lines.specs.LineLaws.{after-line-is-later}
-use Rattle.sheet.specs.Sheet.{Network, empty, Read, refused, accepted, read_as}
-use Rattle.sheet.specs.Reading.{lists, reading}
-use Rattle.sheet.specs.Causes.{Cause, unended, no_heading, no_letter, wrong_count, bad_name, bare_name, bad_number}
-use Rattle.sheet.specs.Causes.{too_large, too_much_held, low-above-high, too_many, given, not-given, already_joined}
-use Rattle.sheet.specs.Causes.{Reached, start, next, Refusal, by_length, by_line, by_whole}
-use Rattle.sheet.specs.SheetTheorem.{a_sheet_is_refused_for_its_cause}
+use Rattle.sheet.specs.Sheet.{Read}
+use Rattle.sheet.specs.Reading.{reading}
 use Rattle.sheet.specs.declared.Answer.{Answer}
 use Rattle.sheet.specs.declared.Answer.TheVariants.{Accepted, Refused}
 

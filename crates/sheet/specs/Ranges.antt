@@ -1,22 +1,9 @@
 -- A range sheet read with its low sizes and with its high sizes (document 02, Card 11): both are refused alike, or give the same sites, marks and links, and no
 -- low size is above its high one. By the lines, each of which adds the same but for the capacity.
-use Rattle.std.specs.Prelude.{Bool, cond, ◌&&◌, List, [], ◌∷◌, ◌++◌, ◌≡◌, ℕ, zero, suc, ◌+◌, ◌≤◌, eqb, leb, ltb, length, drop}
-use Rattle.std.proofs.Math.Bool.{true, false}
-use Rattle.std.proofs.Math.Path.{refl}
-use Rattle.std.proofs.Common.{sym, ap, subst, ◌∙◌, arith, length-append}
+use Rattle.std.specs.Prelude.{[], ◌≡◌, ℕ, ◌≤◌, length}
 use Rattle.lists.specs.Numbers.{look}
-use Rattle.model.specs.Edition.{ranges_low, ranges_high}
-use Rattle.model.specs.Flows.{sites, joined}
-use Rattle.text_lines.specs.Lines.{line_length, line_at, after_line, has_line}
-use Rattle.sheet_kinds.specs.LineKinds.{is_heading}
-use Rattle.sheet_kinds.specs.RangeLines.{LineAlike, kinds_alike}
-use Rattle.sheet_kinds.specs.declared.Line.{Line}
 use Rattle.sheet_kinds.specs.declared.Line.TheVariants as line
-use Rattle.sheet_names.specs.declared.Found.{Found}
-use Rattle.sheet_names.specs.declared.Found.TheVariants.{At, Absent}
-use Rattle.sheet.specs.Sheet.{Network, empty, with_site, with_link, Read, refused, accepted}
-use Rattle.sheet.specs.Sheet.{part, lookup, site_by, site_step, link_step, heading_step, record_step}
-use Rattle.sheet.specs.Sheet.{step_of, added, read_line, and_then, read_lines, all_joined, finish, read_as}
+use Rattle.sheet.specs.Sheet.{Network, Read, refused, accepted}
 use Rattle.sheet.specs.declared.stepping.Step.{Step}
 use Rattle.sheet.specs.declared.stepping.Step.TheVariants.{Nothing, Site, Link, Refused}
 

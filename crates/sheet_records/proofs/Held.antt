@@ -1,5 +1,5 @@
 -- A network that holds a site for each site record and a link for each link record among some, and no other: with one more line it holds one more.
-use Rattle.std.specs.Prelude.{List, [], ◌∷◌, ◌++◌, ◌⊎◌, ◌≡◌, refl, ℕ, suc, ◌+◌, ◌-◌, ◌≤◌, ◌<◌, length}
+use Rattle.std.specs.Prelude.{List, [], ◌∷◌, ◌++◌, ◌≡◌, refl, ℕ, suc, ◌+◌, ◌-◌, length}
 use Rattle.std.proofs.Common.{inl, inr, sym, ap, subst, ◌∙◌, arith, length-append}
 use Rattle.std.proofs.Math.ListN.{get_or-append}
 use Rattle.std.proofs.Math.Seq.{get_or-append_seam}
@@ -15,7 +15,6 @@ use Rattle.sheet.specs.Sheet.{Network, with_site, with_link}
 use Rattle.sheet.specs.Causes.{Named, fields_at}
 use Rattle.sheet.specs.CauseLaws.{first_name, a_site_is_looked_up_by_field_1}
 use Rattle.sheet.specs.OwnLines.{IsLinkLine}
-use Rattle.theory_shuffled.specs.Shuffled.{Stands}
 use Rattle.sheet_records.specs.SameRecords.{name_on}
 use Rattle.theory_shuffled.specs.ShuffledLaws.{stands_front, stands_behind, stands_either}
 use Rattle.sheet_records.specs.Held.{SiteRecord, LinkRecord, Holds}

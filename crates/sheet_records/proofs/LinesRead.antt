@@ -1,10 +1,10 @@
 -- The lines of a sheet that are read, and their records: each is held by the network as a site or a link of its own, each link stands below its two sites.
-use Rattle.std.specs.Prelude.{Bool, cond, ◌⊎◌, ◌≢◌, ◌≡◌, get_or, drop}
+use Rattle.std.specs.Prelude.{Bool, cond, ◌≢◌, ◌≡◌, get_or, drop}
 use Rattle.std.proofs.Math.Bool.{true, false}
 use mathlib.Core.List.{List, [], ◌∷◌, ◌++◌, append_assoc, append-nil, reverse, reverse_aux-append}
 use Rattle.std.proofs.Math.Logic.{inl, inr}
 use Rattle.std.proofs.Math.Path.{refl, sym, ap, subst}
-use Rattle.std.proofs.Common.{◌∙◌, drop_of_length-le, ne_eqb}
+use Rattle.std.proofs.Common.{◌∙◌, ne_eqb}
 use Prim.Native.Nat.{ℕ, suc, ◌+◌, ◌-◌, ◌≤◌, ◌<◌}
 use native.Mathlib.Omega.{arith}
 use Rattle.std.proofs.Math.Decide.{dec_lt}
@@ -12,19 +12,16 @@ use Rattle.std.proofs.Math.ListN.{length, length-append}
 use Rattle.lists.specs.Sums.{cases, contradiction}
 use Rattle.lists.specs.Tallies.{tally, tally-append}
 use Rattle.model.specs.Flows.{Joined, link, back, one, two, label}
-use Rattle.model.specs.Text.{bytes}
 use Rattle.model.specs.declared.Edition.{Edition}
 use Rattle.model.specs.declared.Sizing.TheVariants.{Reserved}
 use Rattle.theory_trees.specs.Labels.{joined-label}
 use Rattle.theory_trees.proofs.Fresh.{joined_reversed}
-use Rattle.theory_shuffled.specs.ShuffledLaws.{Apart, apart_more}
+use Rattle.theory_shuffled.specs.ShuffledLaws.{apart_more}
 use Rattle.text_lines.specs.Lines.{line_at, after_line}
 use Rattle.text_lines.specs.LineLaws.{line_holds_no_ten, ended_lines_cover_the_sheet}
-use Rattle.text_fields.specs.Fields.{push, capitals, SameName}
+use Rattle.text_fields.specs.Fields.{push, capitals}
 use Rattle.text_records.specs.Records.{lines_of, Record, records}
 use Rattle.sheet_kinds.specs.LineKinds.{same, field, is_heading, mark, IsSite, IsLink}
-use Rattle.sheet_kinds.specs.LineKindLaws.{site_parts, link_parts}
-use Rattle.sheet_names.specs.Names.{Different}
 use Rattle.sheet.specs.Sheet.{Network, empty, refused, accepted, with_site, with_link, heading_step, step_of, added, read_line, read_as}
 use Rattle.sheet.specs.Causes.{Named, Ended, fields_at, Reached, start, next}
 use Rattle.sheet.specs.CauseLaws.{first_name}
@@ -34,7 +31,7 @@ use Rattle.sheet.specs.OwnLines.{IsLinkLine, Adds, step_adds}
 use Rattle.sheet.specs.RefusalLaws.{an_accepted_sheet_is_read_to_its_end}
 use Rattle.sheet.specs.declared.stepping.Step.{Step}
 use Rattle.sheet.specs.declared.stepping.Step.TheVariants as step
-use Rattle.sheet_records.specs.SameRecords.{records_of, SameNames, SameRecord, same-site, same-link, GivenAmong, LinksBelow}
+use Rattle.sheet_records.specs.SameRecords.{records_of, SameRecord, same-site, same-link, GivenAmong, LinksBelow}
 use Rattle.sheet_records.specs.RecordLaws.{a_site_is_no_link}
 use Rattle.sheet_records.proofs.RecordLaws.{names_turned, names_chained}
 use Rattle.sheet_records.specs.Held.{Holds}

@@ -1,11 +1,8 @@
 -- Names and records that are the same, turned round and chained.
 use Rattle.std.specs.Prelude.{List, ◌≡◌, ℕ}
-use Rattle.std.proofs.Common.{inl, inr, sym, ap, ◌∙◌, arith}
-use Rattle.lists.specs.Numbers.{look}
-use Rattle.model.specs.declared.Sizing.TheVariants.{Reserved}
+use Rattle.std.proofs.Common.{inl, inr, sym, ◌∙◌}
 use Rattle.text_records.specs.Records.{Record}
-use Rattle.sheet_kinds.specs.LineKinds.{field, IsSite, IsLink, mark}
-use Rattle.sheet_kinds.specs.LineKindLaws.{site_parts, link_parts}
+use Rattle.sheet_kinds.specs.LineKinds.{field, mark}
 use Rattle.sheet_records.specs.SameRecords.{SameNames, SameRecord, same-site, same-link}
 use Rattle.sheet_records.specs.RecordLaws.{a_site_is_no_link}
 

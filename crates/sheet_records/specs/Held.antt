@@ -1,23 +1,15 @@
 -- A network that holds a site for each site record and a link for each link record among some, and no other: with one more line it holds one more.
-use Rattle.std.specs.Prelude.{List, [], ◌∷◌, ◌++◌, ◌⊎◌, ◌≡◌, refl, ℕ, suc, ◌+◌, ◌-◌, ◌≤◌, ◌<◌, length}
-use Rattle.std.proofs.Common.{inl, inr, sym, ap, subst, ◌∙◌, arith, length-append}
-use Rattle.std.proofs.Math.ListN.{get_or-append}
-use Rattle.std.proofs.Math.Seq.{get_or-append_seam}
+use Rattle.std.specs.Prelude.{List, [], ◌⊎◌, ◌≡◌, ℕ, ◌-◌, ◌≤◌, ◌<◌, length}
 use Rattle.lists.specs.Numbers.{look}
-use Rattle.lists.specs.Sums.{same?}
 use Rattle.model.specs.Flows.{Site, one, two}
 use Rattle.model.specs.declared.Edition.{Edition}
 use Rattle.model.specs.declared.Sizing.TheVariants.{Reserved}
 use Rattle.text_records.specs.Records.{Record}
 use Rattle.sheet_kinds.specs.LineKinds.{field, mark, size, reserve, capacity, IsSite, IsLink}
-use Rattle.sheet_kinds.specs.LineKindLaws.{Together}
-use Rattle.sheet.specs.Sheet.{Network, with_site, with_link}
-use Rattle.sheet.specs.Causes.{Named, fields_at}
-use Rattle.sheet.specs.CauseLaws.{first_name, a_site_is_looked_up_by_field_1}
-use Rattle.sheet.specs.OwnLines.{IsLinkLine}
+use Rattle.sheet.specs.Sheet.{Network}
+use Rattle.sheet.specs.Causes.{Named}
 use Rattle.theory_shuffled.specs.Shuffled.{Stands}
 use Rattle.sheet_records.specs.SameRecords.{name_on}
-use Rattle.theory_shuffled.specs.ShuffledLaws.{stands_front, stands_behind, stands_either}
 
 -- r is the record of site v
 pub record SiteRecord (s : List ℕ) (net : Network) (v : ℕ) (r : Record) : Type 0 where

@@ -21,12 +21,12 @@ use Rattle.sheet.specs.Sheet.{Network}
 use Rattle.sheet.specs.SheetTheorem.{IsNetwork}
 use Rattle.sheet_records.specs.SameRecords.{name_on}
 use Rattle.report.specs.Report.{owner_name}
-use Rattle.planner.specs.Figures.{Figures, halves, wholes, pairs_by, trimmed_are_greatest, figures_have_sound_pairs, halves_can_be_shown}
+use Rattle.planner.specs.Figures.{halves, wholes, pairs_by, trimmed_are_greatest, figures_have_sound_pairs, halves_can_be_shown}
 use Rattle.demands.specs.Printed.{site_count, is_end}
 use Rattle.demands.specs.ReadBack.{figures_say}
 use Rattle.demands.specs.WholeMet.{whole_says}
 use Rattle.demands.proofs.WholeMet.{whole_has_a_largest_plan}
-use Rattle.shuffled.specs.SameReports.{SameSite, SameLink}
+use Rattle.shuffled.specs.SameReports.{SameLink}
 use Rattle.shuffled.specs.Networks.{Among, site_to}
 use Rattle.shuffled.proofs.Networks.{link_to, site-to, link-to, site_of_the_name, same-link-joins, are_matched}
 use Rattle.shuffled.specs.Agree.{Agree}

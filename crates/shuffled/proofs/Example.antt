@@ -1,10 +1,9 @@
 -- Two sheets that hold the same records in different orders, computed: names in either case, a link with its names exchanged, a reserve of 0 that is not
-use mathlib.Core.List.{[], ◌∷◌, ◌++◌, map, flat_map}
+use mathlib.Core.List.{[], ◌∷◌, map, flat_map}
 use Rattle.std.proofs.Common.{inl, inr}
 use Rattle.std.specs.Prelude.{◌≡◌, refl}
 use Rattle.std.proofs.Math.Decide.{ℕ_discrete, dec_le, dec_lt}
 use Rattle.lists.specs.Numbers.{pick, is, differ, less, sum, over, count, upfrom}
-use Rattle.model.specs.Text.{bytes}
 use Rattle.model.specs.Flows.{at, sum_at, leaf, end_at, ends, relabel, label, joined, total}
 use Rattle.model.specs.Trimming.{cut_at, cut_site, cut_sites, unvisited, first, remove, taken, elimination, balanced_along, balanced}
 use Rattle.model.specs.Cuts.{kept, group, in_cut, cut_size, cut_count, owner_among, owner}
@@ -22,7 +21,6 @@ use Rattle.theory_shuffled.specs.Shuffled.{none, next}
 use Rattle.report.specs.Report.{digits, decimal, line, lines, plan_of, owner_name, head_record, link_record, link_line, site_record, site_line, cut_record, cut_line}
 use Rattle.report.specs.Report.{pair_line, report_of, report}
 use Rattle.planner.specs.Outcome.{deliver, plan_read, planned_by}
-use Rattle.nine.specs.Sheets.{Example}
 use Rattle.nine.specs.Planned.{planned_for, expected}
 use Rattle.shuffled.specs.Example.{one, two}
 

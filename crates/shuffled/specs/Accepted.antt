@@ -1,6 +1,6 @@
 -- Which reorderings of an accepted sheet are accepted again: those in which each link stands below its two sites. No cause of a refusal is left: a record
 -- keeps its form, sites and links are as many and as different as they were, and links that join no two joined sites in one order do so in no other.
-use Rattle.std.specs.Prelude.{true, false, List, [], ◌∷◌, ◌++◌, ◌⊎◌, ◌≢◌, ◌↔◌, ◌≡◌, refl, ℕ, ◌+◌, ◌-◌, ◌<◌, length, get_or, drop}
+use Rattle.std.specs.Prelude.{true, List, [], ◌∷◌, ◌++◌, ◌⊎◌, ◌≢◌, ◌↔◌, ◌≡◌, refl, ℕ, ◌+◌, ◌-◌, ◌<◌, length, get_or, drop}
 use Rattle.std.proofs.Common.{true≢false, append_assoc, append-nil, inl, inr, sym, subst, ◌∙◌}
 use Rattle.std.proofs.Math.Path.{ap}
 use native.Mathlib.Omega.{arith}
@@ -27,11 +27,11 @@ use Rattle.sheet_kinds.specs.FaultyLines as faulty
 use Rattle.sheet_kinds.specs.KindForms.{LinkWithin, a_site_by_its_form, a_link_by_its_form}
 use Rattle.sheet_kinds.specs.declared.Line.TheVariants as line
 use Rattle.sheet_names.specs.Names.{Different}
-use Rattle.sheet.specs.Sheet.{Network, refused, accepted, read_as, read_sheet, edition_of}
+use Rattle.sheet.specs.Sheet.{Network, accepted, read_as}
 use Rattle.sheet.specs.Causes.{Named, Ended, fields_at, Cause, unended, no_heading, no_letter, wrong_count, bad_name, bare_name, bad_number, too_large}
 use Rattle.sheet.specs.Causes.{too_much_held, low-above-high, too_many, given, not-given, already_joined, Refusal, by_length, by_line, by_whole}
 use Rattle.sheet.specs.RefusalLaws.{an_accepted_sheet_is_read_to_its_end}
-use Rattle.sheet.specs.SheetTheorem.{IsNetwork, an_accepted_sheet_is_a_tree, a_sheet_is_refused_for_its_cause, a_sheet_without_causes_is_accepted}
+use Rattle.sheet.specs.SheetTheorem.{IsNetwork, an_accepted_sheet_is_a_tree, a_sheet_without_causes_is_accepted}
 use Rattle.sheet_records.specs.SameRecords.{name_on, records_of, SameNames, SameRecord, same-site, same-link, SameRecords, GivenAmong, LinksBelow}
 use Rattle.sheet_records.specs.SameRecords.{EachLinkBelowItsSites, SameFrame}
 use Rattle.sheet_records.specs.RecordLaws.{a_site_is_no_link}

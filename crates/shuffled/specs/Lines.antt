@@ -1,35 +1,14 @@
 -- The lines of the reports on two sheets whose figures agree: each `L`, `N` and `X` line of the one has its like in the other, and none stands twice.
 -- By the place of the plan that each line is written from.
-use mathlib.Core.List.{List, [], ◌∷◌, map, flat_map}
+use mathlib.Core.List.{[], map}
 use Rattle.std.proofs.Math.Logic.{inl, inr}
-use Rattle.std.specs.Prelude.{◌≡◌, refl, length}
-use Rattle.std.proofs.Common.{sym, ap, subst, ◌∙◌}
+use Rattle.std.specs.Prelude.{◌≡◌}
+use Rattle.std.proofs.Common.{ap}
 use Prim.Native.Nat.{ℕ, zero, suc, ◌+◌, ◌≤◌, ◌<◌}
 use native.Mathlib.Omega.{arith}
-use Rattle.std.proofs.lemmas.List.{length-map}
-use Rattle.std.proofs.Math.ListN.{get_or-map}
-use Rattle.lists.specs.Numbers.{pick, look, upfrom}
-use Rattle.lists.specs.Sums.{same?, pick_same, pick_other}
-use Rattle.model.specs.Flows.{Site, one, two}
-use Rattle.model.specs.Text.{bytes}
-use Rattle.model.specs.declared.Edition.{Edition}
-use Rattle.text_fields.specs.Fields.{SameName}
-use Rattle.text_records.specs.Records.{Record, records}
-use Rattle.theory_trees.proofs.Sites.{look-site}
-use Rattle.theory_regions.specs.SharingLaws.{no_double_link}
-use Rattle.theory_shuffled.specs.Shuffled.{Stands, Shuffled}
-use Rattle.theory_shuffled.specs.ShuffledLaws.{Apart, same_once_is_shuffled}
-use Rattle.sheet.specs.Sheet.{Network}
-use Rattle.sheet.specs.SheetTheorem.{IsNetwork}
-use Rattle.sheet_records.proofs.RecordLaws.{names_turned, names_chained}
-use Rattle.sheet_records.specs.SameRecords.{name_on}
-use Rattle.report.specs.Report.{decimal, owner_name, Plan, report_of}
-use Rattle.planner.specs.Figures.{Figures, plan_showing, Showable}
-use Rattle.demands.specs.Printed.{site_count, is_end, headed}
-use Rattle.demands.specs.Records.{link_fields, site_fields, cut_fields, link-lines, site-lines, cut-lines}
-use Rattle.demands.specs.Names.{name_read_back, site-name-is-plain}
-use Rattle.shuffled.specs.SameReports.{SameLinkLine, SameSiteLine, SameSetLine, SameSite, SameLink, EachIsThere}
-use Rattle.shuffled.specs.Agree.{Agree}
+use Rattle.lists.specs.Numbers.{upfrom}
+use Rattle.lists.specs.Sums.{same?}
+use Rattle.theory_shuffled.specs.Shuffled.{Stands}
 
 -- ---- lists made place by place
 module _ {A : Type 0} (f : ℕ → A) where

@@ -1,34 +1,19 @@
 -- Two accepted sheets that hold the same records give one network, numbered in two ways: sites go by their names, and links by the names of their
 -- sites, since a tree has no two links between the same sites.
 use Rattle.std.specs.Prelude.{List, ◌≡◌, refl, ℕ, ◌-◌, ◌<◌}
-use Rattle.std.proofs.Common.{inl, inr, sym, ◌∙◌}
-use Rattle.std.proofs.Math.Decide.{dec_lt}
 use Rattle.std.proofs.Math.ListN.{length}
 use Rattle.lists.specs.Numbers.{look}
-use Rattle.model.specs.Flows.{Site, one, two}
-use Rattle.model.specs.declared.Edition.{Edition}
-use Rattle.model.specs.declared.Sizing.TheVariants.{Reserved}
-use Rattle.text_fields.specs.Fields.{SameName}
-use Rattle.text_records.specs.Records.{Record}
-use Rattle.sheet_kinds.specs.LineKinds.{field, IsSite, IsLink}
+use Rattle.model.specs.Flows.{Site}
 use Rattle.sheet_names.specs.Names.{Different, lookup}
 use Rattle.sheet_names.specs.declared.Found.{Found}
 use Rattle.sheet_names.specs.declared.Found.TheVariants.{At, Absent}
 use Rattle.sheet.specs.Sheet.{Network}
 use Rattle.sheet.specs.CauseLaws.{Finds, finds}
 use Rattle.sheet.specs.Causes.{Named}
-use Rattle.sheet.specs.SheetTheorem.{IsNetwork}
-use Rattle.sheet_records.specs.SameRecords.{name_on, SameRecord, same-site, same-link, records_of}
-use Rattle.sheet_records.specs.RecordLaws.{a_site_is_no_link}
-use Rattle.sheet_records.proofs.RecordLaws.{same-mark}
-use Rattle.sheet_records.specs.Held.{SiteRecord, LinkRecord, Holds}
+use Rattle.sheet_records.specs.SameRecords.{name_on}
 use Rattle.sheet_records.specs.LinesRead.{one_site_of_a_name}
-use Rattle.theory_regions.specs.JoinedTree.{Between}
-use Rattle.theory_regions.specs.SharingLaws.{no_double_link}
-use Rattle.theory_shuffled.specs.Matched.{Carries, Matched}
-use Rattle.theory_shuffled.specs.Shuffled.{Stands}
 use Rattle.demands.specs.Printed.{site_count, site_found, site_named}
-use Rattle.shuffled.specs.SameReports.{SameSite, SameLink, EachIsThere}
+use Rattle.shuffled.specs.SameReports.{SameSite, SameLink}
 
 -- ---- from records
 

@@ -5,8 +5,8 @@ use Rattle.std.proofs.Common.{sym, ◌∙◌, arith}
 use Prim.Native.Nat.{ℕ, ◌*◌, ◌≤◌, ◌<◌, max}
 use Rattle.lists.specs.Numbers.{differ}
 use Rattle.lists.specs.Sums.{same?, pick_same, pick_other, differ_same, differ-other, differ-le, product_one}
-use Rattle.model.specs.Flows.{Site, Tree, at}
-use Rattle.theory_trees.specs.Trees.{at-end, at-le}
+use Rattle.model.specs.Flows.{Tree, at}
+use Rattle.theory_trees.specs.Trees.{at-le}
 use Rattle.theory_walk.specs.Regions.{differ-one}
 use Rattle.theory_regions.specs.Regions.{Region, lone}
 use Rattle.theory_regions.specs.JoinedTree.{Between}

@@ -14,13 +14,11 @@ use Rattle.exchanges.specs.SharedLaws.{the_network_is_named, a_pair_is_neighbour
 use Rattle.exchanges.specs.Outcome.{first_of, second_of, exchanged}
 use Rattle.exchanges.specs.Told.{Room}
 use Rattle.exchanges.proofs.Told.{both_are_answered}
-use Rattle.exchanges.specs.declared.Answer.{Answer}
-use Rattle.sides.specs.Outcome.{first_shown, Side, delivered, answered}
+use Rattle.sides.specs.Outcome.{first_shown, delivered, answered}
 use Rattle.sides.specs.Causes.{NamesOf, AcceptedSide}
 use Rattle.sides.specs.SideLaws.{its_first_size_is_shown}
 use Rattle.sides.proofs.SideLaws.{its_answer_is_delivered}
 use Rattle.sides.specs.declared.First.TheVariants.{Shown}
-use Rattle.sides.specs.declared.Outcome.TheVariants.{Answered}
 use Rattle.sides.specs.Agree.{as_side}
 
 -- an accepted pair is one with its sheets exchanged

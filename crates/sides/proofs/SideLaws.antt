@@ -1,28 +1,16 @@
 -- The names of an accepted sheet are different, so that two of them mean the link that joins their sites, where one of these may be far, and no other; and what
-use Rattle.std.specs.Prelude.{List, ◌⊎◌, ◌≡◌, ℕ, ◌≤◌, ◌<◌, length}
-use Rattle.std.proofs.Common.{inl, inr, sym, ◌∙◌, arith}
-use Rattle.std.proofs.Math.Logic.{⊎_swap}
+use Rattle.std.specs.Prelude.{List, ◌≡◌, ℕ, ◌≤◌, ◌<◌, length}
 use Rattle.std.proofs.Math.Path.{refl}
-use Rattle.std.proofs.Math.Decide.{dec_lt}
 use borrow.Author.Tests.{le-leb, lt-leb, lt-ltb, le-ltb}
 use Rattle.lists.specs.Numbers.{look}
-use Rattle.lists.specs.Sums.{cases}
-use Rattle.model.specs.Flows.{Site}
 use Rattle.model.specs.declared.Edition.{Edition}
-use Rattle.text_fields.specs.Fields.{capitals}
 use Rattle.sheet.specs.Sheet.{Network, refused, accepted, read_sheet}
-use Rattle.theory_regions.specs.Regions.{first_size, given}
-use Rattle.theory_regions.specs.JoinedTree.{Border, Bordered}
-use Rattle.theory_regions.specs.Sharing.{Named}
-use Rattle.theory_regions.specs.Meeting.{link-sites}
-use Rattle.theory_regions.proofs.FarSites.{lone_iff}
-use Rattle.theory_regions.proofs.Again.{trimmed_again_has_each_link}
-use Rattle.exchanges.specs.Shared.{region_of, site_name}
-use Rattle.exchanges.specs.SharedLaws.{the_network_is_named, a_look_up_finds_the_site_of_a_name}
-use Rattle.sides.specs.Outcome.{site_of, link_named, show_over, show_read, first_shown, refusal, delivered, answer_over, answer_read, answered}
+use Rattle.theory_regions.specs.Regions.{given}
+use Rattle.theory_regions.specs.JoinedTree.{Border}
+use Rattle.exchanges.specs.Shared.{region_of}
+use Rattle.exchanges.specs.SharedLaws.{the_network_is_named}
+use Rattle.sides.specs.Outcome.{show_over, show_read, first_shown, refusal, delivered, answer_over, answer_read, answered}
 use Rattle.sides.specs.Causes.{MayShare, AcceptedSide}
-use Rattle.side_links.proofs.LinkLaws.{a_link_that_is_found_joins_them, a_link_between_them_is_found}
-use Rattle.sides.specs.declared.First.TheVariants.{Shown}
 use Rattle.sides.specs.declared.First.TheVariants as first
 use Rattle.sides.specs.SideLaws.{no_link_is_meant}
 use Rattle.sides.specs.SideLaws.{its_link}

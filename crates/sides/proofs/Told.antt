@@ -9,18 +9,17 @@ use Rattle.sheet.specs.Sheet.{Network, Read, refused, accepted, read_sheet, edit
 use Rattle.sheet.specs.Causes.{Refusal}
 use Rattle.sheet.proofs.Answers.{refusals_have_sheet_numbers}
 use Rattle.sheet.specs.SheetTheorem.{a_sheet_is_refused_for_its_cause}
-use Rattle.theory_regions.specs.Regions.{Given, first_size, given}
+use Rattle.theory_regions.specs.Regions.{first_size, given}
 use Rattle.theory_regions.specs.JoinedTree.{Border}
 use Rattle.exchanges.specs.Shared.{region_of}
 use Rattle.exchanges.specs.SharedLaws.{the_network_is_named}
-use Rattle.sides.specs.Outcome.{first_number, first_line, size_of, first_shown, number, line_of, count_of, sum_of, Side, refusal, answered}
+use Rattle.sides.specs.Outcome.{first_number, first_line, first_shown, number, line_of, refusal, answered}
 use Rattle.sides.specs.Causes.{AcceptedSide, FirstCause, of_the_sheet, no_such_link, Cause, of_the_first_step, number_too_large, list_too_short}
 use Rattle.sides.specs.SideLaws.{meant?}
 use Rattle.sides.proofs.SideLaws.{a_sheet_refused_shows_nothing, a_sheet_refused_is_given_nothing}
 use Rattle.sides.specs.SideLaws.{its_first_size_is_shown, a_size_for_each_link}
 use Rattle.sides.proofs.SideLaws.{without-a-link-nothing-is-shown, without-a-link-nothing-is-given}
 use Rattle.sides.proofs.SideLaws.{a_larger_number_is_refused, a_shorter_list_is_refused, its_answer_is_delivered}
-use Rattle.sides.specs.declared.First.{First}
 use Rattle.sides.specs.declared.First.TheVariants.{Shown}
 use Rattle.sides.specs.declared.First.TheVariants as first
 use Rattle.sides.specs.declared.Outcome.TheVariants.{Answered, Refused}

@@ -7,17 +7,16 @@ use Rattle.lists.specs.Sums.{same?, is_same, is-other, sum-le, sum-mul, sum_one}
 use Rattle.model.specs.Limits.{BYTES, LINKS, SIZE}
 use Rattle.model.specs.Edition.{editions}
 use Rattle.model.specs.Flows.{Links, Tree, one, two, at_terminals}
-use Rattle.sheet.proofs.Editions.{an_accepted_sheet_is_within_the_largest, a_line_at_fault_is_within_the_limit}
-use Rattle.sheet.specs.Sheet.{Network, edition_of}
-use Rattle.sheet.proofs.Answers.{refusals_have_sheet_numbers}
+use Rattle.sheet.proofs.Editions.{an_accepted_sheet_is_within_the_largest}
+use Rattle.sheet.specs.Sheet.{Network}
 use Rattle.theory_trees.specs.Sites.{by_link}
 use Rattle.theory_regions.specs.Regions.{first_size, own_sum, given}
 use Rattle.theory_regions.specs.JoinedTree.{Border}
 use Rattle.theory_regions.specs.Again.{trimmed_is_greatest}
 use Rattle.theory_regions.proofs.Again.{no_size_is_passed}
 use Rattle.exchanges.specs.Shared.{region_of}
-use Rattle.sides.specs.Outcome.{first_number, first_line, size_of, first_shown, number, line_of, count_of, sum_of, answered}
-use Rattle.sides.specs.Causes.{AcceptedSide, FirstCause, of_the_sheet, no_such_link, Cause, of_the_first_step, number_too_large, list_too_short}
+use Rattle.sides.specs.Outcome.{first_number, first_line, size_of, number, line_of, count_of, sum_of}
+use Rattle.sides.specs.Causes.{AcceptedSide}
 use Rattle.sides.specs.SideLaws.{a_side_is_bordered}
 use Rattle.sides.specs.Told as told
 use Rattle.sides.specs.declared.First.{First}

@@ -1,27 +1,16 @@
 -- What the two steps of one region by itself tell, for every sheet, all names, numbers and lent lists: each number for its cause and for no other, and the list
 -- after. Document 02, Card 10.
-use Rattle.std.specs.Prelude.{List, ◌++◌, ◌↔◌, ◌≡◌, refl, ℕ, ◌≤◌, ◌<◌, length, drop}
-use Rattle.std.proofs.Common.{inl, inr, sym, ap, ◌∙◌, arith}
-use Rattle.std.proofs.Math.Decide.{dec_le}
+use Rattle.std.specs.Prelude.{List, ◌++◌, ◌≡◌, ℕ, ◌≤◌, length, drop}
 use Rattle.lists.specs.Numbers.{look}
-use Rattle.lists.specs.Sums.{cases, contradiction}
 use Rattle.model.specs.declared.Edition.{Edition}
-use Rattle.sheet.specs.Sheet.{Network, Read, refused, accepted, read_sheet, edition_of}
-use Rattle.sheet.specs.Causes.{Refusal}
-use Rattle.sheet.proofs.Answers.{refusals_have_sheet_numbers}
-use Rattle.sheet.specs.SheetTheorem.{a_sheet_is_refused_for_its_cause}
+use Rattle.sheet.specs.Sheet.{Network}
 use Rattle.theory_regions.specs.Regions.{Given, first_size, given}
 use Rattle.theory_regions.specs.JoinedTree.{Border}
 use Rattle.exchanges.specs.Shared.{region_of}
-use Rattle.exchanges.specs.SharedLaws.{the_network_is_named}
-use Rattle.sides.specs.Outcome.{first_number, first_line, size_of, first_shown, number, line_of, count_of, sum_of, Side, refusal, answered}
-use Rattle.sides.specs.Causes.{AcceptedSide, FirstCause, of_the_sheet, no_such_link, Cause, of_the_first_step, number_too_large, list_too_short}
-use Rattle.sides.specs.SideLaws.{meant?}
-use Rattle.sides.specs.SideLaws.{its_first_size_is_shown, a_size_for_each_link}
+use Rattle.sides.specs.Outcome.{first_number, first_line, size_of, first_shown, number, line_of, count_of, sum_of, Side, answered}
+use Rattle.sides.specs.Causes.{AcceptedSide, FirstCause, Cause}
 use Rattle.sides.specs.declared.First.{First}
-use Rattle.sides.specs.declared.First.TheVariants.{Shown}
 use Rattle.sides.specs.declared.First.TheVariants as first
-use Rattle.sides.specs.declared.Outcome.TheVariants.{Answered, Refused}
 
 -- ---- the first step
 

@@ -2,8 +2,7 @@
 use Rattle.std.specs.Prelude.{◌≡◌, ℕ, ◌-◌, ◌<◌, length, get_or}
 use Rattle.std.proofs.Math.Path.{refl, ap}
 use Rattle.std.proofs.Common.{sym, ◌∙◌}
-use Rattle.std.proofs.Math.Bool.{true}
-use mathlib.Core.List.{List, [], ◌∷◌, ◌++◌, map, flat_map, append-nil}
+use mathlib.Core.List.{List, [], ◌∷◌, map}
 use native.Mathlib.Omega.{arith}
 use Rattle.std.proofs.lemmas.List.{length-map}
 use Rattle.std.proofs.Math.ListN.{get_or-map}
@@ -16,14 +15,13 @@ use Rattle.sheet_kinds.specs.LineKinds.{same, field, value}
 use Rattle.sheet.specs.Sheet.{Network}
 use Rattle.sheet.specs.SheetTheorem.{IsNetwork}
 use Rattle.sheet_names.specs.Names.{name_at}
-use Rattle.report.specs.Report.{decimal, lines}
-use Rattle.report.specs.Span.{Span, trimmed_sizes, largest_total, span_of, span_record, range_record, range_line, span_text, span_report}
+use Rattle.report.specs.Report.{decimal}
+use Rattle.report.specs.Span.{trimmed_sizes, largest_total, span_of, span_text, span_report}
 use Rattle.demands.specs.Lists.{map-places}
 use Rattle.demands.specs.Names.{name_read_back, site-name-is-plain}
-use Rattle.demands.specs.Parsing.{Plain, line_read_back, lines_read_back, decimal_read_back, decimal-plain, headed_parts}
-use Rattle.demands.specs.Printed.{Record, records, lines_of, headed, site_named}
-use Rattle.demands.specs.Records.{singles}
-use Rattle.span_demands.specs.Printed.{PrintedSpan, read_span_records, read_span}
+use Rattle.demands.specs.Parsing.{decimal_read_back}
+use Rattle.demands.specs.Printed.{Record, records, headed, site_named}
+use Rattle.span_demands.specs.Printed.{read_span_records, read_span}
 use Rattle.span_demands.specs.ReadBack.{span_says, range_fields, first-line, link-lines, p, ls}
 
 module _ {ed : Edition} {s : List ℕ} {low : Network} (N : IsNetwork ed s low) (high : Network)

@@ -1,29 +1,22 @@
 -- The report of an accepted range sheet, read back: its bytes say just the span that it shows. Each field of each line is the field that was written.
-use Rattle.std.specs.Prelude.{◌≡◌, ℕ, ◌-◌, ◌<◌, length, get_or}
+use Rattle.std.specs.Prelude.{◌≡◌, ℕ, ◌-◌, length, get_or}
 use Rattle.std.proofs.Math.Path.{refl, ap}
 use Rattle.std.proofs.Common.{sym, ◌∙◌}
 use Rattle.std.proofs.Math.Bool.{true}
 use mathlib.Core.List.{List, [], ◌∷◌, ◌++◌, map, flat_map, append-nil}
 use native.Mathlib.Omega.{arith}
-use Rattle.std.proofs.lemmas.List.{length-map}
-use Rattle.std.proofs.Math.ListN.{get_or-map}
-use Rattle.lists.specs.Maps.{map-map}
 use Rattle.lists.specs.Numbers.{look, upfrom}
-use Rattle.model.specs.Flows.{one, two}
 use Rattle.model.specs.Text.{bytes}
 use Rattle.model.specs.declared.Edition.{Edition}
-use Rattle.sheet_kinds.specs.LineKinds.{same, field, value}
+use Rattle.sheet_kinds.specs.LineKinds.{same}
 use Rattle.sheet.specs.Sheet.{Network}
 use Rattle.sheet.specs.SheetTheorem.{IsNetwork}
-use Rattle.sheet_names.specs.Names.{name_at}
 use Rattle.report.specs.Report.{decimal, lines}
-use Rattle.report.specs.Span.{Span, trimmed_sizes, largest_total, span_of, span_record, range_record, range_line, span_text, span_report}
-use Rattle.demands.specs.Lists.{map-places}
-use Rattle.demands.specs.Names.{name_read_back, site-name-is-plain}
-use Rattle.demands.specs.Parsing.{Plain, line_read_back, lines_read_back, decimal_read_back, decimal-plain, headed_parts}
-use Rattle.demands.specs.Printed.{Record, records, lines_of, headed, site_named}
+use Rattle.report.specs.Span.{Span, trimmed_sizes, largest_total, span_of, span_record, range_record, range_line, span_text}
+use Rattle.demands.specs.Parsing.{Plain, line_read_back, lines_read_back, decimal-plain, headed_parts}
+use Rattle.demands.specs.Printed.{Record, records, lines_of, headed}
 use Rattle.demands.specs.Records.{singles}
-use Rattle.span_demands.specs.Printed.{PrintedSpan, read_span_records, read_span}
+use Rattle.span_demands.specs.Printed.{PrintedSpan}
 
 -- what a report says that shows the span of two networks
 unfoldable pub span_says : Network → Network → PrintedSpan

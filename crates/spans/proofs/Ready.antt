@@ -8,9 +8,8 @@ use Rattle.std.proofs.Math.ListN.{length, length-map, get_or-map}
 use Rattle.lists.specs.Numbers.{look}
 use Rattle.lists.specs.Sums.{contradiction}
 use Rattle.model.specs.Edition.{largest, ranges_low, ranges_high}
-use Rattle.model.specs.Flows.{one, two, ends, total, at_terminals}
+use Rattle.model.specs.Flows.{one, two, ends, at_terminals}
 use Rattle.model.specs.Limits.{LINKS, REPORT, SITES, SIZE}
-use Rattle.model.specs.Parts.{pair_list_of_parts}
 use Rattle.model.specs.Trimming.{balanced}
 use Rattle.model.specs.declared.Edition.{Edition}
 use Rattle.theory_trees.proofs.Greatest.{balanced_is_greatest, balanced_has_each_link}
@@ -35,7 +34,7 @@ use Rattle.report.specs.Span.{trimmed_sizes, largest_total, span_of, span_text, 
 use Rattle.report.specs.SpanShown.{span_by, Ranges}
 use Rattle.planner.specs.Figures.{halves, halves_can_be_shown}
 use Rattle.planner.specs.Outcome.{deliver}
-use Rattle.planner.specs.Shows.{starts, stops, names}
+use Rattle.planner.specs.Shows.{names}
 use Rattle.planner.specs.Small.{name-or-nothing, few_links, total-shown-within}
 use Rattle.planner.specs.Taken.{padded-length, padded-front, links-again}
 use Rattle.planner.specs.Works.{named_site}

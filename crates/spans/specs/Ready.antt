@@ -1,47 +1,20 @@
 -- What stands ready on the way to the report of a range sheet: the networks of an accepted sheet with its low and with its high sizes, as lists and taken
 -- apart; what is worked out of them is the span, and can be written.
-use Rattle.std.specs.Prelude.{◌≡◌, true, List, map, ◌++◌, leb, take}
-use Rattle.std.proofs.Math.Path.{refl, sym, ap}
-use Rattle.std.proofs.Common.{subst, ◌∙◌, le-leb}
-use Prim.Native.Nat.{ℕ, suc, ◌+◌, ◌*◌, ◌≤◌, ◌<◌}
-use native.Mathlib.Omega.{arith}
-use Rattle.std.proofs.Math.ListN.{length, length-map, get_or-map}
+use Rattle.std.specs.Prelude.{◌≡◌, List, map}
+use Prim.Native.Nat.{ℕ}
+use Rattle.std.proofs.Math.ListN.{length}
 use Rattle.lists.specs.Numbers.{look}
-use Rattle.lists.specs.Sums.{contradiction}
-use Rattle.model.specs.Edition.{largest, ranges_low, ranges_high}
-use Rattle.model.specs.Flows.{one, two, ends, total, at_terminals}
-use Rattle.model.specs.Limits.{LINKS, REPORT, SITES, SIZE}
+use Rattle.model.specs.Edition.{ranges_low, ranges_high}
+use Rattle.model.specs.Flows.{one, two, ends, total}
 use Rattle.model.specs.Parts.{pair_list_of_parts}
-use Rattle.model.specs.Trimming.{balanced}
-use Rattle.model.specs.declared.Edition.{Edition}
-use Rattle.theory_trees.proofs.Greatest.{balanced_is_greatest, balanced_has_each_link}
-use Rattle.theory_ranges.specs.Ranges.{the_largest_total_is_the_sum_at_the_terminals}
-use Rattle.theory_regions.specs.Regions.{own}
-use Rattle.tree.specs.Accepted.{MarkedTree}
 use Rattle.tree.specs.Offer.{links}
 use Rattle.trimming.specs.Outcome.{capacities}
-use Rattle.region_sizes.specs.Chart.{Charted}
-use Rattle.region_sizes.specs.Laws.{the_front_is_trimmed, without-a-far-site}
-use Rattle.region_sizes.specs.declared.Chart.{Chart}
-use Rattle.text_fields.specs.FieldLaws.{name-length}
-use Rattle.sheet.specs.Ranges.{Ranged, ReadAlike}
-use Rattle.sheet.proofs.Ranges.{a_range_sheet_is_read_alike}
-use Rattle.sheet.specs.Reading.{lists, reading}
-use Rattle.sheet.specs.Sheet.{Network, ends_of, Read, refused, accepted, read_as}
-use Rattle.sheet.specs.SheetTheorem.{IsNetwork, an_accepted_sheet_is_a_tree}
+use Rattle.sheet.specs.Ranges.{Ranged}
+use Rattle.sheet.specs.Reading.{lists}
+use Rattle.sheet.specs.Sheet.{Network, accepted, read_as}
 use Rattle.sheet.specs.declared.Answer.TheVariants as answered
 use Rattle.sheet.specs.declared.Lists.{Lists}
-use Rattle.report.specs.Length.{SmallSpan, a_small_span_has_a_small_report}
-use Rattle.report.specs.Span.{trimmed_sizes, largest_total, span_of, span_text, span_report}
-use Rattle.report.specs.SpanShown.{span_by, Ranges}
-use Rattle.planner.specs.Figures.{halves, halves_can_be_shown}
-use Rattle.planner.specs.Outcome.{deliver}
 use Rattle.planner.specs.Shows.{starts, stops, names}
-use Rattle.planner.specs.Small.{name-or-nothing, few_links, total-shown-within}
-use Rattle.planner.specs.Taken.{padded-length, padded-front, links-again}
-use Rattle.planner.specs.Works.{named_site}
-use Rattle.planner.specs.declared.Outcome.TheVariants.{Refused}
-use Rattle.spans.specs.Outcome.{network_of, span_read, spanned}
 
 -- ---- what is read
 

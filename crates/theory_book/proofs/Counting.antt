@@ -1,19 +1,19 @@
 -- The same lists by counting: lists of sizes are the numbers in base b, and choices of k links the numbers in base 2 that choose k, in the same order.
 use Rattle.std.specs.Prelude.{◌≡◌, ◌≢◌}
 use Rattle.std.proofs.Math.Path.{refl, sym, ap}
-use Rattle.std.proofs.Common.{◌∙◌, inl, inr, mod-eq_of_lt}
+use Rattle.std.proofs.Common.{◌∙◌, inl, inr}
 use mathlib.Core.List.{List, [], ◌∷◌, ◌++◌, map, flat_map, append-nil}
-use Prim.Native.Nat.{ℕ, zero, suc, ◌+◌, ◌*◌, ◌/◌, ◌%◌, ◌^◌, ◌≤◌, ◌<◌}
+use Prim.Native.Nat.{ℕ, zero, suc, ◌+◌, ◌*◌, ◌/◌, ◌%◌, ◌^◌, ◌<◌}
 use native.Mathlib.Omega.{arith}
-use Rattle.std.proofs.Math.Nat.{pow-zero, pow-succ', add-mul-div_right, add-mul-mod_self_right, div-eq_of_lt, pow-le-pow_right}
+use Rattle.std.proofs.Math.Nat.{pow-succ', add-mul-div_right, add-mul-mod_self_right, div-eq_of_lt}
 use Rattle.std.proofs.Math.ListN.{length}
-use Rattle.lists.specs.Numbers.{pick, upfrom}
+use Rattle.lists.specs.Numbers.{upfrom}
 use Rattle.lists.specs.Sums.{same?, pick_same, pick_other}
-use Rattle.theory_book.specs.Listing.{In, combos, words}
+use Rattle.theory_book.specs.Listing.{In, combos}
 use Rattle.theory_book.specs.ListLaws.{from_in}
 use Rattle.theory_book.proofs.ListLaws.{either}
-use Rattle.theory_book.specs.FlatLaws.{flat_append, flat-same, flat-none, flat-map, map-flat, map_of_flat, flat_shift, from-append, rows}
-use Rattle.theory_book.specs.Numbered.{word, chosen}
+use Rattle.theory_book.specs.FlatLaws.{flat_append, flat-same, flat-none, map_of_flat, flat_shift, from-append}
+use Rattle.theory_book.specs.Numbered.{chosen}
 use Rattle.theory_book.specs.Counting.{of_size, power}
 
 module _ {A : Type 0} where

@@ -1,18 +1,17 @@
 -- All pages together are the book, and a page is one entry for each number of a list of sizes: by counting choices of links and lists of sizes.
-use Rattle.std.specs.Prelude.{◌≡◌, refl, ◌≢◌}
+use Rattle.std.specs.Prelude.{◌≡◌, refl}
 use Rattle.std.proofs.Math.Path.{sym, ap}
-use Rattle.std.proofs.Common.{◌∙◌, arith}
-use mathlib.Core.List.{List, [], ◌∷◌, map, flat_map, append-nil}
-use Prim.Native.Nat.{ℕ, suc, ◌-◌, ◌^◌}
+use Rattle.std.proofs.Common.{◌∙◌}
+use mathlib.Core.List.{List, [], ◌∷◌, map, flat_map}
+use Prim.Native.Nat.{ℕ, ◌-◌, ◌^◌}
 use Rattle.std.proofs.Math.ListN.{length}
 use Rattle.lists.specs.Numbers.{pick, upfrom}
 use Rattle.lists.specs.Sums.{same?, pick_same, pick_other}
 use Rattle.model.specs.Flows.{Links, sites}
-use Rattle.theory_book.specs.Listing.{words}
-use Rattle.theory_book.specs.FlatLaws.{flat-flat, flat-map, flat-same}
+use Rattle.theory_book.specs.FlatLaws.{flat-flat, flat-same}
 use Rattle.theory_book.specs.Book.{Entry, possible, joins_all, trees_of, size_lists, part_of, book}
-use Rattle.theory_book.specs.Numbered.{word, chosen, choices_of, if_tree, page_of}
-use Rattle.theory_book.specs.Counting.{of_size, words_count}
+use Rattle.theory_book.specs.Numbered.{chosen, choices_of, if_tree, page_of}
+use Rattle.theory_book.specs.Counting.{of_size}
 use Rattle.theory_book.proofs.Counting.{combos-count}
 use Rattle.theory_book.specs.Pages.{lone}
 

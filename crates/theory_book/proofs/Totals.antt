@@ -1,11 +1,9 @@
 -- The total of an entry is the largest of its tree, and that of the plan of which the report is made: through trimming and the pair list, by the
-use Rattle.std.specs.Prelude.{◌≡◌, List, ℕ, ◌*◌, ◌≤◌}
+use Rattle.std.specs.Prelude.{ℕ, ◌≤◌}
 use Rattle.std.proofs.Common.{arith}
 use Rattle.lists.specs.Numbers.{look}
-use Rattle.model.specs.Flows.{Tree, Multiflow, Fits, total}
+use Rattle.model.specs.Flows.{Tree}
 use Rattle.model.specs.Trimming.{Greatest}
-use Rattle.model.specs.Parts.{pair_list_of_parts}
-use Rattle.model.specs.declared.Pair.{Pair}
 use Rattle.theory_trees.proofs.Greatest.{balanced_is_greatest}
 use Rattle.theory_walk.specs.Sound.{Sound}
 use Rattle.theory_walk.proofs.PartsTheorem.{pair_list_of_parts_is_sound, pair_list_of_parts_has_the_greatest_total}

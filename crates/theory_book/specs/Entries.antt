@@ -1,15 +1,11 @@
 -- The book holds every tree that is to stand in it with every list of sizes, nothing else, each once, in the card's order; and no other list does so.
 -- By the lists it is made of: what stands in each is known, and each ascends, so that they ascend together.
-use Rattle.std.specs.Prelude.{◌≡◌, ◌≢◌, ◌↔◌, ◌⊎◌, List, map, length, get_or}
-use Rattle.std.proofs.Math.Path.{refl, ap}
-use Rattle.std.proofs.Common.{◌∙◌, arith}
-use Rattle.std.proofs.Math.Logic.{inl, inr}
-use Prim.Native.Nat.{ℕ, suc, ◌-◌, ◌≤◌, ◌<◌}
+use Rattle.std.specs.Prelude.{◌≡◌, ◌⊎◌, List, map}
+use Prim.Native.Nat.{ℕ, suc, ◌-◌, ◌<◌}
 use Rattle.lists.specs.Numbers.{upfrom}
 use Rattle.model.specs.Flows.{Links}
-use Rattle.theory_book.specs.Listing.{In, Ascends, Before, words}
-use Rattle.theory_book.specs.ListLaws.{from_in}
-use Rattle.theory_book.specs.Book.{Entry, Lower, Listed, Earlier, trees_of, size_lists, part_of, book}
+use Rattle.theory_book.specs.Listing.{Before, words}
+use Rattle.theory_book.specs.Book.{Entry, Lower}
 
 -- ---- the order of entries
 

@@ -1,15 +1,10 @@
 -- Laws of lists in strict order: what stands in lists that are made of lists, and in which order.
-use Rattle.std.specs.Prelude.{◌≡◌, ◌⊎◌, length, get_or}
-use Rattle.std.proofs.Math.Path.{refl, sym}
-use Rattle.std.proofs.Common.{ap, ◌∙◌, arith, length-append}
+use Rattle.std.proofs.Common.{arith}
 use Rattle.std.proofs.Math.Logic.{inl, inr}
-use mathlib.Core.List.{List, [], ◌∷◌, ◌++◌, map, flat_map}
-use Prim.Native.Nat.{ℕ, zero, suc, ◌+◌, ◌*◌, ◌^◌, ◌≤◌, ◌<◌}
-use Rattle.std.proofs.Math.Decide.{ℕ_discrete}
-use Rattle.std.proofs.Math.Nat.{pow-zero, pow-succ'}
-use Rattle.std.proofs.lemmas.List.{length-map}
+use mathlib.Core.List.{[]}
+use Prim.Native.Nat.{ℕ, zero, suc, ◌+◌, ◌≤◌, ◌<◌}
 use Rattle.lists.specs.Numbers.{upfrom}
-use Rattle.theory_book.specs.Listing.{In, Ascends, Before, combos, words}
+use Rattle.theory_book.specs.Listing.{In}
 
 -- ---- what stands in them
 

@@ -1,17 +1,11 @@
 -- The total of an entry is the largest of its tree, and that of the plan of which the report is made: through trimming and the pair list, by the
 -- theorems that demand 2 rests on.
 use Rattle.std.specs.Prelude.{◌≡◌, List, ℕ, ◌*◌, ◌≤◌}
-use Rattle.std.proofs.Common.{arith}
 use Rattle.lists.specs.Numbers.{look}
-use Rattle.model.specs.Flows.{Tree, Multiflow, Fits, total}
-use Rattle.model.specs.Trimming.{Greatest}
+use Rattle.model.specs.Flows.{Multiflow, Fits, total}
 use Rattle.model.specs.Parts.{pair_list_of_parts}
 use Rattle.model.specs.declared.Pair.{Pair}
-use Rattle.theory_trees.proofs.Greatest.{balanced_is_greatest}
-use Rattle.theory_walk.specs.Sound.{Sound}
-use Rattle.theory_walk.proofs.PartsTheorem.{pair_list_of_parts_is_sound, pair_list_of_parts_has_the_greatest_total}
-use Rattle.theory_book.specs.Listing.{In}
-use Rattle.theory_book.specs.Book.{Entry, book, ends_in, trimmed_in, halves}
+use Rattle.theory_book.specs.Book.{Entry, ends_in, trimmed_in, halves}
 
 -- the pairs of an entry's plan (01: pairing)
 abbrev pub pairs_in : Entry → List Pair

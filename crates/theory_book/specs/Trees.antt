@@ -1,13 +1,8 @@
 -- The choices of links that are listed are the trees as the card writes them, each in its place. By the order of the possible links.
-use Rattle.std.specs.Prelude.{◌≡◌, refl, ℕ, suc, ◌-◌, ◌≤◌, ◌<◌, length, get_or}
-use Rattle.std.proofs.Common.{sym, inl, inr, arith}
-use mathlib.Core.List.{List, [], ◌∷◌, map}
-use Rattle.lists.specs.Numbers.{pick, upfrom}
-use Rattle.lists.specs.Sums.{same?, pick_same, pick_other, pick_cases, is_same, is_one, is_le, product_one}
-use Rattle.model.specs.Flows.{Links, Tree, sites, label, joined}
-use Rattle.theory_book.specs.Listing.{In, Ascends, Before, combos}
-use Rattle.theory_book.specs.ListLaws.{from_in}
-use Rattle.theory_book.specs.Book.{Lower, Drawn, possible, joins_all, trees_of}
+use Rattle.std.specs.Prelude.{ℕ, ◌≤◌, ◌<◌}
+use mathlib.Core.List.{[]}
+use Rattle.model.specs.Flows.{Links}
+use Rattle.theory_book.specs.Listing.{In}
 
 -- ---- the order of links
 

@@ -1,22 +1,15 @@
 -- A tree of two sites: one link, and both sites are ends (01, "Pairing": with two sites only). The link carries all of its capacity, each site is in the
-use Rattle.std.specs.Prelude.{◌≡◌, ◌≢◌, ◌⊎◌, length}
-use Rattle.std.proofs.Math.Path.{refl, fun_ext}
-use Rattle.std.proofs.Common.{sym, ap, ◌∙◌, zero-mul}
+use Rattle.std.specs.Prelude.{◌≡◌, ◌≢◌, length}
+use Rattle.std.proofs.Math.Path.{refl}
+use Rattle.std.proofs.Common.{sym, ap, ◌∙◌}
 use Rattle.std.proofs.Math.Logic.{inl, inr}
-use mathlib.Core.List.{List, [], ◌∷◌, ◌++◌, flat_map, append-nil}
-use Prim.Native.Nat.{ℕ, zero, suc, ◌+◌, ◌*◌, ◌≤◌}
-use Rattle.std.proofs.Math.Decide.{ℕ_discrete, dec_lt}
+use mathlib.Core.List.{[], ◌∷◌}
+use Prim.Native.Nat.{ℕ, ◌≤◌}
 use native.Mathlib.Omega.{arith}
-use Rattle.lists.specs.Numbers.{pick, is, differ, less, sum, over, upfrom, look}
-use Rattle.lists.specs.Sums.{contradiction, pick_same, pick_other, pick_const, same?, is_same, is_one, differ_same, less_none}
-use Rattle.model.specs.Flows.{Links, Tree, sites, mark, end_at, ends, at, sum_at, leaf, relabel, label, without, side, separates, load, total, at_terminals}
-use Rattle.model.specs.Trimming.{Balanced, balanced}
-use Rattle.model.specs.Cuts.{kept, group, in_cut, cut_size, cut_count, owner_among, owner}
-use Rattle.model.specs.Pairing.{put, give, lower_first, insert, ordered}
-use Rattle.model.specs.Parts.{region, lowest, single, root, pairs_of_part, pair_of_link, pairs_of_parts, pair_list_of_parts}
-use Rattle.model.specs.Whole.{WholePlan, LargestWhole, set_size, set_count, in_piece, odd_pieces}
-use Rattle.model.specs.declared.Pair.{Pair}
-use Rattle.theory_trees.proofs.Greatest.{balanced_is_its_own_greatest, greatest_is_balanced}
+use Rattle.lists.specs.Numbers.{pick}
+use Rattle.lists.specs.Sums.{contradiction, pick_same, pick_other, same?}
+use Rattle.model.specs.Flows.{Links, Tree, ends, relabel, label}
+use Rattle.model.specs.Pairing.{put, give}
 use Rattle.theory_link.specs.TwoSites.{Shape, link_pairs, one-pair}
 
 -- none for capacity 0, else one

@@ -5,12 +5,12 @@ use Rattle.std.proofs.Math.Path.{refl, fun_ext}
 use Rattle.std.proofs.Common.{sym, ap, ◌∙◌, zero-mul}
 use Rattle.std.proofs.Math.Logic.{inl, inr}
 use mathlib.Core.List.{List, [], ◌∷◌, ◌++◌, flat_map, append-nil}
-use Prim.Native.Nat.{ℕ, zero, suc, ◌+◌, ◌*◌, ◌≤◌}
+use Prim.Native.Nat.{ℕ, zero, suc, ◌+◌, ◌*◌}
 use Rattle.std.proofs.Math.Decide.{ℕ_discrete, dec_lt}
 use native.Mathlib.Omega.{arith}
 use Rattle.lists.specs.Numbers.{pick, is, differ, less, sum, over, upfrom, look}
-use Rattle.lists.specs.Sums.{contradiction, pick_same, pick_other, pick_const, same?, is_same, is_one, differ_same, less_none}
-use Rattle.model.specs.Flows.{Links, Tree, sites, mark, end_at, ends, at, sum_at, leaf, relabel, label, without, side, separates, load, total, at_terminals}
+use Rattle.lists.specs.Sums.{contradiction, pick_other, pick_const, same?, is_same, is_one, differ_same, less_none}
+use Rattle.model.specs.Flows.{Links, Tree, sites, mark, end_at, ends, at, sum_at, leaf, label, without, side, separates, load, total, at_terminals}
 use Rattle.model.specs.Trimming.{Balanced, balanced}
 use Rattle.model.specs.Cuts.{kept, group, in_cut, cut_size, cut_count, owner_among, owner}
 use Rattle.model.specs.Pairing.{put, give, lower_first, insert, ordered}

@@ -1,15 +1,13 @@
 -- When a request gets which answer: each number exactly where its cause applies, in the order of document 02, Card 6.
-use Rattle.std.specs.Prelude.{◌≡◌, ◌≢◌, ◌↔◌, List, ℕ, ◌+◌, ◌*◌, ◌≤◌, ◌<◌}
-use Rattle.std.proofs.Common.{◌∙◌, arith}
+use Rattle.std.specs.Prelude.{◌≡◌, ◌↔◌, List, ℕ}
+use Rattle.std.proofs.Common.{arith}
 use Rattle.std.proofs.Math.Decide.{dec_lt}
 use Rattle.std.proofs.Math.ListN.{length}
-use Rattle.lists.specs.Numbers.{less}
-use Rattle.lists.specs.Sums.{pick_same, pick_other, same?, cases, less_one, less_none, sum_ge, sum-some}
+use Rattle.lists.specs.Sums.{same?, cases}
 use Rattle.model.specs.Limits.{OPEN}
-use Rattle.model.specs.Flows.{Links, separates, load}
-use Rattle.model.specs.Booking.{open_of, overfilled, answer_open, answer_give_up}
+use Rattle.model.specs.Flows.{Links}
+use Rattle.model.specs.Booking.{open_of, overfilled, answer_open}
 use Rattle.model.specs.declared.Pair.{Pair}
-use Rattle.theory_trees.specs.Trees.{separates-le}
 use Rattle.theory_log.specs.Answers.{Overfilled, overfilled-some, overfilled_by, says_15, says_16, opens_new, opens_more, NoPlace, crowds, overfills, Opening, fits}
 
 module _ (ls : Links) (c : ℕ → ℕ) (es : List Pair) (p : Pair) where

@@ -1,13 +1,11 @@
 -- A small log of document 02, Card 6, computed: its answers, and what is open after it.
-use Rattle.std.specs.Prelude.{◌≡◌, refl, List, [], ◌∷◌, ℕ}
+use Rattle.std.specs.Prelude.{◌≡◌, refl, [], ◌∷◌}
 use Rattle.std.proofs.Math.Decide.{ℕ_discrete, dec_lt}
-use Rattle.lists.specs.Numbers.{pick, is, differ, less, sum, look}
-use Rattle.model.specs.Flows.{Links, relabel, label, without, side, separates, load}
+use Rattle.lists.specs.Numbers.{pick, is, differ, less, sum}
+use Rattle.model.specs.Flows.{relabel, label, without, side, separates, load}
 use Rattle.model.specs.Pairing.{lower_first}
 use Rattle.model.specs.Booking.{pair, same, open_of, grow, last_of, front_of, moved, shrink, overfilled, answer_open, answer_give_up}
 use Rattle.model.specs.Booking.{answer, changed, next, after, answers}
-use Rattle.model.specs.declared.Request.{Request}
-use Rattle.model.specs.declared.Request.TheVariants.{Open, GiveUp, Fault}
 use Rattle.theory_log.specs.Examples.{capacities, log, star}
 
 the_answers : answers star capacities [] log ≡ 0 ∷ 15 ∷ 0 ∷ 14 ∷ 12 ∷ 14 ∷ 0 ∷ 0 ∷ []

@@ -1,21 +1,16 @@
 -- A booking log, line by line (02, Card 6): after every line each link's load is what the lines answered 0 opened over it less what they gave up, and never
-use Rattle.std.specs.Prelude.{◌≡◌, ◌≢◌, length, take, get_or}
-use Rattle.std.proofs.Math.Path.{refl, ap}
-use Rattle.std.proofs.Common.{◌∙◌}
-use mathlib.Core.List.{List, [], ◌∷◌, ◌++◌}
-use Prim.Native.Nat.{ℕ, zero, suc, ◌+◌, ◌*◌, ◌≤◌, ◌<◌}
+use Rattle.std.specs.Prelude.{◌≡◌, length, take}
+use Rattle.std.proofs.Math.Path.{refl}
+use mathlib.Core.List.{List, [], ◌∷◌}
+use Prim.Native.Nat.{ℕ, ◌+◌, ◌*◌, ◌≤◌, ◌<◌}
 use native.Mathlib.Omega.{arith}
-use Rattle.lists.specs.Numbers.{pick, look, Each}
+use Rattle.lists.specs.Numbers.{Each}
 use Rattle.model.specs.Limits.{OPEN}
 use Rattle.model.specs.Flows.{Links, load}
-use Rattle.model.specs.Booking.{open_of, places_of, answer, next, after, answers, opened, given_up, Asked, Kept, Entry}
+use Rattle.model.specs.Booking.{open_of, places_of, next, after, opened, given_up, Asked, Kept, Entry}
 use Rattle.model.specs.declared.Pair.{Pair}
 use Rattle.model.specs.declared.Request.{Request}
-use Rattle.model.specs.declared.Request.TheVariants.{Fault}
-use Rattle.theory_log.specs.Pairs.{Sites}
-use Rattle.theory_log.specs.Requests.{opens_for, gives_for, OpensOnly, a_refused_request_moves_nothing}
 use Rattle.theory_log.proofs.Requests.{a_request_keeps_what_is_kept}
-use Rattle.theory_log.specs.Requests.{a_request_opens_only_what_it_asks}
 use Rattle.theory_log.specs.Requests.{the_load_moves_by_what_is_asked, what_a_pair_has_open_moves_by_what_is_asked_for_it}
 use Rattle.theory_log.specs.Logs.{opened_for, given_up_for, each_take, kept-empty}
 

@@ -1,14 +1,13 @@
 -- Laws of the list of open pairs: loads, places of a pair, entries and lengths as a pair grows and shrinks. By induction along the list.
-use Rattle.std.specs.Prelude.{◌≡◌, ◌≢◌, length}
-use Rattle.std.proofs.Math.Path.{refl, ap}
+use Rattle.std.specs.Prelude.{◌≡◌}
+use Rattle.std.proofs.Math.Path.{refl}
 use mathlib.Core.List.{List, [], ◌∷◌}
-use Prim.Native.Nat.{ℕ, suc, ◌+◌, ◌-◌, ◌*◌, ◌≤◌, ◌<◌}
+use Prim.Native.Nat.{ℕ, ◌-◌}
 use native.Mathlib.Omega.{arith}
-use Rattle.lists.specs.Numbers.{is, Each}
-use Rattle.model.specs.Flows.{Links, separates, load}
+use Rattle.lists.specs.Numbers.{Each}
 use Rattle.model.specs.declared.Pair.{Pair}
-use Rattle.lists.specs.Sums.{pick_same, pick_other, same?, is_same, is-other, is_one, is_le, product_one}
-use Rattle.model.specs.Booking.{pair, same, open_of, places_of, grow, last_of, front_of, moved, shrink, Entry}
+use Rattle.lists.specs.Sums.{same?, is_same}
+use Rattle.model.specs.Booking.{same, open_of, places_of, Entry}
 use Rattle.theory_log.specs.Pairs.{same-other}
 
 pub same-is : (a b : ℕ) (e : Pair) → e.first ≡ a → e.second ≡ b → same a b e ≡ 1

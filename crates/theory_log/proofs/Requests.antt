@@ -1,27 +1,24 @@
 -- What one request moves, and what it keeps: a refused one moves nothing; an opened amount is added on its path, one that is given up is taken from it.
-use Rattle.std.specs.Prelude.{◌≡◌, ◌≢◌, length, get_or}
+use Rattle.std.specs.Prelude.{◌≡◌, length}
 use Rattle.std.proofs.Math.Path.{refl, sym}
 use Rattle.std.proofs.Common.{◌∙◌}
-use mathlib.Core.List.{List, [], ◌∷◌}
-use Prim.Native.Nat.{ℕ, zero, suc, ◌+◌, ◌*◌, ◌≤◌, ◌<◌}
+use mathlib.Core.List.{List, []}
+use Prim.Native.Nat.{ℕ, ◌+◌, ◌*◌, ◌≤◌, ◌<◌}
 use native.Mathlib.Omega.{arith}
 use Rattle.std.proofs.Math.Decide.{dec_lt}
-use Rattle.lists.specs.Numbers.{pick, less, Each}
-use Rattle.lists.specs.Sums.{pick_same, pick_other, pick_const, pick_cases, same?, cases, is_same, is-other, less_one, less-lt}
+use Rattle.lists.specs.Numbers.{less}
+use Rattle.lists.specs.Sums.{pick_same, pick_other, pick_const, same?, cases, is_same, is-other, less_one, less-lt}
 use Rattle.model.specs.Limits.{OPEN}
-use Rattle.model.specs.Flows.{Links, Tree, separates, load}
+use Rattle.model.specs.Flows.{Links, separates, load}
 use Rattle.model.specs.Pairing.{lower_first}
-use Rattle.model.specs.Booking.{pair, same, open_of, places_of, grow, shrink, answer_open, answer_give_up, answer, changed, next, opens, gives}
-use Rattle.model.specs.Booking.{Proper, Asked, Entry, Kept}
+use Rattle.model.specs.Booking.{pair, open_of, places_of, grow, shrink, answer_open, answer_give_up, answer, changed, next}
+use Rattle.model.specs.Booking.{Asked, Entry, Kept}
 use Rattle.model.specs.declared.Pair.{Pair}
 use Rattle.model.specs.declared.Request.{Request}
 use Rattle.model.specs.declared.Request.TheVariants.{Open, GiveUp, Fault}
-use Rattle.theory_trees.specs.Trees.{local_one, separates_comm, separates-le}
+use Rattle.theory_trees.specs.Trees.{separates-le}
 use Rattle.theory_log.specs.Pairs.{open_none, grow-load, grow-length, grow-entries, grow_once, shrink-load, shrink-places, shrink-length, shrink-entries}
-use Rattle.theory_log.specs.Pairs.{grow_open, shrink_open, nothing_left, Sites, grow-sites, shrink-sites}
-use Rattle.theory_log.specs.Answers.{gives_up}
 use Rattle.theory_log.proofs.Answers.{an_opening_is_answered_0_exactly_where_no_cause_applies}
-use Rattle.theory_log.specs.Answers.{a_giving_up_is_answered_0_exactly_where_that_much_is_open}
 use Rattle.theory_log.specs.Requests.{lower_entry, give-enough}
 
 module _ (ls : Links) (n : ℕ) (c : ℕ → ℕ) where

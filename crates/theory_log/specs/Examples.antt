@@ -1,11 +1,8 @@
 -- A small log of document 02, Card 6, computed: its answers, and what is open after it.
-use Rattle.std.specs.Prelude.{◌≡◌, refl, List, [], ◌∷◌, ℕ}
-use Rattle.std.proofs.Math.Decide.{ℕ_discrete, dec_lt}
-use Rattle.lists.specs.Numbers.{pick, is, differ, less, sum, look}
-use Rattle.model.specs.Flows.{Links, relabel, label, without, side, separates, load}
-use Rattle.model.specs.Pairing.{lower_first}
-use Rattle.model.specs.Booking.{pair, same, open_of, grow, last_of, front_of, moved, shrink, overfilled, answer_open, answer_give_up}
-use Rattle.model.specs.Booking.{answer, changed, next, after, answers}
+use Rattle.std.specs.Prelude.{List, [], ◌∷◌, ℕ}
+use Rattle.lists.specs.Numbers.{look}
+use Rattle.model.specs.Flows.{Links}
+use Rattle.model.specs.Booking.{pair}
 use Rattle.model.specs.declared.Request.{Request}
 use Rattle.model.specs.declared.Request.TheVariants.{Open, GiveUp, Fault}
 

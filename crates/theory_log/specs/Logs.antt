@@ -4,19 +4,17 @@ use Rattle.std.specs.Prelude.{◌≡◌, ◌≢◌, length, take, get_or}
 use Rattle.std.proofs.Math.Path.{refl, ap}
 use Rattle.std.proofs.Common.{◌∙◌}
 use mathlib.Core.List.{List, [], ◌∷◌, ◌++◌}
-use Prim.Native.Nat.{ℕ, zero, suc, ◌+◌, ◌*◌, ◌≤◌, ◌<◌}
+use Prim.Native.Nat.{ℕ, zero, suc, ◌+◌, ◌<◌}
 use native.Mathlib.Omega.{arith}
 use Rattle.lists.specs.Numbers.{pick, look, Each}
-use Rattle.model.specs.Limits.{OPEN}
 use Rattle.model.specs.Flows.{Links, load}
-use Rattle.model.specs.Booking.{open_of, places_of, answer, next, after, answers, opened, given_up, Asked, Kept, Entry}
+use Rattle.model.specs.Booking.{places_of, answer, next, after, answers, Kept}
 use Rattle.model.specs.declared.Pair.{Pair}
 use Rattle.model.specs.declared.Request.{Request}
 use Rattle.model.specs.declared.Request.TheVariants.{Fault}
 use Rattle.theory_log.specs.Pairs.{Sites}
 use Rattle.theory_log.specs.Requests.{opens_for, gives_for, OpensOnly, a_refused_request_moves_nothing}
 use Rattle.theory_log.specs.Requests.{a_request_opens_only_what_it_asks}
-use Rattle.theory_log.specs.Requests.{the_load_moves_by_what_is_asked, what_a_pair_has_open_moves_by_what_is_asked_for_it}
 
 -- the line at place i
 abbrev pub line : List Request → ℕ → Request

@@ -8,17 +8,16 @@ use Prim.Native.Nat.{ℕ, zero, suc, ◌+◌, ◌*◌, ◌≤◌, ◌<◌}
 use native.Mathlib.Omega.{arith}
 use Rattle.std.proofs.Math.Decide.{dec_lt}
 use Rattle.lists.specs.Numbers.{pick, less, Each}
-use Rattle.lists.specs.Sums.{pick_same, pick_other, pick_const, pick_cases, same?, cases, is_same, is-other, less_one, less-lt}
-use Rattle.model.specs.Limits.{OPEN}
+use Rattle.lists.specs.Sums.{pick_same, pick_other, pick_const, pick_cases, same?, cases, less_one, less-lt}
 use Rattle.model.specs.Flows.{Links, Tree, separates, load}
 use Rattle.model.specs.Pairing.{lower_first}
-use Rattle.model.specs.Booking.{pair, same, open_of, places_of, grow, shrink, answer_open, answer_give_up, answer, changed, next, opens, gives}
+use Rattle.model.specs.Booking.{same, open_of, answer_open, answer_give_up, answer, changed, next, opens, gives}
 use Rattle.model.specs.Booking.{Proper, Asked, Entry, Kept}
 use Rattle.model.specs.declared.Pair.{Pair}
 use Rattle.model.specs.declared.Request.{Request}
 use Rattle.model.specs.declared.Request.TheVariants.{Open, GiveUp, Fault}
-use Rattle.theory_trees.specs.Trees.{local_one, separates_comm, separates-le}
-use Rattle.theory_log.specs.Pairs.{open_none, grow-load, grow-length, grow-entries, grow_once, shrink-load, shrink-places, shrink-length, shrink-entries}
+use Rattle.theory_trees.specs.Trees.{local_one, separates_comm}
+use Rattle.theory_log.specs.Pairs.{grow-load, shrink-load}
 use Rattle.theory_log.specs.Pairs.{grow_open, shrink_open, nothing_left, Sites, grow-sites, shrink-sites}
 use Rattle.theory_log.specs.Answers.{gives_up}
 use Rattle.theory_log.specs.Answers.{a_giving_up_is_answered_0_exactly_where_that_much_is_open}

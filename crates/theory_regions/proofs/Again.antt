@@ -7,7 +7,7 @@ use Rattle.lists.specs.Sums.{same?}
 use Rattle.model.specs.Flows.{Below}
 use Rattle.model.specs.Trimming.{Balanced, Greatest}
 use Rattle.theory_trees.proofs.Greatest.{balanced_is_greatest, balanced_has_each_link}
-use Rattle.theory_regions.specs.Regions.{Region, ends_in, trimmed, first_size, trimmed_again}
+use Rattle.theory_regions.specs.Regions.{Region, ends_in, first_size, trimmed_again}
 use Rattle.theory_regions.specs.JoinedTree.{Border, Bordered}
 use Rattle.theory_regions.specs.Lowered.{lowered}
 use Rattle.theory_regions.specs.Again.{trimmed_is_greatest}

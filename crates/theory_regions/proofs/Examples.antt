@@ -1,12 +1,12 @@
 -- Two small regions, computed (document 02, Card 10): what each shows, what each is given, and their joined tree.
 use Rattle.std.specs.Prelude.{◌≡◌, refl, List, [], ◌∷◌, map, ℕ}
 use Rattle.std.proofs.Math.Decide.{ℕ_discrete, dec_le, dec_lt}
-use Rattle.lists.specs.Numbers.{pick, is, differ, less, sum, over, count, upfrom, look}
+use Rattle.lists.specs.Numbers.{pick, is, differ, less, sum, over, count, upfrom}
 use Rattle.model.specs.Flows.{at, sum_at, leaf, end_at, ends, at_terminals}
 use Rattle.model.specs.Trimming.{cut_at, cut_site, cut_sites, unvisited, first, remove, taken, elimination, balanced_along, balanced}
-use Rattle.theory_regions.specs.Regions.{Region, trimmed, resized, first_size, trimmed_again, lone, far_site, own, own_sum, Given, given}
-use Rattle.theory_regions.specs.JoinedTree.{Border, down, up, left_out, rank, ranked, place, glued, joined_tree}
-use Rattle.theory_regions.specs.Sharing.{first_from, Sharing, apart, sharing, commons, shared_first, shared_second, may_be_far, chosen, shared_at, sharing_of}
+use Rattle.theory_regions.specs.Regions.{trimmed, resized, first_size, trimmed_again, lone, far_site, own, own_sum, given}
+use Rattle.theory_regions.specs.JoinedTree.{down, up, left_out, rank, ranked, place, glued, joined_tree}
+use Rattle.theory_regions.specs.Sharing.{apart, sharing}
 use Rattle.theory_regions.specs.Examples.{answers, decided, decided_for, far_marked, fork, fork_border, hub, hub_border, marked, plain}
 
 -- the hub's site 4 is the fork's site 2, and the fork's sites 1 and 4 become 5 and 6

@@ -12,7 +12,7 @@ use Rattle.lists.specs.Sums.{pick_same, pick_other, same?, cases}
 use Rattle.lists.specs.Places.{look-from}
 use Rattle.model.specs.Flows.{Site, one, two, mark, sites}
 use Rattle.theory_regions.specs.Regions.{Region}
-use Rattle.theory_regions.specs.JoinedTree.{Between, Border, Bordered, Lies, Joins, down, up, left_out, rank, ranked, place, position}
+use Rattle.theory_regions.specs.JoinedTree.{Between, Border, Bordered, Lies, Joins, down, up, left_out, rank, ranked, place}
 use Rattle.theory_regions.specs.JoinedTree.{glued, moved, joined_tree}
 use Rattle.theory_regions.specs.Meeting.{near-site, far-site, near-is-not-far}
 use Rattle.theory_regions.specs.Numbers.{up-down, down-up, up-is-other, down-below, up-below, two_down, two_up}

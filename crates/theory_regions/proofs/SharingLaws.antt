@@ -3,23 +3,22 @@ use Rattle.std.specs.Prelude.{◌≡◌, ◌≢◌, ◌↔◌, ◌⊎◌}
 use Rattle.std.proofs.Math.Path.{refl, sym}
 use Rattle.std.proofs.Common.{ap, ◌∙◌}
 use Rattle.std.proofs.Math.Logic.{inl, inr, ⊎_swap, ite, if_pos, if_neg}
-use Prim.Native.Nat.{ℕ, zero, suc, ◌+◌, ◌-◌, ◌*◌, ◌≤◌, ◌<◌}
+use Prim.Native.Nat.{ℕ, suc, ◌+◌, ◌-◌, ◌*◌, ◌≤◌, ◌<◌}
 use native.Mathlib.Omega.{arith}
 use Rattle.std.proofs.Math.Decide.{dec_lt}
 use Rattle.std.proofs.Math.ListN.{length}
 use Rattle.lists.specs.Numbers.{pick, is, differ, sum, look}
 use Rattle.lists.specs.Sums.{contradiction, same?, cases, pick_same, pick_other, pick_cases, is_same, is-other, differ_same, differ-other, differ-le}
 use Rattle.lists.specs.Sums.{product_one, sum-add, sum-eq, sum_eq_but, sum-two, sum-single}
-use Rattle.model.specs.Flows.{Links, Site, Tree, one, two, at, side}
-use Rattle.theory_trees.specs.Trees.{at-end, at-le, bridge, loopless, side-link}
+use Rattle.model.specs.Flows.{Site, one, two, at}
+use Rattle.theory_trees.specs.Trees.{at-le}
 use Rattle.theory_walk.specs.Regions.{differ-one}
 use Rattle.theory_regions.specs.Regions.{Region, lone}
-use Rattle.theory_regions.specs.JoinedTree.{Between, Border}
+use Rattle.theory_regions.specs.JoinedTree.{Border}
 use Rattle.theory_regions.specs.Sharing.{Named, SharesOneLink, Partners, first_from, Sharing, apart, sharing, commons, shared_first, shared_second}
 use Rattle.theory_regions.specs.Sharing.{met, may_be_far, chosen, shared_at, sharing_of}
-use Rattle.theory_regions.specs.Meeting.{at_both, link-sites}
+use Rattle.theory_regions.specs.Meeting.{link-sites}
 use Rattle.theory_regions.proofs.FarSites.{lone_iff, lone-le}
-use Rattle.theory_regions.specs.TwoRegions.{Neighbours}
 use Rattle.theory_regions.specs.SharingLaws.{joins-both, one_is_found, tells_none, Tells, tells-some, partnered, partner-is, Partnered, sites-here, sites-there, near-partner, far-partner, near-or-far, the_first_is_found, the-second-is-found-for-it}
 
 -- of a sum that is 2, two terms that are not 0 leave nothing for a third

@@ -5,15 +5,13 @@ use Rattle.std.proofs.Common.{◌∙◌}
 use Rattle.std.proofs.Math.Logic.{inl, inr}
 use native.Mathlib.Omega.{arith}
 use Rattle.lists.specs.Numbers.{is, sum, look}
-use Rattle.lists.specs.Sums.{pick_same, pick_other, is_same, is-other, same?, sum_one, sum-add, sum-eq, sum_eq_but, sum-single}
-use Rattle.model.specs.Flows.{Links, Site, one, two, label, Tree, at_terminals}
-use Rattle.theory_trees.specs.Labels.{linked}
-use Rattle.theory_trees.specs.Trees.{at_first, at_second, all_agree}
+use Rattle.lists.specs.Sums.{pick_same, pick_other, is-other, sum_eq_but}
+use Rattle.model.specs.Flows.{Links, Site, one, two, Tree, at_terminals}
+use Rattle.theory_trees.specs.Trees.{at_first, at_second}
 use Rattle.theory_trees.specs.Sites.{by_link}
 use Rattle.theory_regions.specs.Regions.{Region, ends_in, own, own_sum}
-use Rattle.theory_regions.specs.JoinedTree.{Border, Bordered, Lies, Joins}
-use Rattle.theory_regions.specs.Carried.{hits, hits-one, hits-none, sum_carried}
-use Rattle.theory_regions.specs.Meeting.{near-site, far-site, near-is-not-far, far_has_just_the_shared_link, turned, end_in_the_joined_tree}
+use Rattle.theory_regions.specs.JoinedTree.{Border, Bordered, Joins}
+use Rattle.theory_regions.specs.Meeting.{near-site, near-is-not-far, far_has_just_the_shared_link, turned, end_in_the_joined_tree}
 use Rattle.theory_regions.specs.Totals.{sum-over-both, the_joined_tree_is_a_tree}
 
 -- ---- sums over ends

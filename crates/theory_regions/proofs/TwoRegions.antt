@@ -1,15 +1,13 @@
 -- Card 10 of document 02 for two regions: what they are given after the exchange is the trimmed sizes of their joined tree, link by link, and the two sums
-use Rattle.std.specs.Prelude.{◌≡◌, refl, ◌≢◌, List, ℕ, ◌+◌, ◌*◌, ◌≤◌, ◌<◌, length}
+use Rattle.std.specs.Prelude.{◌≡◌, ℕ, ◌+◌}
 use Rattle.std.proofs.Math.Path.{sym}
 use native.Mathlib.Omega.{arith}
 use Rattle.lists.specs.Numbers.{look}
-use Rattle.model.specs.Flows.{Tree, Multiflow, Fits, mark, total}
-use Rattle.model.specs.Parts.{pair_list_of_parts}
-use Rattle.model.specs.declared.Pair.{Pair}
+use Rattle.model.specs.Flows.{total}
 use Rattle.theory_trees.proofs.Greatest.{balanced_is_greatest}
-use Rattle.theory_walk.proofs.PartsTheorem.{pair_list_of_parts_is_sound, pair_list_of_parts_has_the_greatest_total}
-use Rattle.theory_regions.specs.Regions.{Region, ends_in, trimmed, first_size, trimmed_again, far_site, own_sum, Given, given}
-use Rattle.theory_regions.specs.JoinedTree.{Border, Bordered, Joins, position, joined_tree}
+use Rattle.theory_walk.proofs.PartsTheorem.{pair_list_of_parts_is_sound}
+use Rattle.theory_regions.specs.Regions.{Region, ends_in, trimmed, first_size, trimmed_again, far_site, own_sum, given}
+use Rattle.theory_regions.specs.JoinedTree.{Border, Joins, position, joined_tree}
 use Rattle.theory_regions.proofs.Exchange.{sizes_of_the_joined_tree}
 use Rattle.theory_regions.specs.Totals.{the_joined_tree_is_a_tree}
 use Rattle.theory_regions.proofs.Totals.{own_sums_add_up}

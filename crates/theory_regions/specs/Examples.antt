@@ -1,12 +1,11 @@
 -- Two small regions, computed (document 02, Card 10): what each shows, what each is given, and their joined tree.
-use Rattle.std.specs.Prelude.{◌≡◌, refl, List, [], ◌∷◌, map, ℕ}
-use Rattle.std.proofs.Math.Decide.{ℕ_discrete, dec_le, dec_lt}
-use Rattle.lists.specs.Numbers.{pick, is, differ, less, sum, over, count, upfrom, look}
-use Rattle.model.specs.Flows.{at, sum_at, leaf, end_at, ends, at_terminals}
-use Rattle.model.specs.Trimming.{cut_at, cut_site, cut_sites, unvisited, first, remove, taken, elimination, balanced_along, balanced}
-use Rattle.theory_regions.specs.Regions.{Region, trimmed, resized, first_size, trimmed_again, lone, far_site, own, own_sum, Given, given}
-use Rattle.theory_regions.specs.JoinedTree.{Border, down, up, left_out, rank, ranked, place, glued, joined_tree}
-use Rattle.theory_regions.specs.Sharing.{first_from, Sharing, apart, sharing, commons, shared_first, shared_second, may_be_far, chosen, shared_at, sharing_of}
+use Rattle.std.specs.Prelude.{List, [], ◌∷◌, ℕ}
+use Rattle.std.proofs.Math.Decide.{ℕ_discrete, dec_lt}
+use Rattle.lists.specs.Numbers.{pick, is, differ, sum, look}
+use Rattle.model.specs.Flows.{at, sum_at, leaf}
+use Rattle.theory_regions.specs.Regions.{Region, lone, Given, given}
+use Rattle.theory_regions.specs.JoinedTree.{Border}
+use Rattle.theory_regions.specs.Sharing.{first_from, Sharing, commons, shared_first, shared_second, may_be_far, chosen, shared_at, sharing_of}
 
 -- site 1 joined to the far site 4, to 2 and to 3; the link to 4 is shared
 abbrev pub hub : Region

@@ -3,21 +3,19 @@
 use Rattle.std.specs.Prelude.{◌≡◌, ◌≢◌, ◌↔◌, ◌⊎◌}
 use Rattle.std.proofs.Math.Path.{refl, sym}
 use Rattle.std.proofs.Common.{ap, ◌∙◌}
-use Rattle.std.proofs.Math.Logic.{inl, inr, ⊎_swap, ite, if_pos, if_neg}
+use Rattle.std.proofs.Math.Logic.{inl, inr}
 use Prim.Native.Nat.{ℕ, zero, suc, ◌+◌, ◌-◌, ◌*◌, ◌≤◌, ◌<◌}
 use native.Mathlib.Omega.{arith}
-use Rattle.std.proofs.Math.Decide.{dec_lt}
 use Rattle.std.proofs.Math.ListN.{length}
-use Rattle.lists.specs.Numbers.{pick, is, differ, sum, look}
-use Rattle.lists.specs.Sums.{contradiction, same?, cases, pick_same, pick_other, pick_cases, is_same, is-other, differ_same, differ-other, differ-le}
-use Rattle.lists.specs.Sums.{product_one, sum-add, sum-eq, sum_eq_but, sum-two, sum-single}
+use Rattle.lists.specs.Numbers.{differ}
+use Rattle.lists.specs.Sums.{same?, pick_same, pick_other, differ-other, differ-le}
+use Rattle.lists.specs.Sums.{product_one}
 use Rattle.model.specs.Flows.{Links, Site, Tree, one, two, at, side}
 use Rattle.theory_trees.specs.Trees.{at-end, at-le, bridge, loopless, side-link}
 use Rattle.theory_walk.specs.Regions.{differ-one}
-use Rattle.theory_regions.specs.Regions.{Region, lone}
+use Rattle.theory_regions.specs.Regions.{Region}
 use Rattle.theory_regions.specs.JoinedTree.{Between, Border}
-use Rattle.theory_regions.specs.Sharing.{Named, SharesOneLink, Partners, first_from, Sharing, apart, sharing, commons, shared_first, shared_second}
-use Rattle.theory_regions.specs.Sharing.{met, may_be_far, chosen, shared_at, sharing_of}
+use Rattle.theory_regions.specs.Sharing.{Named, SharesOneLink, Partners, first_from, Sharing, apart, sharing, shared_first, shared_second}
 use Rattle.theory_regions.specs.Meeting.{at_both, link-sites}
 use Rattle.theory_regions.specs.TwoRegions.{Neighbours}
 

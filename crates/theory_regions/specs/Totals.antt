@@ -1,20 +1,19 @@
 -- The joined tree, however it is numbered, is a tree; and the sums of the two regions over their own ends add up to its sum over all ends.
 -- By counting links: each is carried from one region, the shared one from both; of its two sites each is near in one region.
-use Rattle.std.specs.Prelude.{◌≡◌, ◌≢◌, List, ℕ, ◌+◌, ◌*◌, ◌<◌, length}
+use Rattle.std.specs.Prelude.{◌≡◌, ℕ, ◌+◌, ◌*◌, ◌<◌, length}
 use Rattle.std.proofs.Math.Path.{refl, sym, ap}
 use Rattle.std.proofs.Common.{◌∙◌}
 use Rattle.std.proofs.Math.Logic.{inl, inr}
 use native.Mathlib.Omega.{arith}
-use Rattle.lists.specs.Numbers.{is, sum, look}
-use Rattle.lists.specs.Sums.{pick_same, pick_other, is_same, is-other, same?, sum_one, sum-add, sum-eq, sum_eq_but, sum-single}
-use Rattle.model.specs.Flows.{Links, Site, one, two, label, Tree, at_terminals}
+use Rattle.lists.specs.Numbers.{is, sum}
+use Rattle.lists.specs.Sums.{is_same, is-other, same?, sum_one, sum-add, sum-eq, sum-single}
+use Rattle.model.specs.Flows.{Site, one, two, label, Tree}
 use Rattle.theory_trees.specs.Labels.{linked}
-use Rattle.theory_trees.specs.Trees.{at_first, at_second, all_agree}
-use Rattle.theory_trees.specs.Sites.{by_link}
-use Rattle.theory_regions.specs.Regions.{Region, ends_in, own, own_sum}
+use Rattle.theory_trees.specs.Trees.{all_agree}
+use Rattle.theory_regions.specs.Regions.{Region}
 use Rattle.theory_regions.specs.JoinedTree.{Border, Bordered, Lies, Joins}
 use Rattle.theory_regions.specs.Carried.{hits, hits-one, hits-none, sum_carried}
-use Rattle.theory_regions.specs.Meeting.{near-site, far-site, near-is-not-far, far_has_just_the_shared_link, turned, end_in_the_joined_tree}
+use Rattle.theory_regions.specs.Meeting.{near-site, far-site, turned}
 
 -- ---- links counted
 module _ {a b t : Region} {p q : Border} {site₁ link₁ site₂ link₂ : ℕ → ℕ} (A : Bordered a p) (B : Bordered b q)

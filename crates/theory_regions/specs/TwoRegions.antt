@@ -1,7 +1,6 @@
 -- Card 10 of document 02 for two regions: what they are given after the exchange is the trimmed sizes of their joined tree, link by link, and the two sums
 -- added are its total in halves, the largest that a plan of it has, however finely cut.
 use Rattle.std.specs.Prelude.{◌≡◌, refl, ◌≢◌, List, ℕ, ◌+◌, ◌*◌, ◌≤◌, ◌<◌, length}
-use Rattle.std.proofs.Math.Path.{sym}
 use native.Mathlib.Omega.{arith}
 use Rattle.lists.specs.Numbers.{look}
 use Rattle.model.specs.Flows.{Tree, Multiflow, Fits, mark, total}
@@ -9,9 +8,8 @@ use Rattle.model.specs.Parts.{pair_list_of_parts}
 use Rattle.model.specs.declared.Pair.{Pair}
 use Rattle.theory_trees.proofs.Greatest.{balanced_is_greatest}
 use Rattle.theory_walk.proofs.PartsTheorem.{pair_list_of_parts_is_sound, pair_list_of_parts_has_the_greatest_total}
-use Rattle.theory_regions.specs.Regions.{Region, ends_in, trimmed, first_size, trimmed_again, far_site, own_sum, Given, given}
-use Rattle.theory_regions.specs.JoinedTree.{Border, Bordered, Joins, position, joined_tree}
-use Rattle.theory_regions.specs.Totals.{the_joined_tree_is_a_tree}
+use Rattle.theory_regions.specs.Regions.{Region, ends_in, trimmed, first_size, Given, given}
+use Rattle.theory_regions.specs.JoinedTree.{Border, Bordered}
 
 -- two regions with one shared link: each has the other's site at it as a far site, without a mark, and its usable size is one in both
 pub record Neighbours (a : Region) (p : Border) (b : Region) (q : Border) : Type 0 where

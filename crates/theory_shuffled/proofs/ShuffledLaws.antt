@@ -1,8 +1,8 @@
 -- What is shuffled stands in both lists; and two lists of which each holds the elements of the other, none of them twice, are shuffled.
-use Rattle.std.specs.Prelude.{List, [], ◌∷◌, ◌++◌, ◌⊎◌, ◌≡◌, refl, ℕ}
-use Rattle.std.proofs.Common.{inl, inr, sym, ap, subst, ◌∙◌, arith}
+use Rattle.std.specs.Prelude.{List, [], ◌∷◌, ◌≡◌, refl, ℕ}
+use Rattle.std.proofs.Common.{sym, ap, subst, ◌∙◌, arith}
 use Rattle.lists.specs.Tallies.{tally, tally-append}
-use Rattle.theory_shuffled.specs.Shuffled.{Stands, Shuffled, none, next}
+use Rattle.theory_shuffled.specs.Shuffled.{Shuffled, none, next}
 use Rattle.theory_shuffled.specs.ShuffledLaws.{Apart, apart-put, shuffled_is_covered}
 
 -- what stands apart stays apart where it is shuffled: no two elements meet in the other list whose likes do not meet in the one

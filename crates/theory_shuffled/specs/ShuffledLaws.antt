@@ -1,8 +1,7 @@
 -- What is shuffled stands in both lists; and two lists of which each holds the elements of the other, none of them twice, are shuffled.
 -- Element by element.
-use Rattle.std.specs.Prelude.{List, [], ◌∷◌, ◌++◌, ◌⊎◌, ◌≡◌, refl, ℕ}
-use Rattle.std.proofs.Common.{inl, inr, sym, ap, subst, ◌∙◌, arith}
-use Rattle.lists.specs.Tallies.{tally, tally-append}
+use Rattle.std.specs.Prelude.{List, [], ◌∷◌, ◌++◌, ◌⊎◌, ◌≡◌, refl}
+use Rattle.std.proofs.Common.{inl, inr, sym, ap, subst}
 use Rattle.theory_shuffled.specs.Shuffled.{Stands, Shuffled, none, next}
 
 -- ---- a list and one element more

@@ -1,13 +1,9 @@
 -- Pairs free to be joined: the test `freePair` tells just which entries are routes, and what is crossed is another terminal on the path. It sees no order of
-use Rattle.std.specs.Prelude.{◌≡◌, refl, ◌≢◌, ◌↔◌, length}
-use Rattle.std.proofs.Common.{sym, ◌∙◌, inl, inr, arith}
-use Prim.Native.Nat.{ℕ, ◌+◌, ◌*◌, ◌<◌}
-use Rattle.lists.specs.Numbers.{is, differ}
-use Rattle.lists.specs.Sums.{same?, is_same, is-other, is_one, is_le, differ_same, differ-other, differ-le, product_one, sum-none, sum-eq, sum_ge, sum-some}
-use Rattle.model.specs.Flows.{Links, Site, Ends, Tree, Route, one, two, at, separates}
-use Rattle.model.specs.Parts.{another, crossed, free_pair}
+use Rattle.std.specs.Prelude.{◌≡◌, ◌≢◌}
+use Prim.Native.Nat.{ℕ}
+use Rattle.model.specs.Flows.{Links, Site, Tree}
+use Rattle.model.specs.Parts.{free_pair}
 use Rattle.model.specs.declared.Pair.{Pair}
-use Rattle.theory_trees.specs.Trees.{separates-le, separates_comm, at_first, at_second, at-end}
 use Rattle.theory_trees.specs.Leaves.{Outer}
 use Rattle.theory_trees.proofs.Leaves.{outer_route}
 use Rattle.theory_trees.specs.FreePairs.{free_iff_route}

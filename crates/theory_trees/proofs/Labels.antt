@@ -1,11 +1,11 @@
 -- Labels are what they should be: equal just for sites joined by links; and each link costs at most one label.
-use Rattle.std.specs.Prelude.{◌≡◌, refl, ◌≢◌, ◌↔◌, [], ◌∷◌, ℕ, zero, suc, ◌+◌, ◌-◌, ◌≤◌, ◌<◌, length}
+use Rattle.std.specs.Prelude.{◌≡◌, refl, ◌≢◌, ◌↔◌, [], ◌∷◌, ℕ, zero, suc, ◌+◌, ◌-◌, ◌≤◌, length}
 use Rattle.std.proofs.Common.{sym, ap, ◌∙◌, arith}
 use mathlib.Core.Logic.Iff
 use Rattle.lists.specs.Numbers.{pick, is, sum}
-use Rattle.model.specs.Flows.{Links, Site, Ends, one, two, relabel, label, joined, Joined, same, link, back, chain}
-use Rattle.lists.specs.Sums.{pick_same, pick_other, pick_cases, pick_const, is_same, is-other, is_one, is_le, is_mono, is_iff, sum_one, sum-none, sum-eq}
-use Rattle.lists.specs.Sums.{sum_eq_but, sum-le-suc, sum_ge}
+use Rattle.model.specs.Flows.{Links, Site, Ends, relabel, label, joined, Joined}
+use Rattle.lists.specs.Sums.{pick_same, pick_cases, is_same, is-other, is_one, is_iff, sum_one, sum-eq}
+use Rattle.lists.specs.Sums.{sum_eq_but, sum_ge}
 use Rattle.theory_trees.specs.Labels.{Fresh, along, joined-label, label-joined, linked, reps, reps-whole}
 
 -- a label is its own label

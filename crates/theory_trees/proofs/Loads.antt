@@ -1,14 +1,12 @@
 -- Loads are balanced: what passes link j at a site v that is no end of an entry also passes another link at v.
-use Rattle.std.specs.Prelude.{◌≡◌, ◌≢◌, length}
-use Rattle.std.proofs.Math.Path.{ap}
+use Rattle.std.specs.Prelude.{◌≡◌, length}
 use mathlib.Core.List.{List, [], ◌∷◌}
-use Prim.Native.Nat.{ℕ, ◌+◌, ◌*◌, ◌≤◌, ◌<◌}
+use Prim.Native.Nat.{ℕ, ◌+◌, ◌≤◌, ◌<◌}
 use native.Mathlib.Omega.{arith}
 use Rattle.std.proofs.Math.Nat.{mul-le-mul_left}
-use Rattle.lists.specs.Sums.{is-other, differ-le, differ_triangle, differ_comm, sum-add, sum-eq, sum_le_but}
-use Rattle.model.specs.Flows.{Links, Site, Tree, at, sum_at, others, side, separates, load}
+use Rattle.model.specs.Flows.{Links, Site, Tree, at, sum_at, others, separates, load}
 use Rattle.model.specs.declared.Pair.{Pair}
-use Rattle.theory_trees.specs.Trees.{separates_triple, sum_at_linear, others-add, local}
+use Rattle.theory_trees.specs.Trees.{sum_at_linear, others-add}
 use Rattle.theory_trees.specs.Loads.{Avoids, once}
 
 module _ {ls : Links} {n : ℕ} (T : Tree ls n) (v j : ℕ) (pv : Site n v) (l : j < length ls) (a : at ls v j ≡ 1) where

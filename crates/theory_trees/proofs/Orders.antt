@@ -1,19 +1,16 @@
 -- The elimination order of a tree: it takes every site once, each over at most one unvisited link, and always the lowest that can be taken.
-use Rattle.std.specs.Prelude.{◌≡◌, refl, ◌⊎◌, length}
-use Rattle.std.proofs.Math.Path.{sym, ap₂, fun_ext}
-use Rattle.std.proofs.Common.{ap, ◌∙◌, inl, inr, mul-le-mul_right}
-use Rattle.std.proofs.Math.Logic.{if_pos, if_neg}
+use Rattle.std.specs.Prelude.{◌≡◌, refl, length}
+use Rattle.std.proofs.Math.Path.{ap₂, fun_ext}
+use Rattle.std.proofs.Common.{◌∙◌}
 use mathlib.Core.List.{List, [], ◌∷◌}
 use Prim.Native.Nat.{ℕ, zero, suc, ◌+◌, ◌*◌, ◌≤◌}
 use native.Mathlib.Omega.{arith}
-use Rattle.std.proofs.Math.Decide.{dec_le}
-use Rattle.lists.specs.Numbers.{is, sum, over, count, upfrom}
-use Rattle.model.specs.Flows.{Links, Site, Tree, sites, one, two, at, sum_at, separates}
+use Rattle.lists.specs.Numbers.{is, count}
+use Rattle.model.specs.Flows.{Links, Site, Tree, sites, one, two, at}
 use Rattle.model.specs.Trimming.{unvisited, first, remove, taken, elimination, Inward, InwardOrder}
-use Rattle.lists.specs.Sums.{pick_same, pick_other, is_same, is-other, is_iff, same?, cases, sum-add, sum-le}
-use Rattle.theory_trees.specs.Trees.{loopless, far-one, local}
-use Rattle.lists.specs.Places.{length-upfrom, count_low, over_add, over-mul, over-one, over-le, over-eq, over-is}
-use Rattle.theory_trees.specs.Sites.{sites_once, sites-site, sites-single, exchange}
+use Rattle.lists.specs.Sums.{is_same}
+use Rattle.lists.specs.Places.{length-upfrom}
+use Rattle.theory_trees.specs.Sites.{sites_once, sites-site, sites-single}
 use Rattle.theory_trees.specs.Orders.{Ascending, Lowest, first-lowest, never_stuck, remove-count, remove-length, remove_ascending, upfrom_ascending}
 
 module _ {ls : Links} {n : ℕ} (T : Tree ls n) where

@@ -1,15 +1,11 @@
 -- The owner of a site: the one terminal whose cut holds it, or 0 where no terminal's does.
-use Rattle.std.specs.Prelude.{◌≡◌, ◌≢◌, ◌↔◌, ◌⊎◌, ℕ, ◌*◌, ◌≤◌}
-use Rattle.std.proofs.Math.Path.{refl}
+use Rattle.std.specs.Prelude.{◌≡◌, ◌↔◌, ℕ}
 use Rattle.std.proofs.Math.Logic.{inl, inr}
-use mathlib.Core.List.{List, [], ◌∷◌}
+use mathlib.Core.List.{[]}
 use Rattle.std.proofs.Common.{arith}
-use Rattle.lists.specs.Numbers.{is, count}
-use Rattle.model.specs.Flows.{Links, Site, Tree, sites}
+use Rattle.model.specs.Flows.{Links, Site, Tree}
 use Rattle.model.specs.Trimming.{Greatest}
-use Rattle.model.specs.Cuts.{group, in_cut, owner_among, owner}
-use Rattle.lists.specs.Sums.{pick_same, pick_other, same?, is_same, is-other, is_one, is_le, product_one}
-use Rattle.theory_trees.specs.Sites.{sites-site, sites_once}
+use Rattle.model.specs.Cuts.{in_cut, owner}
 use Rattle.theory_trees.specs.TerminalCuts.{a_cut_holds_its_terminal}
 use Rattle.theory_trees.proofs.TerminalCuts.{cuts_are_disjoint}
 use Rattle.theory_trees.specs.Owners.{owner-or-none}

@@ -6,7 +6,7 @@ use Prim.Native.Nat.{ℕ, ◌*◌, ◌≤◌}
 use native.Mathlib.Omega.{arith}
 use Rattle.std.proofs.Math.Decide.{dec_le}
 use Rattle.lists.specs.Numbers.{count}
-use Rattle.model.specs.Flows.{Links, Site, sites, one, two, sum_at}
+use Rattle.model.specs.Flows.{Links, Site, sites, one, two}
 use Rattle.model.specs.Trimming.{unvisited, remove, Inward, InwardOrder}
 use Rattle.lists.specs.Sums.{is_same, is-other, same?, cases}
 use Rattle.theory_trees.specs.Sites.{sites_once, sites-site, sites-single}

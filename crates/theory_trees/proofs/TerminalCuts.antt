@@ -1,19 +1,18 @@
 -- Terminal cuts from the promise alone: disjoint, with saturated links around them, and of the size of their terminal's balanced links.
-use Rattle.std.specs.Prelude.{◌≡◌, ◌≢◌, ◌↔◌, [], ◌∷◌, length}
+use Rattle.std.specs.Prelude.{◌≡◌, ◌≢◌, [], length}
 use Rattle.std.proofs.Math.Path.{refl}
 use Rattle.std.proofs.Common.{sym, ap, ◌∙◌}
 use mathlib.Core.Logic.Iff
-use Prim.Native.Nat.{ℕ, zero, suc, ◌+◌, ◌*◌, ◌≤◌, ◌<◌}
+use Prim.Native.Nat.{ℕ, ◌+◌, ◌*◌, ◌≤◌, ◌<◌}
 use native.Mathlib.Omega.{arith}
 use Rattle.std.proofs.Math.Decide.{dec_le, dec_lt}
-use Rattle.lists.specs.Numbers.{is, differ, less, over}
-use Rattle.model.specs.Flows.{Links, Site, Tree, Below, Joined, sites, one, two, at, sum_at, relabel, label, side, separates, at_terminals}
+use Rattle.lists.specs.Numbers.{is, differ, over}
+use Rattle.model.specs.Flows.{Links, Site, Tree, Below, sites, one, two, at, sum_at, separates, at_terminals}
 use Rattle.model.specs.Trimming.{Light, Balanced, Greatest}
-use Rattle.model.specs.Cuts.{kept, group, in_cut, cut_size}
-use Rattle.lists.specs.Sums.{pick_same, pick_other, pick_cases, cases, same?, is_same, is-other, is_one, is_le, differ_same, differ-other, less_one, less-lt}
+use Rattle.model.specs.Cuts.{group, in_cut, cut_size}
+use Rattle.lists.specs.Sums.{cases, same?, is_same, is-other, is_one, is_le, differ_same, differ-other}
 use Rattle.lists.specs.Sums.{sum-add, sum-mul, sum-eq, sum-single}
-use Rattle.theory_trees.specs.Labels.{relabel-both, joined-label, label-joined}
-use Rattle.theory_trees.specs.Trees.{side-link, separates-same, separates-le, separates_self, far-one, at-le, sum_at_linear, local, local_one}
+use Rattle.theory_trees.specs.Trees.{separates-le, separates_self, far-one, at-le, sum_at_linear, local, local_one}
 use Rattle.theory_trees.specs.Sites.{sites-site, sites_once, at-site, sum_at-none, by_link}
 use Rattle.lists.specs.Places.{over_add, over-mul, over-eq, over-is}
 use Rattle.theory_trees.specs.Loads.{once}

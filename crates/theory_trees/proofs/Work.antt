@@ -1,5 +1,5 @@
 -- The work inward and back out, in the words of document 02, Card 3: what is taken, what is cut, and that any order of such sites ends in the same sizes.
-use Rattle.std.specs.Prelude.{◌≡◌, refl, ◌≢◌, List, [], ◌∷◌, reverse, ℕ, ◌≤◌, ◌<◌, length}
+use Rattle.std.specs.Prelude.{◌≡◌, refl, ◌≢◌, List, [], ◌∷◌, reverse, ℕ, ◌<◌, length}
 use Rattle.std.proofs.Common.{sym, arith}
 use Rattle.std.proofs.Math.Decide.{ℕ_discrete, dec_le}
 use Rattle.lists.specs.Numbers.{pick, is, sum, count, upfrom}

@@ -5,11 +5,10 @@ use Rattle.std.proofs.Common.{sym, ◌∙◌, inl, inr, arith}
 use Prim.Native.Nat.{ℕ, ◌+◌, ◌*◌, ◌<◌}
 use Rattle.lists.specs.Numbers.{is, differ}
 use Rattle.lists.specs.Sums.{same?, is_same, is-other, is_one, is_le, differ_same, differ-other, differ-le, product_one, sum-none, sum-eq, sum_ge, sum-some}
-use Rattle.model.specs.Flows.{Links, Site, Ends, Tree, Route, one, two, at, separates}
+use Rattle.model.specs.Flows.{Links, Site, Ends, Route, one, two, at, separates}
 use Rattle.model.specs.Parts.{another, crossed, free_pair}
 use Rattle.model.specs.declared.Pair.{Pair}
 use Rattle.theory_trees.specs.Trees.{separates-le, separates_comm, at_first, at_second, at-end}
-use Rattle.theory_trees.specs.Leaves.{Outer}
 
 -- another terminal is told by the number 1, and what is none by 0
 module _ (terminal : ℕ → ℕ) (a b w : ℕ) where

@@ -1,6 +1,6 @@
 -- The elimination order decides whether n sites with n - 1 links, none from a site to itself, are a tree.
 -- In an order from outside inward each site adds at most one link to those behind it; with n - 1 links each adds one, and so is joined to them.
-use Rattle.std.specs.Prelude.{◌≡◌, ◌≢◌, ◌↔◌, ℕ, zero, suc, ◌+◌, ◌-◌, ◌*◌, ◌≤◌, ◌<◌, length}
+use Rattle.std.specs.Prelude.{◌≡◌, ◌≢◌, ℕ, suc, ◌+◌, ◌-◌, ◌*◌, ◌≤◌, ◌<◌, length}
 use Rattle.std.proofs.Math.Path.{refl, sym, ap}
 use Rattle.std.proofs.Common.{◌∙◌}
 use Rattle.std.proofs.Math.Logic.{inl, inr}
@@ -8,8 +8,8 @@ use mathlib.Core.List.{List, [], ◌∷◌}
 use native.Mathlib.Omega.{arith}
 use Rattle.std.proofs.Math.Nat.{mul-le-mul}
 use Rattle.lists.specs.Numbers.{is, sum, count}
-use Rattle.model.specs.Flows.{Links, Ends, Tree, sites, one, two, at, sum_at, label}
-use Rattle.model.specs.Trimming.{unvisited, first, remove, taken, elimination, Inward, InwardOrder}
+use Rattle.model.specs.Flows.{Links, Ends, Tree, one, two, at, sum_at, label}
+use Rattle.model.specs.Trimming.{unvisited, Inward, InwardOrder}
 use Rattle.lists.specs.Sums.{is_same, is-other, same?, sum_one, sum-none, sum-add, sum-eq, sum-le, sum-some}
 use Rattle.theory_trees.specs.Labels.{linked}
 use Rattle.theory_trees.specs.Trees.{at-le, at_first, at_second, at_none, at-end}

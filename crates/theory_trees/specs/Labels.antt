@@ -4,9 +4,9 @@ use Rattle.std.specs.Prelude.{◌≡◌, refl, ◌≢◌, ◌↔◌, [], ◌∷�
 use Rattle.std.proofs.Common.{sym, ap, ◌∙◌, arith}
 use mathlib.Core.Logic.Iff
 use Rattle.lists.specs.Numbers.{pick, is, sum}
-use Rattle.model.specs.Flows.{Links, Site, Ends, one, two, relabel, label, joined, Joined, same, link, back, chain}
-use Rattle.lists.specs.Sums.{pick_same, pick_other, pick_cases, pick_const, is_same, is-other, is_one, is_le, is_mono, is_iff, sum_one, sum-none, sum-eq}
-use Rattle.lists.specs.Sums.{sum_eq_but, sum-le-suc, sum_ge}
+use Rattle.model.specs.Flows.{Links, Site, one, two, relabel, label, Joined, same, link, back, chain}
+use Rattle.lists.specs.Sums.{pick_same, pick_other, pick_cases, pick_const, is_same, is-other, is_le, is_mono, sum_one, sum-none, sum-eq}
+use Rattle.lists.specs.Sums.{sum-le-suc}
 
 -- ---- labels and what is joined
 

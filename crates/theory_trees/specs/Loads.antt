@@ -6,9 +6,9 @@ use Prim.Native.Nat.{ℕ, ◌+◌, ◌*◌, ◌≤◌, ◌<◌}
 use native.Mathlib.Omega.{arith}
 use Rattle.std.proofs.Math.Nat.{mul-le-mul_left}
 use Rattle.lists.specs.Sums.{is-other, differ-le, differ_triangle, differ_comm, sum-add, sum-eq, sum_le_but}
-use Rattle.model.specs.Flows.{Links, Site, Tree, at, sum_at, others, side, separates, load}
+use Rattle.model.specs.Flows.{Links, Site, Tree, at, sum_at, side, separates}
 use Rattle.model.specs.declared.Pair.{Pair}
-use Rattle.theory_trees.specs.Trees.{separates_triple, sum_at_linear, others-add, local}
+use Rattle.theory_trees.specs.Trees.{separates_triple, local}
 
 -- every entry runs between sites other than v
 abbrev pub Avoids : ℕ → ℕ → List Pair → Type 0

@@ -1,20 +1,20 @@
 -- The elimination order of a tree: it takes every site once, each over at most one unvisited link, and always the lowest that can be taken.
 -- Never stuck, by counting: any sites of a tree have fewer links among them than there are sites, so one of them has at most one.
 use Rattle.std.specs.Prelude.{◌≡◌, refl, ◌⊎◌, length}
-use Rattle.std.proofs.Math.Path.{sym, ap₂, fun_ext}
-use Rattle.std.proofs.Common.{ap, ◌∙◌, inl, inr, mul-le-mul_right}
+use Rattle.std.proofs.Math.Path.{sym}
+use Rattle.std.proofs.Common.{ap, inl, inr, mul-le-mul_right}
 use Rattle.std.proofs.Math.Logic.{if_pos, if_neg}
 use mathlib.Core.List.{List, [], ◌∷◌}
 use Prim.Native.Nat.{ℕ, zero, suc, ◌+◌, ◌*◌, ◌≤◌}
 use native.Mathlib.Omega.{arith}
 use Rattle.std.proofs.Math.Decide.{dec_le}
 use Rattle.lists.specs.Numbers.{is, sum, over, count, upfrom}
-use Rattle.model.specs.Flows.{Links, Site, Tree, sites, one, two, at, sum_at, separates}
-use Rattle.model.specs.Trimming.{unvisited, first, remove, taken, elimination, Inward, InwardOrder}
+use Rattle.model.specs.Flows.{Links, Site, Tree, one, two, sum_at, separates}
+use Rattle.model.specs.Trimming.{unvisited, first, remove}
 use Rattle.lists.specs.Sums.{pick_same, pick_other, is_same, is-other, is_iff, same?, cases, sum-add, sum-le}
 use Rattle.theory_trees.specs.Trees.{loopless, far-one, local}
-use Rattle.lists.specs.Places.{length-upfrom, count_low, over_add, over-mul, over-one, over-le, over-eq, over-is}
-use Rattle.theory_trees.specs.Sites.{sites_once, sites-site, sites-single, exchange}
+use Rattle.lists.specs.Places.{count_low, over_add, over-mul, over-one, over-le, over-eq, over-is}
+use Rattle.theory_trees.specs.Sites.{exchange}
 
 -- each site is the lowest of those that could be taken when it was
 abbrev pub Lowest : Links → List ℕ → Type 0

@@ -1,17 +1,15 @@
 -- The owner of a site: the one terminal whose cut holds it, or 0 where no terminal's does.
 -- By the search through the sites, and since the cuts are disjoint.
-use Rattle.std.specs.Prelude.{◌≡◌, ◌≢◌, ◌↔◌, ◌⊎◌, ℕ, ◌*◌, ◌≤◌}
+use Rattle.std.specs.Prelude.{◌≡◌, ◌≢◌, ◌⊎◌, ℕ, ◌*◌, ◌≤◌}
 use Rattle.std.proofs.Math.Path.{refl}
 use Rattle.std.proofs.Math.Logic.{inl, inr}
 use mathlib.Core.List.{List, [], ◌∷◌}
 use Rattle.std.proofs.Common.{arith}
 use Rattle.lists.specs.Numbers.{is, count}
-use Rattle.model.specs.Flows.{Links, Site, Tree, sites}
-use Rattle.model.specs.Trimming.{Greatest}
+use Rattle.model.specs.Flows.{Links, Site, sites}
 use Rattle.model.specs.Cuts.{group, in_cut, owner_among, owner}
 use Rattle.lists.specs.Sums.{pick_same, pick_other, same?, is_same, is-other, is_one, is_le, product_one}
 use Rattle.theory_trees.specs.Sites.{sites-site, sites_once}
-use Rattle.theory_trees.specs.TerminalCuts.{a_cut_holds_its_terminal}
 
 module _ (ls : Links) (c t terminal : ℕ → ℕ) (x : ℕ) where
   in_cut-one : (a : ℕ) → in_cut ls c t a x ≢ 1 → in_cut ls c t a x ≡ 0

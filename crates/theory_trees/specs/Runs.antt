@@ -1,16 +1,10 @@
 -- Any site with at most one unvisited link at each step (document 02, Card 3): such runs are just the inward orders.
-use Rattle.std.specs.Prelude.{◌≡◌, ◌↔◌}
-use Rattle.std.proofs.Math.Path.{refl, sym, ap₂, fun_ext}
+use Rattle.std.specs.Prelude.{◌≡◌}
 use mathlib.Core.List.{List, [], ◌∷◌}
-use Prim.Native.Nat.{ℕ, ◌*◌, ◌≤◌}
-use native.Mathlib.Omega.{arith}
-use Rattle.std.proofs.Math.Decide.{dec_le}
+use Prim.Native.Nat.{ℕ, ◌≤◌}
 use Rattle.lists.specs.Numbers.{count}
-use Rattle.model.specs.Flows.{Links, Site, sites, one, two, sum_at}
-use Rattle.model.specs.Trimming.{unvisited, remove, Inward, InwardOrder}
-use Rattle.lists.specs.Sums.{is_same, is-other, same?, cases}
-use Rattle.theory_trees.specs.Sites.{sites_once, sites-site, sites-single}
-use Rattle.theory_trees.specs.Orders.{remove-count}
+use Rattle.model.specs.Flows.{Links, sum_at}
+use Rattle.model.specs.Trimming.{unvisited, remove}
 
 -- v can be taken while us are still to be taken: it is one of them, and has at most one unvisited link
 abbrev pub CanBeTaken : Links → List ℕ → ℕ → Type 0

@@ -1,16 +1,16 @@
 -- Lists of sites: how often a site stands in one, sums over one, and sums over the links at a site.
 -- The one tool: a sum over sites and their links is a sum over links (`exchange`).
 use Rattle.std.specs.Prelude.{◌≡◌, ◌≢◌, length}
-use Rattle.std.proofs.Common.{sym, ap, ◌∙◌, inl, inr, mul-le-mul_left}
-use mathlib.Core.List.{List, [], ◌∷◌, map}
+use Rattle.std.proofs.Common.{sym, ◌∙◌, inl, inr, mul-le-mul_left}
+use mathlib.Core.List.{List, [], ◌∷◌}
 use Prim.Native.Nat.{ℕ, ◌+◌, ◌-◌, ◌*◌, ◌≤◌, ◌<◌}
 use native.Mathlib.Omega.{arith}
 use Rattle.std.proofs.Math.Decide.{dec_le}
-use Rattle.lists.specs.Numbers.{is, sum, over, count, look}
+use Rattle.lists.specs.Numbers.{is, sum, over, count}
 use Rattle.model.specs.Flows.{Links, Site, Ends, sites, one, two, at, sum_at, Tree}
 use Rattle.lists.specs.Sums.{is_same, is-other, same?, cases, sum-none, sum-add, sum-mul, sum-eq, sum-le}
 use Rattle.theory_trees.specs.Trees.{at-le, at-end, at_first, at_second, at_none, loopless}
-use Rattle.lists.specs.Places.{look-from, count_low, count-high, count_in, over-eq}
+use Rattle.lists.specs.Places.{count_low, count-high, count_in, over-eq}
 
 -- ---- b, b + 1, .., and zeros
 

@@ -2,22 +2,17 @@
 -- By one idea: one more unit along the path of two sites joined by unsaturated links cannot be balanced, since the capacities are the greatest.
 use Rattle.std.specs.Prelude.{◌≡◌, ◌≢◌, ◌↔◌, [], ◌∷◌, length}
 use Rattle.std.proofs.Math.Path.{refl}
-use Rattle.std.proofs.Common.{sym, ap, ◌∙◌}
+use Rattle.std.proofs.Common.{ap}
 use mathlib.Core.Logic.Iff
-use Prim.Native.Nat.{ℕ, zero, suc, ◌+◌, ◌*◌, ◌≤◌, ◌<◌}
+use Prim.Native.Nat.{ℕ, zero, suc, ◌<◌}
 use native.Mathlib.Omega.{arith}
-use Rattle.std.proofs.Math.Decide.{dec_le, dec_lt}
-use Rattle.lists.specs.Numbers.{is, differ, less, over}
-use Rattle.model.specs.Flows.{Links, Site, Tree, Below, Joined, sites, one, two, at, sum_at, relabel, label, side, separates, at_terminals}
-use Rattle.model.specs.Trimming.{Light, Balanced, Greatest}
-use Rattle.model.specs.Cuts.{kept, group, in_cut, cut_size}
-use Rattle.lists.specs.Sums.{pick_same, pick_other, pick_cases, cases, same?, is_same, is-other, is_one, is_le, differ_same, differ-other, less_one, less-lt}
-use Rattle.lists.specs.Sums.{sum-add, sum-mul, sum-eq, sum-single}
+use Rattle.std.proofs.Math.Decide.{dec_lt}
+use Rattle.lists.specs.Numbers.{is, less}
+use Rattle.model.specs.Flows.{Links, Below, Joined, one, two, at, relabel, label, side, separates}
+use Rattle.model.specs.Cuts.{kept, group, in_cut}
+use Rattle.lists.specs.Sums.{pick_same, pick_other, pick_cases, cases, same?, is_same, is_one, less_one, less-lt}
 use Rattle.theory_trees.specs.Labels.{relabel-both, joined-label, label-joined}
-use Rattle.theory_trees.specs.Trees.{side-link, separates-same, separates-le, separates_self, far-one, at-le, sum_at_linear, local, local_one}
-use Rattle.theory_trees.specs.Sites.{sites-site, sites_once, at-site, sum_at-none, by_link}
-use Rattle.lists.specs.Places.{over_add, over-mul, over-eq, over-is}
-use Rattle.theory_trees.specs.Loads.{once}
+use Rattle.theory_trees.specs.Trees.{side-link, separates-same}
 
 -- ---- a part of the links
 

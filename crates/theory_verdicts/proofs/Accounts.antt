@@ -1,5 +1,5 @@
 -- What the lines of a plan drawn by hand come to: the lowest line with a number, or the entries of all; and what holds of the entries. By induction over the
-use Rattle.std.specs.Prelude.{◌≡◌, refl, ◌⊎◌, ◌≢◌, List, [], ◌∷◌, ℕ, zero, suc, ◌+◌, ◌*◌, ◌≤◌, ◌<◌, length, take}
+use Rattle.std.specs.Prelude.{◌≡◌, refl, ◌⊎◌, ◌≢◌, List, [], ◌∷◌, ℕ, zero, suc, ◌+◌, ◌*◌, ◌≤◌, ◌<◌, length}
 use Rattle.std.proofs.Common.{sym, ap, ◌∙◌, inl, inr, mul-le-mul_left, arith}
 use Rattle.lists.specs.Numbers.{Each}
 use Rattle.lists.specs.Sums.{pick_same, pick_other, same?}
@@ -16,7 +16,6 @@ use Rattle.theory_trees.specs.Trees.{separates-le}
 use Rattle.theory_trees.specs.FreePairs.{free_iff_route}
 use Rattle.theory_log.specs.Pairs.{Sites, same-one, same-le}
 use Rattle.theory_log.specs.Requests.{OpensOnly, lower_amount, lower_entry}
-use Rattle.theory_log.specs.Logs.{line}
 use Rattle.theory_verdicts.specs.HandPlan.{line_answer, entered, faulty, entries, account}
 use Rattle.theory_verdicts.specs.Accounts.{Drawn, Lowest, answer_at, drawn}
 

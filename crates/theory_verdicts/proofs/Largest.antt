@@ -1,5 +1,5 @@
 -- Whether a plan drawn by hand is one of the largest: its total is the sum of the trimmed sizes at the ends exactly if no plan that fits, however finely
-use Rattle.std.specs.Prelude.{◌≡◌, ◌↔◌, List, ℕ, ◌*◌, ◌≤◌}
+use Rattle.std.specs.Prelude.{◌≡◌, ◌↔◌, List, ℕ, ◌≤◌}
 use Rattle.std.proofs.Common.{arith}
 use Rattle.lists.specs.Numbers.{look}
 use Rattle.model.specs.Flows.{Links, Tree, Multiflow, Fits, total}

@@ -1,24 +1,14 @@
 -- What the lines of a plan drawn by hand come to: the lowest line with a number, or the entries of all; and what holds of the entries. By induction over the
 -- lines: a line is answered by the entries of those before it.
-use Rattle.std.specs.Prelude.{◌≡◌, refl, ◌⊎◌, ◌≢◌, List, [], ◌∷◌, ℕ, zero, suc, ◌+◌, ◌*◌, ◌≤◌, ◌<◌, length, take}
-use Rattle.std.proofs.Common.{sym, ap, ◌∙◌, inl, inr, mul-le-mul_left, arith}
+use Rattle.std.specs.Prelude.{◌≡◌, ◌≢◌, List, [], ◌∷◌, ℕ, ◌≤◌, ◌<◌, length, take}
 use Rattle.lists.specs.Numbers.{Each}
-use Rattle.lists.specs.Sums.{pick_same, pick_other, same?}
-use Rattle.lists.specs.Tallies.{each_both}
 use Rattle.model.specs.Limits.{AMOUNT}
-use Rattle.model.specs.Flows.{Links, Ends, Multiflow, Route, load, total}
-use Rattle.model.specs.Parts.{free_pair}
-use Rattle.model.specs.Pairing.{lower_first}
-use Rattle.model.specs.Booking.{places_of, same, Entry, Asked}
+use Rattle.model.specs.Booking.{places_of, Entry}
 use Rattle.model.specs.declared.Pair.{Pair}
 use Rattle.model.specs.declared.Request.{Request}
-use Rattle.model.specs.declared.Request.TheVariants.{Open, GiveUp, Fault}
-use Rattle.theory_trees.specs.Trees.{separates-le}
-use Rattle.theory_trees.specs.FreePairs.{free_iff_route}
-use Rattle.theory_log.specs.Pairs.{Sites, same-one, same-le}
-use Rattle.theory_log.specs.Requests.{OpensOnly, lower_amount, lower_entry}
+use Rattle.theory_log.specs.Pairs.{Sites}
 use Rattle.theory_log.specs.Logs.{line}
-use Rattle.theory_verdicts.specs.HandPlan.{line_answer, entered, faulty, entries, account}
+use Rattle.theory_verdicts.specs.HandPlan.{line_answer, entered}
 
 -- ---- line by line
 

@@ -1,23 +1,13 @@
 -- When a pair is given on an earlier line of a plan drawn by hand: some line before asks for an amount between the same two sites, in either order.
-use Rattle.std.specs.Prelude.{◌≡◌, refl, ◌⊎◌, ◌≢◌, ◌↔◌, length}
-use Rattle.std.proofs.Common.{sym}
-use Rattle.std.proofs.Math.Logic.{inl, inr}
-use mathlib.Core.List.{List, [], ◌∷◌}
-use Prim.Native.Nat.{ℕ, zero, suc, ◌≤◌, ◌<◌}
-use native.Mathlib.Omega.{arith}
-use Rattle.lists.specs.Numbers.{less}
-use Rattle.lists.specs.Sums.{pick_same, pick_other, same?}
+use Rattle.std.specs.Prelude.{◌≡◌, ◌⊎◌, length}
+use mathlib.Core.List.{List, []}
+use Prim.Native.Nat.{ℕ, ◌<◌}
 use Rattle.model.specs.Pairing.{lower_first}
-use Rattle.model.specs.Booking.{pair, places_of, same}
+use Rattle.model.specs.Booking.{same}
 use Rattle.model.specs.declared.Pair.{Pair}
 use Rattle.model.specs.declared.Request.{Request}
-use Rattle.model.specs.declared.Request.TheVariants.{Open, GiveUp, Fault}
-use Rattle.theory_log.specs.Pairs.{same-one, same-le}
-use Rattle.theory_log.proofs.Pairs.{same-is}
-use Rattle.theory_log.proofs.Requests.{the_order_of_the_sites_does_not_matter}
+use Rattle.model.specs.declared.Request.TheVariants.{Open}
 use Rattle.theory_log.specs.Logs.{line}
-use Rattle.theory_verdicts.specs.HandPlan.{entered}
-use Rattle.theory_verdicts.specs.Accounts.{drawn}
 
 -- ---- by the entries
 

@@ -1,15 +1,9 @@
 -- Whether a plan drawn by hand is one of the largest: its total is the sum of the trimmed sizes at the ends exactly if no plan that fits, however finely
 -- cut, has a greater total. By the plan of the pairing, which fits and has that sum as its total.
-use Rattle.std.specs.Prelude.{◌≡◌, ◌↔◌, List, ℕ, ◌*◌, ◌≤◌}
-use Rattle.std.proofs.Common.{arith}
+use Rattle.std.specs.Prelude.{List, ℕ, ◌*◌, ◌≤◌}
 use Rattle.lists.specs.Numbers.{look}
-use Rattle.model.specs.Flows.{Links, Tree, Multiflow, Fits, total}
-use Rattle.model.specs.Trimming.{balanced}
-use Rattle.model.specs.Parts.{pair_list_of_parts}
+use Rattle.model.specs.Flows.{Links, Multiflow, Fits, total}
 use Rattle.model.specs.declared.Pair.{Pair}
-use Rattle.theory_trees.proofs.Greatest.{balanced_is_greatest}
-use Rattle.theory_walk.proofs.PartsTheorem.{pair_list_of_parts_is_sound, pair_list_of_parts_has_the_greatest_total}
-use Rattle.theory_verdicts.specs.HandPlan.{largest_total}
 
 -- no plan that fits has a greater total than so many halves: of k parts to a circuit it has at most k times half as many
 abbrev pub NoneGreater : Links → ℕ → (ℕ → ℕ) → List ℕ → ℕ → Type 0

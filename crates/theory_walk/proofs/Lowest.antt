@@ -1,7 +1,7 @@
 -- The lowest inner site: where it is 0 there is none, else it is one, no other is lower, and it goes by which sites are inner alone.
-use Rattle.std.specs.Prelude.{◌≡◌, refl, ◌≢◌, ◌↔◌, ℕ, zero, suc, ◌+◌, ◌≤◌, ◌<◌}
-use Rattle.std.proofs.Common.{sym, ◌∙◌, arith}
-use Rattle.lists.specs.Sums.{pick_same, pick_other, pick_cases, same?}
+use Rattle.std.specs.Prelude.{◌≢◌, ℕ, zero, suc, ◌+◌, ◌≤◌, ◌<◌}
+use Rattle.std.proofs.Common.{arith}
+use Rattle.lists.specs.Sums.{pick_cases, same?}
 use Rattle.model.specs.Pairing.{lowest_inner}
 
 pub lowest_least : (f : ℕ → ℕ) (c m x : ℕ) → c ≤ x → x < c + m → f x ≢ 1 → lowest_inner f c m ≤ x

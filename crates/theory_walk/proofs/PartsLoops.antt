@@ -1,8 +1,6 @@
 -- What loops over the sites and over the links rely on: the pairs grow at the end, and never are there more of them than links.
-use Rattle.std.specs.Prelude.{◌≡◌, length}
-use Rattle.std.proofs.Math.Path.{ap, sym}
-use Rattle.std.proofs.Common.{◌∙◌, add-zero}
-use mathlib.Core.List.{List, ◌++◌, flat_map, append_assoc, append-nil}
+use Rattle.std.specs.Prelude.{length}
+use mathlib.Core.List.{List, ◌++◌, flat_map}
 use Prim.Native.Nat.{ℕ, zero, suc, ◌+◌, ◌≤◌}
 use Rattle.std.proofs.Math.ListN.{length-append}
 use native.Mathlib.Omega.{arith}

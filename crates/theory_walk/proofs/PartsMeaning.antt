@@ -8,15 +8,14 @@ use native.Mathlib.Omega.{arith}
 use Rattle.lists.specs.Numbers.{is, differ}
 use Rattle.lists.specs.Sums.{same?, is_same, is_one, differ-other, differ-le, differ_triangle, product_one}
 use Rattle.model.specs.Flows.{Links, Site, Tree, Route, one, two, at, side, separates}
-use Rattle.model.specs.Parts.{free_pair, OnePart, itself, shared, chained, within, region, member, home, in_part, lowest, root}
+use Rattle.model.specs.Parts.{free_pair, itself, within, region, member, home, lowest, root}
 use Rattle.model.specs.declared.Pair.{Pair}
 use Rattle.theory_trees.specs.Trees.{separates-same, separates_comm, separates_triple, at_first, at_second, at-end, loopless, local_one}
 use Rattle.theory_trees.specs.Sites.{at-site}
-use Rattle.theory_trees.specs.TerminalCuts.{kept_induct}
 use Rattle.theory_trees.specs.Between.{kept-between}
 use Rattle.theory_trees.specs.FreePairs.{free_iff_route}
 use Rattle.theory_walk.proofs.Lowest.{lowest_least}
-use Rattle.theory_walk.specs.Regions.{differ-one, link-side, link_parts, member_in, member_inner, home_at, home-region, not_within, region-side}
+use Rattle.theory_walk.specs.Regions.{differ-one, link-side, link_parts, member_in, member_inner, home_at, home-region, region-side}
 use Rattle.theory_walk.specs.Regions.{root_inner, low-is}
 use Rattle.theory_walk.specs.PartsMeaning.{AtOnePart, one_part_iff_one_region}
 

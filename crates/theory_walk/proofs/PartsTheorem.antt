@@ -1,30 +1,21 @@
 -- The theorems of the pairing on parts, for any tree, any terminals and balanced capacities t; nothing of trimming is used but that no link is heavy.
-use Rattle.std.specs.Prelude.{◌≡◌, refl, ◌≢◌, length}
+use Rattle.std.specs.Prelude.{◌≡◌}
 use Rattle.std.proofs.Common.{sym, ◌∙◌, arith}
-use mathlib.Core.List.{List, [], ◌∷◌, ◌++◌, flat_map}
-use Prim.Native.Nat.{ℕ, zero, suc, ◌+◌, ◌*◌, ◌≤◌, ◌<◌}
-use Rattle.lists.specs.Numbers.{is, over, upfrom, Each}
-use Rattle.lists.specs.Sums.{pick_cases}
-use Rattle.lists.specs.Tallies.{each_map, each_append, each_both}
-use Rattle.model.specs.Flows.{Links, Site, sites, one, two, sum_at, Tree, Route, Multiflow, Fits, total}
+use mathlib.Core.List.{List, []}
+use Prim.Native.Nat.{ℕ, ◌*◌, ◌≤◌, ◌<◌}
+use Rattle.lists.specs.Numbers.{is, over, Each}
+use Rattle.lists.specs.Tallies.{each_map, each_both}
+use Rattle.model.specs.Flows.{Links, sites, Tree, Route, Multiflow, Fits, total}
 use Rattle.model.specs.Trimming.{Balanced, Greatest}
-use Rattle.model.specs.Pairing.{put, give, walk, pairs_from, ordered}
+use Rattle.model.specs.Pairing.{ordered}
 use Rattle.model.specs.Cuts.{cut_size}
-use Rattle.model.specs.Parts.{free_pair, single, region, in_part, root, pairs_of_part, pair_of_link, pairs_of_parts, pair_list_of_parts}
+use Rattle.model.specs.Parts.{free_pair, pairs_of_parts, pair_list_of_parts}
 use Rattle.model.specs.declared.Pair.{Pair}
-use Rattle.theory_trees.specs.Sites.{sites-site}
 use Rattle.theory_trees.proofs.TerminalCuts.{cut_sizes_sum_to_the_terminals}
 use Rattle.theory_trees.specs.FreePairs.{free_iff_route}
 use Rattle.theory_trees.proofs.Bounds.{a_full_multiflow_has_the_greatest_total}
 use Rattle.theory_walk.specs.Sound.{Sound, Ascending}
-use Rattle.theory_walk.specs.Order.{sound_same, same-each, ordered_same, ordered-lower, ordered_ascending}
-use Rattle.theory_walk.specs.Evens.{Even, EvenPair, even_everywhere, root_even}
-use Rattle.theory_walk.specs.Subtrees.{Entered}
-use Rattle.theory_walk.specs.Walk.{size-le, walk_fuel}
-use Rattle.theory_walk.specs.Bounds.{loads_bound_amounts}
-use Rattle.theory_walk.specs.Regions.{position, one-part}
-use Rattle.theory_walk.specs.Shares.{covers_both, covers_each, covers_sound}
-use Rattle.theory_walk.specs.PartCovers.{link_covers, root_covers}
+use Rattle.theory_walk.specs.Order.{sound_same, ordered_same, ordered-lower, ordered_ascending}
 use Rattle.theory_walk.specs.PartsTheorem.{pairs_of_parts_are_sound}
 
 module _ {ls : Links} {n : ℕ} (T : Tree ls n) (terminal t : ℕ → ℕ) where

@@ -1,19 +1,16 @@
 -- What code that keeps the lists in arrays relies on: no amount is 0, none is greater than what was sent,
 -- and no list is longer than there are sites below.
-use Rattle.std.specs.Prelude.{◌≡◌, ◌≢◌, List, [], ◌∷◌, ℕ, zero, suc, ◌+◌, ◌-◌, ◌*◌, ◌≤◌, ◌<◌, min, length}
+use Rattle.std.specs.Prelude.{◌≡◌, ◌≢◌, List, [], ◌∷◌, ℕ, suc, ◌+◌, ◌-◌, ◌*◌, ◌≤◌, ◌<◌, min, length}
 use Rattle.std.proofs.Common.{sym, inl, arith}
 use Rattle.lists.specs.Numbers.{Each}
 use Rattle.model.specs.Flows.{Links, Site, sum_at, separates, Tree, Route, load}
 use Rattle.model.specs.Trimming.{Balanced}
-use Rattle.model.specs.Pairing.{Halves, Part, take_halves, drop_halves, halves, match, children, gather, alone, settle, walk}
+use Rattle.model.specs.Pairing.{Halves, Part, halves, children, gather, walk}
 use Rattle.model.specs.declared.Pair.{Pair}
-use Rattle.lists.specs.Sums.{pick_cases}
 use Rattle.theory_trees.specs.Trees.{local_one}
-use Rattle.lists.specs.Tallies.{each_all, each_map, each_both, each_append}
-use Rattle.theory_walk.specs.Halves.{put-filled, thinned_filled, take_thins, drop_thins}
-use Rattle.theory_walk.specs.Match.{Matched, match-each}
+use Rattle.lists.specs.Tallies.{each_both}
 use Rattle.theory_walk.specs.Children.{size, size-children}
-use Rattle.theory_walk.specs.Handed.{All, all_nothing, Good, entries, sends, gather-all}
+use Rattle.theory_walk.specs.Handed.{All, Good, entries}
 use Rattle.theory_walk.specs.Gather.{gather_few}
 use Rattle.theory_walk.specs.Settle.{ups_are, downs_are}
 use Rattle.theory_walk.specs.Walk.{Start, start-entered, node, inner, walk_good}

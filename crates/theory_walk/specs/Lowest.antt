@@ -1,7 +1,7 @@
 -- The lowest inner site: where it is 0 there is none, else it is one, no other is lower, and it goes by which sites are inner alone.
 use Rattle.std.specs.Prelude.{◌≡◌, refl, ◌≢◌, ◌↔◌, ℕ, zero, suc, ◌+◌, ◌≤◌, ◌<◌}
 use Rattle.std.proofs.Common.{sym, ◌∙◌, arith}
-use Rattle.lists.specs.Sums.{pick_same, pick_other, pick_cases, same?}
+use Rattle.lists.specs.Sums.{pick_same, pick_other, same?}
 use Rattle.model.specs.Pairing.{lowest_inner}
 
 pub lowest-none : (f : ℕ → ℕ) (c m : ℕ) → 1 ≤ c → lowest_inner f c m ≡ 0 → (x : ℕ) → c ≤ x → x < c + m → f x ≡ 1

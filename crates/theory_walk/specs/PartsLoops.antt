@@ -1,17 +1,12 @@
 -- What loops over the sites and over the links rely on: the pairs grow at the end, and never are there more of them than links.
-use Rattle.std.specs.Prelude.{◌≡◌, length}
+use Rattle.std.specs.Prelude.{◌≡◌}
 use Rattle.std.proofs.Math.Path.{ap, sym}
 use Rattle.std.proofs.Common.{◌∙◌, add-zero}
 use mathlib.Core.List.{List, ◌++◌, flat_map, append_assoc, append-nil}
-use Prim.Native.Nat.{ℕ, zero, suc, ◌+◌, ◌≤◌}
-use Rattle.std.proofs.Math.ListN.{length-append}
+use Prim.Native.Nat.{ℕ, zero, suc, ◌+◌}
 use native.Mathlib.Omega.{arith}
 use Rattle.lists.specs.Numbers.{upfrom}
-use Rattle.model.specs.Flows.{Links, sites, Tree}
-use Rattle.model.specs.Trimming.{Balanced}
-use Rattle.model.specs.Parts.{pairs_of_part, pair_of_link, pairs_of_parts}
 use Rattle.model.specs.declared.Pair.{Pair}
-use Rattle.theory_walk.specs.PartsTheorem.{pairs_of_parts_are_sound}
 
 module _ (f : ℕ → List Pair) where
   -- one number more: its list at the end

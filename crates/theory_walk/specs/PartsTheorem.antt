@@ -2,24 +2,20 @@
 -- Each link is in just one part, so what the parts cover adds up (Shares). `Sound` (its own file) is what document 01 says of the pairs; the induction
 -- behind it is `Good` (Handed).
 use Rattle.std.specs.Prelude.{◌≡◌, refl, ◌≢◌, length}
-use Rattle.std.proofs.Common.{sym, ◌∙◌, arith}
+use Rattle.std.proofs.Common.{arith}
 use mathlib.Core.List.{List, [], ◌∷◌, ◌++◌, flat_map}
 use Prim.Native.Nat.{ℕ, zero, suc, ◌+◌, ◌*◌, ◌≤◌, ◌<◌}
 use Rattle.lists.specs.Numbers.{is, over, upfrom, Each}
 use Rattle.lists.specs.Sums.{pick_cases}
-use Rattle.lists.specs.Tallies.{each_map, each_append, each_both}
-use Rattle.model.specs.Flows.{Links, Site, sites, one, two, sum_at, Tree, Route, Multiflow, Fits, total}
-use Rattle.model.specs.Trimming.{Balanced, Greatest}
-use Rattle.model.specs.Pairing.{put, give, walk, pairs_from, ordered}
-use Rattle.model.specs.Cuts.{cut_size}
-use Rattle.model.specs.Parts.{free_pair, single, region, in_part, root, pairs_of_part, pair_of_link, pairs_of_parts, pair_list_of_parts}
+use Rattle.lists.specs.Tallies.{each_append}
+use Rattle.model.specs.Flows.{Links, Site, sites, one, two, sum_at, Tree}
+use Rattle.model.specs.Trimming.{Balanced}
+use Rattle.model.specs.Pairing.{put, give, walk, pairs_from}
+use Rattle.model.specs.Parts.{single, region, in_part, root, pairs_of_part, pair_of_link, pairs_of_parts, pair_list_of_parts}
 use Rattle.model.specs.declared.Pair.{Pair}
 use Rattle.theory_trees.specs.Sites.{sites-site}
-use Rattle.theory_trees.proofs.TerminalCuts.{cut_sizes_sum_to_the_terminals}
-use Rattle.theory_trees.specs.FreePairs.{free_iff_route}
-use Rattle.theory_trees.proofs.Bounds.{a_full_multiflow_has_the_greatest_total}
-use Rattle.theory_walk.specs.Sound.{Sound, Ascending}
-use Rattle.theory_walk.specs.Order.{sound_same, same-each, ordered_same, ordered-lower, ordered_ascending}
+use Rattle.theory_walk.specs.Sound.{Sound}
+use Rattle.theory_walk.specs.Order.{same-each, ordered_same}
 use Rattle.theory_walk.specs.Evens.{Even, EvenPair, even_everywhere, root_even}
 use Rattle.theory_walk.specs.Subtrees.{Entered}
 use Rattle.theory_walk.specs.Walk.{size-le, walk_fuel}

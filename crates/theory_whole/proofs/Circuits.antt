@@ -1,14 +1,14 @@
 -- Plans in whole circuits on a tree: what is promised of the loads and the sets that are taken, and of the pairs of such loads.
-use Rattle.std.specs.Prelude.{◌≡◌, ◌≢◌, List, ℕ, ◌+◌, ◌*◌, ◌≤◌, ◌<◌, length}
+use Rattle.std.specs.Prelude.{◌≡◌, ◌≢◌, List, ℕ, ◌*◌, ◌≤◌, ◌<◌, length}
 use Rattle.std.proofs.Common.{sym}
 use Rattle.std.proofs.Math.Logic.{inl, inr}
 use native.Mathlib.Omega.{arith}
 use Rattle.lists.specs.Numbers.{count, over, Each}
 use Rattle.lists.specs.Sums.{is_same, same?, sum_ge}
-use Rattle.model.specs.Flows.{Links, Site, Tree, at, sum_at, leaf, total, at_terminals}
+use Rattle.model.specs.Flows.{Links, Site, Tree, at, sum_at, leaf}
 use Rattle.model.specs.Trimming.{elimination}
 use Rattle.model.specs.Parts.{pair_list_of_parts}
-use Rattle.model.specs.Whole.{Even, WholePlan, LargestWhole, set_sizes, odd_pieces}
+use Rattle.model.specs.Whole.{Even, LargestWhole, odd_pieces}
 use Rattle.model.specs.WholeLoads.{parent_of, above, no_intervals, take_all, intervals, loading, whole_load, whole_owner}
 use Rattle.model.specs.declared.Pair.{Pair}
 use Rattle.theory_trees.specs.Trees.{local_one}

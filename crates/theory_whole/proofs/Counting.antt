@@ -1,7 +1,6 @@
 -- The odd pieces counted along the order of the sites: a piece is counted at its first site, seen from the root.
 use Rattle.std.specs.Prelude.{◌≡◌, ◌≢◌, ℕ, ◌+◌, ◌%◌}
 use Rattle.std.proofs.Common.{arith}
-use Rattle.lists.specs.Numbers.{pick}
 use Rattle.lists.specs.Sums.{pick_same, pick_other}
 use Rattle.theory_whole.specs.Counting.{odd_at}
 

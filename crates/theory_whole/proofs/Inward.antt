@@ -1,19 +1,10 @@
 -- The way inward: what is kept while the sites are taken one by one, and what holds of the intervals in the end. By an invariant: every site that is
-use Rattle.std.specs.Prelude.{◌≡◌, ◌≢◌, ◌⊎◌, ℕ, ◌+◌, ◌*◌, ◌-◌, ◌%◌, ◌≤◌, ◌<◌, min, max, length, get_or, set}
-use Rattle.std.proofs.Math.Path.{refl, sym, ap, ap₂, fun_ext}
+use Rattle.std.specs.Prelude.{◌≡◌, ℕ, ◌-◌, ◌<◌, length, get_or, set}
+use Rattle.std.proofs.Math.Path.{sym, fun_ext}
 use Rattle.std.proofs.Common.{◌∙◌, get_or-set_same, get_or-set_other}
-use Rattle.std.proofs.Math.Logic.{inl, inr, ite, if_pos, if_neg}
-use mathlib.Core.List.{List, [], ◌∷◌}
-use native.Mathlib.Omega.{arith}
-use Rattle.std.proofs.Math.Decide.{dec_lt}
-use Rattle.lists.specs.Numbers.{pick, count}
-use Rattle.lists.specs.Sums.{pick_same, pick_other, pick_const, is_same, is-other, same?, cases}
-use Rattle.model.specs.WholeLoads.{put, lowest, highest, Intervals, no_intervals, new_top, least_at, take, take_all}
-use Rattle.theory_whole.specs.Numbers.{Link}
-use Rattle.theory_whole.specs.Rooted.{children, Child, children-eq, children_eq_but, children-none, Rooted}
-use Rattle.theory_whole.specs.Order.{Taken, Plain, place, rooted}
-use Rattle.theory_whole.specs.Loads.{Inwards}
-use Rattle.theory_whole.specs.Sets.{Chains}
+use mathlib.Core.List.{List, []}
+use Rattle.lists.specs.Sums.{same?}
+use Rattle.model.specs.WholeLoads.{put}
 use Rattle.theory_whole.specs.Inward.{put_other, put_same}
 
 -- a list that is written into is such an array

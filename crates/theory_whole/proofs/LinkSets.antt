@@ -7,20 +7,20 @@ use Rattle.lists.specs.Numbers.{pick, is, differ, sum, count, over}
 use Rattle.lists.specs.Sums.{pick_same, pick_other, pick_const, is_same, is-other, is_iff, same?, differ_comm, sum-eq}
 use Rattle.lists.specs.Places.{over-eq}
 use Rattle.model.specs.Flows.{Links, Site, sites, one, two, at, at_terminals}
-use Rattle.model.specs.Whole.{EndSets, set_size as linkSetSize, connects, piece, in_piece, leaving_piece, set_sizes, odd_pieces}
+use Rattle.model.specs.Whole.{set_size as linkSetSize, connects, piece, in_piece, leaving_piece, set_sizes, odd_pieces}
 use Rattle.model.specs.WholeLoads.{upward, parent_of, link_load}
 use Rattle.theory_trees.specs.Trees.{at-end}
 use Rattle.theory_trees.specs.Sites.{sites-site, sites_once}
 use Rattle.theory_whole.specs.Sums.{over-same, choices}
-use Rattle.theory_whole.specs.Rooted.{Rooted, parent_first}
-use Rattle.theory_whole.specs.Order.{Plain, place, rooted, back, back_out, back_fixed}
+use Rattle.theory_whole.specs.Rooted.{parent_first}
+use Rattle.theory_whole.specs.Order.{back, back_out, back_fixed}
 use Rattle.theory_whole.specs.Counting.{odd_at}
 use Rattle.theory_whole.specs.Sets.{set_size}
 use Rattle.theory_whole.specs.Pieces.{Firsts, member, leaving, rep_site, rep_rep}
-use Rattle.theory_whole.specs.Solution.{Solution, solution_own, solution_owner}
+use Rattle.theory_whole.specs.Solution.{Solution}
 use Rattle.theory_whole.proofs.Solution.{solution_sizes, solution_odd}
 use Rattle.theory_whole.specs.Connected.{connects-one, connects_yes, piece_agree, piece-linked, piece-piece, piece-owner}
-use Rattle.theory_whole.specs.Plans.{Network, lower, plain, largest-total, in_site, site_in_lem, root_free, one-above, by_link, climbs}
+use Rattle.theory_whole.specs.Plans.{Network, lower, largest-total, in_site, site_in_lem, root_free, one-above, by_link, climbs}
 use Rattle.theory_whole.specs.LinkSets.{up, par, owner, H, R}
 
 module _ {ls : Links} {n : ℕ} {terminal : ℕ → ℕ} {order : List ℕ} (N : Network ls n terminal order) (cap : ℕ → ℕ)

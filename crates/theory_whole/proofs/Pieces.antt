@@ -11,12 +11,12 @@ use Rattle.lists.specs.Sums.{is_same, is-other, is_iff, same?, cases, differ_sam
 use Rattle.lists.specs.Places.{over_add, over-eq, over-is}
 use Rattle.theory_whole.specs.Sums.{over_none, over_even}
 use Rattle.theory_whole.specs.Numbers.{interval_open, interval_whole, interval_closed}
-use Rattle.theory_whole.specs.Rooted.{children, Child, Rooted, parent_first}
+use Rattle.theory_whole.specs.Rooted.{children, Child, Rooted}
 use Rattle.theory_whole.specs.Loads.{Inwards, fine}
 use Rattle.theory_whole.specs.Sets.{Choice, path, Chains, Owners, on_yes, on_end, goal_end, path_off, site-zero}
 use Rattle.theory_whole.specs.Counting.{odd_at}
 use Rattle.theory_whole.proofs.Counting.{odd_owned, odd_up, odd_zero, odd_more}
-use Rattle.theory_whole.specs.Pieces.{Firsts, member, leaving, joins, First, firsts}
+use Rattle.theory_whole.specs.Pieces.{Firsts, member, leaving, joins, firsts}
 
 module _ {us : List ℕ} {par pos : ℕ → ℕ} (R : Rooted us par pos) {c term A B a b top : ℕ → ℕ} (I : Inwards us par c term A B a b top)
     {goal owner on : ℕ → ℕ} (D : Chains us par c term A top goal) (O : Owners us par c term A B top goal owner on)

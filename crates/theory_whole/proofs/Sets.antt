@@ -5,8 +5,8 @@ use Rattle.std.proofs.Common.{◌∙◌}
 use Rattle.std.proofs.Math.Logic.{inl, inr}
 use Prim.Native.Nat.{ℕ, ◌+◌, ◌*◌, ◌≤◌, ◌<◌}
 use native.Mathlib.Omega.{arith}
-use Rattle.lists.specs.Numbers.{pick, is, differ, count, over}
-use Rattle.lists.specs.Sums.{pick_same, pick_other, pick_cases, is_same, is-other, is_le, is_iff, same?, differ_same, differ-other}
+use Rattle.lists.specs.Numbers.{is, differ, count, over}
+use Rattle.lists.specs.Sums.{pick_same, pick_cases, is_same, is-other, is_le, is_iff, same?, differ_same, differ-other}
 use Rattle.lists.specs.Places.{over_add, over-mul, over-eq, over-is}
 use Rattle.theory_whole.specs.Numbers.{interval_whole, interval_closed, interval_site, free_up, free_zero, free_more}
 use Rattle.theory_whole.specs.Sums.{over_none, turn}

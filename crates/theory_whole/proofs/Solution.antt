@@ -1,10 +1,9 @@
 -- All that the two ways along the order find, and what holds of it: nothing matters but the equations of four records. Letters as in Loads.
-use Rattle.std.specs.Prelude.{◌≡◌, ◌⊎◌, List, ℕ, ◌+◌, ◌*◌, ◌%◌, ◌≤◌}
-use Rattle.std.proofs.Common.{inl}
-use Rattle.lists.specs.Numbers.{is, count, over}
+use Rattle.std.specs.Prelude.{◌≡◌, List, ℕ, ◌+◌, ◌*◌, ◌%◌}
+use Rattle.lists.specs.Numbers.{is, over}
 use Rattle.theory_whole.specs.Rooted.{Rooted}
-use Rattle.theory_whole.specs.Loads.{Good, at_ends, Inwards, Outwards, load_good, load-best}
-use Rattle.theory_whole.specs.Sets.{Chains, Owners, set_size, own, owner-end}
+use Rattle.theory_whole.specs.Loads.{at_ends}
+use Rattle.theory_whole.specs.Sets.{set_size}
 use Rattle.theory_whole.proofs.Sets.{sizes-total}
 use Rattle.theory_whole.specs.Counting.{odd_at}
 use Rattle.theory_whole.specs.Pieces.{Firsts, leaving}

@@ -1,8 +1,6 @@
 -- The odd pieces counted along the order of the sites: a piece is counted at its first site, seen from the root.
-use Rattle.std.specs.Prelude.{◌≡◌, ◌≢◌, ℕ, ◌+◌, ◌%◌}
-use Rattle.std.proofs.Common.{arith}
+use Rattle.std.specs.Prelude.{ℕ, ◌+◌, ◌%◌}
 use Rattle.lists.specs.Numbers.{pick}
-use Rattle.lists.specs.Sums.{pick_same, pick_other}
 
 module _ (parent c most owner : ℕ → ℕ) where
   -- 1 at a site in no set whose parent is in a set or whose link to the parent has capacity 0, where `most` and that capacity sum to an odd number;

@@ -13,13 +13,12 @@ use Rattle.lists.specs.Numbers.{is, differ, sum, count, over}
 use Rattle.lists.specs.Sums.{is_same, is-other, is_one, is_le, same?, differ_same, differ-other, sum-add, sum-mul, sum-eq, sum-le, sum-single}
 use Rattle.lists.specs.Places.{over_add, over-eq, over-le, over-is}
 use Rattle.model.specs.Flows.{Links, Site, Tree, Route, Multiflow, sites, one, two, sum_at, side, separates, load, total}
-use Rattle.model.specs.Whole.{WholePlan, WholeLoads, EndSets, set_size, piece, in_piece, leaving_piece, set_sizes, odd_pieces}
+use Rattle.model.specs.Whole.{WholeLoads, EndSets, set_size, piece, in_piece, leaving_piece, set_sizes, odd_pieces}
 use Rattle.model.specs.declared.Pair.{Pair}
 use Rattle.theory_trees.specs.Trees.{all_agree, side-link, separates_self, far-one}
 use Rattle.theory_trees.specs.Sites.{sites_once, sites-site, sites-single, by_link}
 use Rattle.theory_whole.specs.Sums.{over_none, over_even, over_ge, over-two, over-links, sum_even, sum-zero}
 use Rattle.theory_whole.specs.Connected.{connects-one, piece-linked}
-use Rattle.theory_whole.specs.PlanLoads.{halved}
 
 -- ---- tests
 

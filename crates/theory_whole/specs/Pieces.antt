@@ -1,21 +1,15 @@
 -- Odd pieces are counted at their first sites, seen from the root: B and c there have the parity of the links that leave the piece. By adding up B over the
 -- sites of a piece: below a site in no set, the high b of a child has the parity of its B or of its c. Letters as in Loads.
-use Rattle.std.specs.Prelude.{◌≡◌, ◌≢◌, ◌⊎◌}
-use Rattle.std.proofs.Math.Path.{refl, sym, ap}
-use Rattle.std.proofs.Common.{◌∙◌, inl, inr}
-use mathlib.Core.List.{List, [], ◌∷◌}
-use Prim.Native.Nat.{ℕ, ◌+◌, ◌*◌, ◌%◌, ◌≤◌}
+use Rattle.std.specs.Prelude.{◌≡◌, ◌≢◌}
+use Rattle.std.proofs.Math.Path.{ap}
+use mathlib.Core.List.{List, []}
+use Prim.Native.Nat.{ℕ, ◌*◌, ◌≤◌}
 use native.Mathlib.Omega.{arith}
-use Rattle.std.proofs.Math.Decide.{dec_le}
 use Rattle.lists.specs.Numbers.{is, differ, count, over}
-use Rattle.lists.specs.Sums.{is_same, is-other, is_iff, same?, cases, differ_same, differ-other}
-use Rattle.lists.specs.Places.{over_add, over-eq, over-is}
-use Rattle.theory_whole.specs.Sums.{over_none, over_even}
-use Rattle.theory_whole.specs.Numbers.{interval_open, interval_whole, interval_closed}
-use Rattle.theory_whole.specs.Rooted.{children, Child, Rooted, parent_first}
-use Rattle.theory_whole.specs.Loads.{Inwards, fine}
-use Rattle.theory_whole.specs.Sets.{Choice, path, Chains, Owners, on_yes, on_end, goal_end, path_off, site-zero}
-use Rattle.theory_whole.specs.Counting.{odd_at}
+use Rattle.lists.specs.Sums.{same?}
+use Rattle.theory_whole.specs.Rooted.{Rooted, parent_first}
+use Rattle.theory_whole.specs.Loads.{Inwards}
+use Rattle.theory_whole.specs.Sets.{Chains, Owners}
 
 module _ (us : List ℕ) (par c owner : ℕ → ℕ) where
   -- the first site of v's piece; a site in a set stands for itself

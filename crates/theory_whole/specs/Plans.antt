@@ -11,12 +11,11 @@ use Rattle.lists.specs.Numbers.{is, sum, count, over}
 use Rattle.lists.specs.Sums.{is_same, is-other, is_one, same?, sum-none, sum-eq, sum_eq_but}
 use Rattle.lists.specs.Places.{over-eq}
 use Rattle.model.specs.Flows.{Links, Site, Tree, sites, one, two, at, sum_at, at_terminals}
-use Rattle.model.specs.Trimming.{unvisited, Inward, elimination}
+use Rattle.model.specs.Trimming.{unvisited, Inward}
 use Rattle.model.specs.Whole.{WholeLoads}
 use Rattle.model.specs.WholeLoads.{beyond, upward, parent_of, link_load}
 use Rattle.theory_trees.specs.Trees.{at-end, loopless}
 use Rattle.theory_trees.specs.Sites.{at-site, sites-site, sites_once, sum_at-same}
-use Rattle.theory_trees.proofs.Orders.{elimination_is_inward, elimination_takes_only_sites}
 use Rattle.theory_whole.specs.Sums.{over_none, over_le_but, over_only, over-same}
 use Rattle.theory_whole.specs.Rooted.{children, children-eq, Child, Rooted}
 use Rattle.theory_whole.specs.Order.{Plain, place, rooted}

@@ -1,20 +1,14 @@
 -- Disjoint sets, one for each terminal, whose sizes less the odd pieces are what the loads bring to the terminals. By adding up, children first, what the
 -- links below a site leave of sets: three cases by how the set of the parent goes on. Letters as in Loads; goal: where the children `top` lead.
 use Rattle.std.specs.Prelude.{◌≡◌, ◌≢◌, ◌⊎◌, List}
-use Rattle.std.proofs.Math.Path.{refl, sym, ap}
 use Rattle.std.proofs.Common.{◌∙◌}
 use Rattle.std.proofs.Math.Logic.{inl, inr}
 use Prim.Native.Nat.{ℕ, ◌+◌, ◌*◌, ◌≤◌, ◌<◌}
 use native.Mathlib.Omega.{arith}
 use Rattle.lists.specs.Numbers.{pick, is, differ, count, over}
-use Rattle.lists.specs.Sums.{pick_same, pick_other, pick_cases, is_same, is-other, is_le, is_iff, same?, differ_same, differ-other}
-use Rattle.lists.specs.Places.{over_add, over-mul, over-eq, over-is}
-use Rattle.theory_whole.specs.Numbers.{interval_whole, interval_closed, interval_site, free_up, free_zero, free_more}
-use Rattle.theory_whole.specs.Sums.{over_none, turn}
-use Rattle.theory_whole.specs.Rooted.{children, Child, children-add, children-eq, children_eq_but}
-use Rattle.theory_whole.specs.Rooted.{tree-sum, Rooted, children-first, parent_first, gather}
-use Rattle.theory_whole.specs.Counting.{odd_at}
-use Rattle.theory_whole.specs.Loads.{Inwards, Outwards, Bases, fine, top-le, at_ends, bases, reached}
+use Rattle.lists.specs.Sums.{pick_other, same?}
+use Rattle.theory_whole.specs.Rooted.{Rooted, children-first, parent_first}
+use Rattle.theory_whole.specs.Loads.{Inwards}
 
 -- what is decided at a site: it starts or goes on with a set, it keeps its parent's set, or it is in no set
 pub data Choice (A B c path up goal owner on : ℕ) : Type 0 where

@@ -1,12 +1,10 @@
 -- All that the two ways along the order find, and what holds of it: nothing matters but the equations of four records. Letters as in Loads.
-use Rattle.std.specs.Prelude.{◌≡◌, ◌⊎◌, List, ℕ, ◌+◌, ◌*◌, ◌%◌, ◌≤◌}
+use Rattle.std.specs.Prelude.{◌≡◌, ◌⊎◌, List, ℕ, ◌≤◌}
 use Rattle.std.proofs.Common.{inl}
-use Rattle.lists.specs.Numbers.{is, count, over}
+use Rattle.lists.specs.Numbers.{count}
 use Rattle.theory_whole.specs.Rooted.{Rooted}
 use Rattle.theory_whole.specs.Loads.{Good, at_ends, Inwards, Outwards, load_good, load-best}
-use Rattle.theory_whole.specs.Sets.{Chains, Owners, set_size, own, owner-end}
-use Rattle.theory_whole.specs.Counting.{odd_at}
-use Rattle.theory_whole.specs.Pieces.{Firsts, leaving}
+use Rattle.theory_whole.specs.Sets.{Chains, Owners, own, owner-end}
 
 pub record Solution (us : List ℕ) (par c term : ℕ → ℕ) : Type 0 where
   pub A : ℕ → ℕ

@@ -3,7 +3,7 @@
 -- Over the bytes: the plan text is the lines of the report with the letter `P`.
 use Rattle.std.specs.Prelude.{true, ◌≡◌, ◌↔◌, ℕ, ◌-◌, ◌*◌, ◌≤◌, eqb, length}
 use Rattle.std.proofs.Math.Path.{refl, ap}
-use Rattle.std.proofs.Common.{sym, ◌∙◌, arith}
+use Rattle.std.proofs.Common.{◌∙◌, arith}
 use mathlib.Core.List.{List, [], ◌∷◌, ◌++◌, map}
 use borrow.Author.Tests.{le-leb, eq-eqb, eqb-true}
 use Rattle.std.proofs.Math.ListN.{length-append}
@@ -14,7 +14,7 @@ use Rattle.lists.specs.Tallies.{each_both}
 use Rattle.model.specs.Limits.{PLANLINES, PLANBYTES, SIZE}
 use Rattle.model.specs.Edition.{editions}
 use Rattle.model.specs.Text.{bytes}
-use Rattle.model.specs.Flows.{Links, Route, Multiflow, Fits, load, sites, total}
+use Rattle.model.specs.Flows.{Route, Fits, load, sites, total}
 use Rattle.model.specs.Booking.{places_of}
 use Rattle.model.specs.declared.Pair.{Pair}
 use Rattle.model.specs.declared.Request.TheVariants.{Open}

@@ -1,18 +1,16 @@
 -- The `P` lines of a report, taken as a plan text over the same sheet: they ask for the pairs of the report, one by one.
 -- Each line reads back as its pair: its names lead to its sites, which are two ends free to be joined, and its decimal to its amount.
-use Rattle.std.specs.Prelude.{Bool, false, ◌≡◌, ◌≢◌, ℕ, suc, ◌+◌, ◌-◌, ◌*◌, ◌≤◌, ◌<◌, length, drop}
+use Rattle.std.specs.Prelude.{false, ◌≡◌, ℕ, ◌+◌, ◌-◌, ◌≤◌, length, drop}
 use Rattle.std.proofs.Math.Bool.{true}
 use Rattle.std.proofs.Math.Path.{refl, ap, ap₂}
-use Rattle.std.proofs.Common.{sym, ◌∙◌, arith, length-drop}
+use Rattle.std.proofs.Common.{◌∙◌, arith, length-drop}
 use mathlib.Core.List.{List, [], ◌∷◌, ◌++◌, map}
-use Rattle.lists.specs.Numbers.{look, Each}
-use Rattle.lists.specs.Sums.{contradiction}
+use Rattle.lists.specs.Numbers.{Each}
 use Rattle.model.specs.Limits.{AMOUNT}
 use Rattle.model.specs.Text.{bytes}
 use Rattle.model.specs.Flows.{Site, Route}
 use Rattle.model.specs.declared.Edition.{Edition}
 use Rattle.model.specs.declared.Pair.{Pair}
-use Rattle.model.specs.declared.Request.{Request}
 use Rattle.model.specs.declared.Request.TheVariants.{Open}
 use Rattle.theory_trees.specs.FreePairs.{free_iff_route}
 use Rattle.text_lines.specs.Lines.{line_at, after_line}
@@ -38,7 +36,7 @@ use Rattle.log_requests.specs.RequestLaws.{after-within, lines_end, lines_step, 
 use Rattle.log_requests.specs.TwoEnds.{Asking}
 use Rattle.log_requests.specs.TwoEnds as two
 use Rattle.log_requests.proofs.TwoEnds as two_laws
-use Rattle.verdict_demands.specs.Offsets.{joined, fields_of_joined, a-line-is-there, the_line_is_joined, the_line_is_ended, what_follows}
+use Rattle.verdict_demands.specs.Offsets.{fields_of_joined, a-line-is-there, the_line_is_joined, the_line_is_ended, what_follows}
 use Rattle.verdict_demands.specs.Decimals.{a-decimal-is-a-number}
 
 -- the fields of a `P` line

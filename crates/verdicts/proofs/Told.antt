@@ -1,5 +1,5 @@
 -- What judging tells, for every sheet and every plan: each number for its cause and for no other; an accepted plan is a plan that fits, with its total, and yes
-use Rattle.std.specs.Prelude.{true, ◌≡◌, ◌⊎◌, ◌≢◌, ◌↔◌, ℕ, ◌+◌, ◌*◌, ◌≤◌, ◌<◌, eqb}
+use Rattle.std.specs.Prelude.{true, ◌≡◌, ◌≢◌, ℕ, ◌*◌, ◌≤◌, ◌<◌, eqb}
 use Rattle.std.proofs.Math.Path.{refl, ap}
 use Rattle.std.proofs.Common.{◌∙◌, inl, inr}
 use mathlib.Core.List.{List, []}
@@ -10,32 +10,24 @@ use Rattle.std.proofs.Math.ListN.{length}
 use Rattle.lists.specs.Numbers.{look}
 use Rattle.lists.specs.Sums.{cases, same?, pick_same, pick_other}
 use Rattle.model.specs.Limits.{AMOUNT, PLANLINES, PLANBYTES}
-use Rattle.model.specs.Flows.{Links, Multiflow, Fits, load, total}
-use Rattle.model.specs.Booking.{places_of}
+use Rattle.model.specs.Flows.{Links, load, total}
 use Rattle.model.specs.declared.Edition.{Edition}
-use Rattle.model.specs.declared.Pair.{Pair}
 use Rattle.theory_verdicts.specs.HandPlan.{entries, account, overloaded, largest_total}
-use Rattle.theory_verdicts.specs.Accounts.{Lowest, drawn, Drawn}
+use Rattle.theory_verdicts.specs.Accounts.{Lowest, Drawn}
 use Rattle.theory_verdicts.proofs.Accounts.{no_entries, a_lowest_faulty_line_or_none, the_lowest_faulty_line_decides}
 use Rattle.theory_verdicts.proofs.Accounts.{lines_without_a_fault_are_entered, all_entries_are_drawn, drawn_is_a_multiflow, entries_are_few, total_is_limited}
-use Rattle.theory_verdicts.specs.Loads.{Overloaded}
 use Rattle.theory_verdicts.proofs.Loads.{an_overloaded_link_counts, without_an_overloaded_link_it_fits, what_fits_overloads_nothing}
-use Rattle.theory_verdicts.specs.Largest.{NoneGreater}
 use Rattle.theory_verdicts.proofs.Largest.{a_plan_has_the_largest_total_exactly_if_none_is_greater}
 use Rattle.sheet.specs.Sheet.{Network, Read, refused, accepted, read_sheet, edition_of}
-use Rattle.sheet.specs.Causes.{Refusal}
-use Rattle.sheet.specs.Answers.{SheetNumber}
 use Rattle.sheet.proofs.Answers.{refusals_have_sheet_numbers}
 use Rattle.sheet.specs.SheetTheorem.{a_sheet_is_refused_for_its_cause, an_accepted_sheet_is_a_tree}
 use Rattle.log_requests.specs.Requests.{lines_from, lines, requests, is_end}
 use Rattle.log_requests.specs.RequestLaws.{Free}
 use Rattle.log_requests.proofs.RequestLaws.{the_requests_can_be_asked, the_requests_open_free_pairs_only, as_many_requests_as_lines}
-use Rattle.log_requests.specs.Sheets.{Sheet}
 use Rattle.log_requests.proofs.Sheets.{an_accepted_sheet}
-use Rattle.verdicts.specs.Outcome.{text_of, number, line_of, total_of, yes_of, verdict, judge_over, judge_read, judged}
-use Rattle.verdicts.specs.Causes.{number_at, Cause, a_line_gets_a_number_just_for_its_cause, a_line_gets_0_just_where_no_cause_applies}
-use Rattle.verdicts.specs.declared.Outcome.{Outcome}
-use Rattle.verdicts.specs.declared.Outcome.TheVariants.{Judged, Refused}
+use Rattle.verdicts.specs.Outcome.{verdict, judge_over, judge_read, judged}
+use Rattle.verdicts.specs.Causes.{number_at, a_line_gets_a_number_just_for_its_cause, a_line_gets_0_just_where_no_cause_applies}
+use Rattle.verdicts.specs.declared.Outcome.TheVariants.{Judged}
 use Rattle.verdicts.specs.Told.{plan_drawn, Short, Clean, Accepted, JudgeTold, faulty_sheet, long_plan, faulty_line, accepted_plan, heavy_plan}
 
 module _ (known : List Edition) (s plan : List ℕ) where

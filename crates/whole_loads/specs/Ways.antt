@@ -1,15 +1,15 @@
 -- The ways along the elimination order of a tree, from the parents that are found, are those of the definition: so are loads, owners and odd pieces.
-use Rattle.std.specs.Prelude.{◌≡◌, List, map, ◌++◌, ℕ, ◌*◌, ◌≤◌, ◌<◌, take, drop}
+use Rattle.std.specs.Prelude.{◌≡◌, List, ◌++◌, ℕ, ◌≤◌, ◌<◌, take, drop}
 use Rattle.std.proofs.Math.Path.{refl, sym, ap, fun_ext}
 use Rattle.std.proofs.Common.{◌∙◌, arith}
 use Rattle.std.proofs.Math.ListN.{length}
-use Rattle.model.specs.Limits.{SITES, SIZE}
+use Rattle.model.specs.Limits.{SITES}
 use Rattle.model.specs.Edition.{largest}
-use Rattle.lists.specs.Numbers.{look, over, upfrom}
-use Rattle.model.specs.Flows.{Links, Site}
+use Rattle.lists.specs.Numbers.{look, over}
+use Rattle.model.specs.Flows.{Links}
 use Rattle.model.specs.Trimming.{elimination}
 use Rattle.model.specs.Whole.{odd_pieces}
-use Rattle.model.specs.WholeLoads.{parent_of, above, upward, take_all, give_all, no_intervals, intervals, loading, link_load, whole_load, whole_owner, whole_loads}
+use Rattle.model.specs.WholeLoads.{parent_of, above, upward, intervals, loading, link_load, whole_load, whole_owner, whole_loads}
 use Rattle.theory_trees.specs.Trees.{loopless}
 use Rattle.theory_whole.specs.Counting.{odd_at}
 use Rattle.theory_whole.proofs.Circuits.{odd_pieces_are_counted_at_sites}
@@ -18,9 +18,9 @@ use Rattle.tree.specs.Offer.{links}
 use Rattle.tree.specs.Links.{length-links}
 use Rattle.tree.specs.Places.{filled, same_values}
 use Rattle.whole_notes.specs.declared.Note.{Note}
-use Rattle.whole_notes.specs.Notes.{Within, note, intervals_of, loading_of}
+use Rattle.whole_notes.specs.Notes.{note, intervals_of, loading_of}
 use Rattle.whole_loops.specs.Ways.{Given, Found}
-use Rattle.whole_parents.specs.Parents.{Leads, ParentsOf, ordered-within, the_order_is_inward, the_order_takes_no_site_twice}
+use Rattle.whole_parents.specs.Parents.{ParentsOf, ordered-within, the_order_is_inward, the_order_takes_no_site_twice}
 use Rattle.whole_parents.specs.Leads.{link-load}
 use Rattle.whole_loads.specs.Solved.{EndsAmong}
 

@@ -2,9 +2,8 @@
 use mathlib.Core.Path.{◌≡◌, refl, sym, ap, ◌∙◌}
 use mathlib.Core.Logic.{◌≢◌, ◌⊎◌, inl, inr}
 use mathlib.Core.List.{List}
-use Prim.Native.Nat.{ℕ, suc, ◌+◌, ◌-◌, ◌*◌, ◌≤◌, ◌<◌}
+use Prim.Native.Nat.{ℕ, ◌+◌, ◌-◌, ◌≤◌, ◌<◌}
 use native.Mathlib.Omega.{arith}
-use native.Mathlib.Numerals.{add-one}
 use lib.ListN.{length, take, set, replicate}
 use lib.Seq.{get_or-take, get_or-set_same, get_or-set_other, length-take-le}
 use Rattle.model.specs.Limits.{SITES, SIZE, PLACES}
@@ -12,7 +11,7 @@ use Rattle.lists.specs.Numbers.{look, count}
 use Rattle.lists.specs.Sums.{same?}
 use Rattle.lists.specs.Places.{look-zeros}
 use Rattle.model.specs.Flows.{Links, Site, one, two, at}
-use Rattle.model.specs.Trimming.{unvisited, Inward}
+use Rattle.model.specs.Trimming.{unvisited}
 use Rattle.model.specs.WholeLoads.{from, upward, parent_of, beyond}
 use Rattle.theory_trees.specs.Trees.{loopless, at_first, at_second, at-end}
 use Rattle.theory_whole.proofs.Links.{from-count}

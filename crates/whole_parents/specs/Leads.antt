@@ -1,8 +1,8 @@
 -- Every link leads from its child: what is summed upward from the child is of that link, and the load of the link is that of the child.
 use Rattle.std.specs.Prelude.{◌≡◌, refl, ◌≢◌, List, ℕ, ◌*◌, ◌≤◌, ◌<◌, length}
-use Rattle.std.proofs.Common.{sym, ◌∙◌, inl, inr, arith}
+use Rattle.std.proofs.Common.{sym, ◌∙◌, arith}
 use Rattle.std.proofs.Math.Path.{ap}
-use Rattle.lists.specs.Numbers.{look, is, count, sum, over}
+use Rattle.lists.specs.Numbers.{is, count, over}
 use Rattle.lists.specs.Sums.{is_same, is-other, same?, product_one, sum-single}
 use Rattle.lists.specs.Places.{over-eq, over-is}
 use Rattle.model.specs.Flows.{Links, one, two, at}

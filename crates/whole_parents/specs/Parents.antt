@@ -1,6 +1,6 @@
 -- What the functions are given and give: an order of the sites of a tree, the child of each link, and the parent of each site (model/WholeLoads).
-use Rattle.std.specs.Prelude.{◌≡◌, ◌≢◌, ◌⊎◌, List, ℕ, suc, ◌≤◌, ◌<◌, length, take}
-use Rattle.std.proofs.Common.{sym, ap, ◌∙◌, arith, length-take, get_or-take}
+use Rattle.std.specs.Prelude.{◌≡◌, ◌⊎◌, List, ℕ, ◌≤◌, ◌<◌, length, take}
+use Rattle.std.proofs.Common.{ap, ◌∙◌, arith, length-take, get_or-take}
 use Rattle.model.specs.Limits.{SITES, SIZE}
 use Rattle.model.specs.Edition.{largest}
 use Rattle.lists.specs.Numbers.{look, count}
