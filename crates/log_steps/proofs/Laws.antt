@@ -25,7 +25,7 @@ use Rattle.theory_log.specs.Answers.{overfilled-some, overfilled_by, says_15, sa
 use Rattle.theory_log.specs.Requests.{lower_amount, lower_entry, entry_at, an_open_amount_is_at_most_twice_a_capacity}
 use Rattle.log_paths.specs.Tables.{PathBy}
 use Rattle.log_paths.specs.Laws.{what_is_no_link_separates_nothing, a_path_has_links_only}
-use Rattle.log_pairs.specs.Arrays.{none, entries, Held, FirstPlace, Growing, Shrinking}
+use Rattle.log_pairs.specs.Arrays.{none, entries, Held, FirstPlace, Growing}
 use Rattle.log_pairs.specs.Found.{a_pair_that_is_found_has_its_amount_open, a_pair_that_is_not_found_has_nothing_open}
 use Rattle.log_pairs.specs.Rows.{length-entries, entries_at}
 use Rattle.log_steps.specs.Loads.{Measured, Passing, Raising, Lowering, raised, lowered}
@@ -220,9 +220,6 @@ module _ {n count : ℕ} {one two c rows f m l : List ℕ} (g : Given n one two 
 
         pub enough_open : p.amount ≤ look m k → p.amount ≤ open_of p.first p.second (entries f m count)
         enough_open i = rw has i
-
-        pub shrinking : p.amount ≤ look m k → Shrinking f m p.first p.second p.amount k count
-        shrinking i = record { held = t.holds.pairs; place = place; there = inside.0; enough = i }
 
         pub given-up : p.amount ≤ look m k → (path : Set) → PathBy rows p.first p.second path → {f' m' l' : List ℕ} {count' : ℕ}
             → l' ≡ lowered path p.amount l → Held (shrink p.first p.second p.amount (entries f m count)) f' m' count'
