@@ -33,7 +33,7 @@ module _ {s : List ℕ} {network : Lists} (r : Listed s network) where
       unfolding answer_over
       no_link_is_given_nothing h = answered-by ∙ rw (le-ltb j (length r.net.links) (omega (arith, as_many r))) refl
 
-      module _ (h : j < m) where
+      module _ (h : j < m r) where
         here : j < length r.net.links
         here = omega (arith, as_many r)
 
