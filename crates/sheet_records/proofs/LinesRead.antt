@@ -70,7 +70,7 @@ module _ (ed : Edition) (s : List ℕ) where
       (λ l. l)
       (λ l. let no : refused 2 k ≡ accepted after = sym (ap (added net) (unended_step ed s net k at (omega arith))) ∙ e in contradiction cc)
 
-  module _ (above : List Record) (net : Network) (K : Kept above net) (at : ℕ) where
+  module _ (above : List Record) (net : Network) (K : Kept ed s above net) (at : ℕ) where
     abbrev here : Record
     here = fields_at s at
 
