@@ -57,7 +57,7 @@ extern "C" {
 #define WADERARMOIRE_WORDS_BYTES 256
 
 /* A thread with a stack of this length can plan every sheet. */
-#define WADERARMOIRE_STACK_BYTES 229376
+#define WADERARMOIRE_STACK_BYTES 196608
 
 /*
  * Plans the network of a sheet of sheet_len bytes in halves of a circuit and writes the report

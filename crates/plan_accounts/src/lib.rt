@@ -31,6 +31,7 @@ pub struct Accounted {
 }
 
 // Enters the lines of a plan one by one, up to the lowest faulty one.
+#[inline(never)]
 pub fn account(
     sheet: &[u8],
     starts: &[usize; SITES],
@@ -95,6 +96,7 @@ pub fn overloaded(capacity: &[u64], load: &[u64; SITES]) -> bool
 }
 
 // The largest total of a tree in halves: the sum of its trimmed sizes at the ends.
+#[inline(never)]
 pub fn largest_total(n: usize, one: &[usize], two: &[usize], marks: &[u8], capacity: &[u64]) -> u64
     requires { MarkedTree largest n one.now two.now marks.now capacity.now }
     ensures { result ≡ largest_total (links one.now two.now) n

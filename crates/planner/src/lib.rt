@@ -108,6 +108,7 @@ fn deliver<'a>(
 }
 
 // The lists of an accepted sheet, with the order, the ends and the chains of its tree, planned.
+#[inline(never)]
 fn plan_charted(
     sheet: &[u8],
     start: &[usize],
@@ -146,6 +147,7 @@ fn plan_charted(
 }
 
 // The lists of an accepted sheet, with the order, the ends and the chains of its tree, planned in whole circuits.
+#[inline(never)]
 fn whole_charted(
     sheet: &[u8],
     start: &[usize],

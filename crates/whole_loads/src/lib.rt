@@ -86,6 +86,7 @@ fn odd_pieces(
 }
 
 // The loads of a largest plan in whole circuits at the front of a lent list, and the terminal whose set holds each site; the number of odd pieces.
+#[inline(never)]
 pub fn solve(
     n: usize,
     order: &[usize; SITES],

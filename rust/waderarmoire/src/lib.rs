@@ -188,7 +188,7 @@ pub const REPORT_BYTES: usize = 65_536;
 pub const SITES: usize = 384;
 
 /// A thread with a stack of this many bytes can plan every sheet.
-pub const STACK_BYTES: usize = 229_376;
+pub const STACK_BYTES: usize = 196_608;
 
 /// A function of the library: the sheet and what is lent for the answer, each with its length.
 type Function<Place> = unsafe extern "C" fn(*const u8, usize, *mut Place, usize) -> u64;
