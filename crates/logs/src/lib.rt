@@ -27,6 +27,7 @@ pub enum Outcome {
 }
 
 // The answers to the lines of a log, into the front of a list with a place for each.
+#[inline(never)]
 fn answer_lines(
     sheet: &[u8],
     starts: &[usize; SITES],

@@ -210,6 +210,7 @@ fn visit(
 }
 
 // The pairs of the parts that have a root, by their roots, written one after the other; the end of them.
+#[inline(never)]
 fn walk_parts(
     ends: &[u8; PLACES],
     last: &[usize; PLACES],
@@ -302,6 +303,7 @@ fn pair_at(numbers: &[u64], at: usize) -> Pair
 }
 
 // The pairs that the numbers below `end` spell, with pairs of zeros behind them.
+#[inline(never)]
 fn read_pairs(numbers: &[u64], end: usize) -> Pairs
     requires { Spells numbers.now end }
     ensures { result ≡ listing (spelled (take end numbers.now)) }
