@@ -1,9 +1,5 @@
 -- `text_lines::line_end` meets its contract: the bytes passed are not 10, so the line from `end` on ends where the line from `at` on does.
-use mathlib.Core.Logic.{⊎_elim}
-use mathlib.Core.Path.{◌≡◌, ◌∙◌}
-use Prim.Native.Nat.{◌+◌, ◌-◌, ◌≤◌}
-use native.Mathlib.Omega.{arith}
-use lib.ListN.{length, drop}
+use Rattle.std.proofs.Common.{◌≡◌, ◌≢◌, ⊎_elim, List, ℕ, ◌+◌, ◌-◌, ◌<◌, ◌≤◌, length, drop, get_or, ◌∙◌, arith}
 use borrow.Author.Rules.{rules}
 use Rattle.text_lines.specs.Lines.{line_length, line_end}
 use Rattle.text_lines.specs.LineLaws.{line_length_step, sheet_from_the_start, two_bytes_on}
@@ -22,31 +18,18 @@ loop-holds c =
     let over = c.pass_over-end.ensures in
     (over.0, over.1 ∙ rw (c.before.line_start.ensures, sheet_from_the_start))
 
-first-is-ten : tie.Need-returns-then-sheet-end-eq10 invariant-loop decreases-loop
-first-is-ten c =
-    let top = c.before.before.before in
-    let sheet = top.before.before.before.before.args.sheet.now in
-    ⊎_elim (λ h. omega (arith, h.1)) (λ h. absurd (h.0 c.if-sheet-end-eq10.true)) (line_length_step sheet top.loop-end.end (omega arith))
+-- the line from `end` on ends where it should, and its first byte is 10, or its second one
+first_is_ten : (s : List ℕ) (at end : ℕ) → end < length s → get_or s end 0 ≡ 10 → end + line_length (drop end s) ≡ line_end s at → end ≡ line_end s at
+first_is_ten s at end l e h = ⊎_elim (λ t. omega (arith, t.1)) (λ t. absurd (t.0 e)) (line_length_step s end l)
 
-second-is-ten : tie.Need-returns-then-sheet-end-eq10-2 invariant-loop decreases-loop
-second-is-ten c =
-    let top = c.before.before.before.before.before in
-    let sheet = top.before.before.before.before.args.sheet.now in
-    let end = top.loop-end.end in
-    ⊎_elim (λ h. absurd (c.before.before.if-sheet-end-eq10.false h.0))
-    (λ h. ⊎_elim (λ k. omega (arith, h.1, k.1)) (λ k. absurd (k.0 c.if-sheet-end-eq10-2.true)) (line_length_step sheet (end + 1) (omega arith)))
-    (line_length_step sheet end (omega arith))
+second_is_ten : (s : List ℕ) (at end : ℕ) → end + 1 < length s → get_or s end 0 ≢ 10 → get_or s (end + 1) 0 ≡ 10
+    → end + line_length (drop end s) ≡ line_end s at → end + 1 ≡ line_end s at
+second_is_ten s at end l d e h =
+    ⊎_elim (λ t. absurd (d t.0))
+    (λ t. ⊎_elim (λ k. omega (arith, t.1, k.1)) (λ k. absurd (k.0 e)) (line_length_step s (end + 1) l))
+    (line_length_step s end (omega arith))
 
-loop-again : tie.Need-loop-end-preserved invariant-loop decreases-loop
-loop-again c =
-    let top = c.before.before.before.before.before in
-    let sheet = top.before.before.before.before.args.sheet.now in
-    let end = top.loop-end.end in
-    (omega arith, two_bytes_on sheet end (omega arith) c.before.before.if-sheet-end-eq10.false c.if-sheet-end-eq10-2.false ∙ top.loop-end.invariant.1)
-
-returns-3 : tie.Need-returns invariant-loop decreases-loop
-returns-3 c = c.last_end.ensures ∙ c.before.before.loop-end.invariant.1
-
+-- The tests against 10 are left to `omega`, which finds them among the facts.
 pub line_end_spec : {M : Type 1} → statement M
 line_end_spec =
     tie.close
@@ -58,13 +41,13 @@ line_end_spec =
     loop-holds
     (λ c. search rules)
     (λ c. omega arith)
-    first-is-ten
+    (λ c. first_is_ten _ _ _ (omega arith) (omega arith) (omega arith))
     (λ c. omega arith)
     (λ c. omega arith)
     (λ c. omega arith)
-    second-is-ten
+    (λ c. second_is_ten _ _ _ (omega arith) (λ e. omega arith) (omega arith) (omega arith))
     (λ c. omega arith)
     (λ c. omega arith)
-    loop-again
+    (λ c. (omega arith, two_bytes_on _ _ (omega arith) (λ e. omega arith) (λ e. omega arith) ∙ (omega arith)))
     (λ c κs. omega arith)
-    returns-3)
+    (λ c. c.last_end.ensures ∙ (omega arith)))

@@ -25,24 +25,7 @@ root-by-halves-requires-2 c κs =
     let s = first.root_by_halves-a.ensures.1 in
     (s.lower, omega (arith, s.long, first.before.before.before.requires.2))
 
-returns : tie.Need-returns-then-a-b
-returns c =
-    let second = c.before.before.before.before in
-    let first = second.before.before.before.before in
-    let f = first.root_by_halves-a.ensures in
-    let g = second.root_by_halves-b.ensures in
-    let pre = first.before.before.before.requires in
-    joined-first f.0 f.1 g.0 g.1 pre.1 pre.2 (omega arith)
-
-returns-2 : tie.Need-returns-else-a-b
-returns-2 c =
-    let second = c.before.before.before.before in
-    let first = second.before.before.before.before in
-    let f = first.root_by_halves-a.ensures in
-    let g = second.root_by_halves-b.ensures in
-    let pre = first.before.before.before.requires in
-    joined-second f.0 f.1 g.0 g.1 pre.1 pre.2 (omega arith)
-
+-- Which root is the lower one is left to `omega`, which finds the test among the facts.
 pub join_spec : {M : Type 1} → statement M
 join_spec =
     tie.close
@@ -58,6 +41,18 @@ join_spec =
     (λ c. search rules)
     (λ c. (placed c.before.before.before.before).0)
     (λ c. simp length-set (placed c.before.before.before.before).2)
-    returns
+    (λ c.
+    let second = c.before.before.before.before in
+    let first = second.before.before.before.before in
+    let f = first.root_by_halves-a.ensures in
+    let g = second.root_by_halves-b.ensures in
+    let pre = first.before.before.before.requires in
+    joined-first f.0 f.1 g.0 g.1 pre.1 pre.2 (omega arith))
     (λ c. simp length-set (placed c.before.before.before.before).2)
-    returns-2)
+    (λ c.
+    let second = c.before.before.before.before in
+    let first = second.before.before.before.before in
+    let f = first.root_by_halves-a.ensures in
+    let g = second.root_by_halves-b.ensures in
+    let pre = first.before.before.before.requires in
+    joined-second f.0 f.1 g.0 g.1 pre.1 pre.2 (omega arith)))
