@@ -26,11 +26,6 @@ few : (c : tie.Else-first-one) → let a = c.before.before.before.before.before.
     a.n ≤ SITES
 few c = let s = c.before.before.before.before.before.before.before.before.before.before.before.before in omega (arith, s.requires.0.within.few)
 
-returns : tie.Need-returns-then-commons-ne2
-returns c =
-    let s = c.before.before.before.before.before.before.before.before.before.before in
-    not_two_names s.requires.0 s.requires.1 (look s.args.partners.now) (λ e. c.if-commons-ne2.true (c.before.commons.ensures ∙ e))
-
 shared-first-requires : tie.Need-shared_first-first-requires
 shared-first-requires c κs =
     let s = c.before.before.before.before.before.before.before.before.before.before in
@@ -41,7 +36,7 @@ returns-2 c =
     let found = c.before in
     let counted = found.before in
     let s = counted.before.before.before.before.before.before.before.before.before.before in
-    no_first_link s.requires.0 s.requires.1 (look s.args.partners.now) (sym counted.before.commons.ensures ∙ counted.if-commons-ne2.false)
+    no_first_link s.requires.0 s.requires.1 (look s.args.partners.now) (omega arith)
     found.shared_first-first.result found.shared_first-first.ensures (omega arith)
 
 mul-x2 : tie.Need-offset_bounds-partners-x
@@ -63,7 +58,7 @@ returns-3 c =
     let found = here.before.before in
     let counted = found.before in
     let s = counted.before.before.before.before.before.before.before.before.before.before in
-    no_second_link s.requires.0 s.requires.1 (look s.args.partners.now) (sym counted.before.commons.ensures ∙ counted.if-commons-ne2.false)
+    no_second_link s.requires.0 s.requires.1 (look s.args.partners.now) (omega arith)
     found.shared_first-first.result found.shared_first-first.ensures (omega arith)
     second.shared_second-second.result second.shared_second-second.ensures (omega arith)
 
@@ -75,7 +70,7 @@ returns-4 c =
     let found = here.before.before in
     let counted = found.before in
     let s = counted.before.before.before.before.before.before.before.before.before.before in
-    other-size s.requires.0 s.requires.1 (look s.args.partners.now) (sym counted.before.commons.ensures ∙ counted.if-commons-ne2.false)
+    other-size s.requires.0 s.requires.1 (look s.args.partners.now) (omega arith)
     found.shared_first-first.result found.shared_first-first.ensures (omega arith)
     second.shared_second-second.result second.shared_second-second.ensures (omega arith) c.if-capacity-first.true
 
@@ -97,7 +92,7 @@ returns-5 c =
     let found = here.before.before in
     let counted = found.before in
     let s = counted.before.before.before.before.before.before.before.before.before.before in
-    with_far_sites s.requires.0 s.requires.1 (look s.args.partners.now) (sym counted.before.commons.ensures ∙ counted.if-commons-ne2.false)
+    with_far_sites s.requires.0 s.requires.1 (look s.args.partners.now) (omega arith)
     found.shared_first-first.result found.shared_first-first.ensures (omega arith)
     second.shared_second-second.result second.shared_second-second.ensures (omega arith) far.before.if-capacity-first.false (sym far.far_sites.ensures ∙ c.if-far_sites.true)
 
@@ -110,16 +105,19 @@ returns-6 c =
     let found = here.before.before in
     let counted = found.before in
     let s = counted.before.before.before.before.before.before.before.before.before.before in
-    without-far-sites s.requires.0 s.requires.1 (look s.args.partners.now) (sym counted.before.commons.ensures ∙ counted.if-commons-ne2.false)
+    without-far-sites s.requires.0 s.requires.1 (look s.args.partners.now) (omega arith)
     found.shared_first-first.result found.shared_first-first.ensures (omega arith)
     second.shared_second-second.result second.shared_second-second.ensures (omega arith) far.before.if-capacity-first.false (sym far.far_sites.ensures ∙ c.if-far_sites.false)
 
+-- The test of the names in common is left to `omega`, here and above: it finds it among the facts.
 pub sharing_spec : {M : Type 1} → statement M
 sharing_spec =
     tie.close
     (tie.spec
     (λ c κs. search rules)
-    returns
+    (λ c.
+    let s = c.before.before.before.before.before.before.before.before.before.before in
+    not_two_names s.requires.0 s.requires.1 (look s.args.partners.now) (λ e. omega arith))
     shared-first-requires
     returns-2
     (λ c. search rules)
