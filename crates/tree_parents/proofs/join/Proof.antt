@@ -33,13 +33,13 @@ join_spec =
     (λ c κs. search rules)
     root-by-halves-requires-2
     (λ c. search rules)
-    (λ c. (placed c.before.before.before.before).0)
+    (λ c. omega (arith, placed c.before.before.before.before))
     (λ c. search rules)
-    (λ c. (placed c.before.before.before.before).1)
+    (λ c. omega (arith, placed c.before.before.before.before))
     (λ c. search rules)
-    (λ c. (placed c.before.before.before.before).1)
+    (λ c. omega (arith, placed c.before.before.before.before))
     (λ c. search rules)
-    (λ c. (placed c.before.before.before.before).0)
+    (λ c. omega (arith, placed c.before.before.before.before))
     (λ c. simp length-set (placed c.before.before.before.before).2)
     (λ c.
     let second = c.before.before.before.before in
