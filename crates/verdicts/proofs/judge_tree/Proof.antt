@@ -66,31 +66,29 @@ long c =
     let w = s.requires.0.within in
     omega (arith, w.firsts, w.seconds, w.capacities, length-links s.args.one.now s.args.two.now (omega (arith, w.firsts, w.seconds)))
 
-returns : tie.Need-returns-then-accounted-ne0
-returns c = a_fault_is_the_verdict _ _ _ _ c.before.account-accounted.result _ (comes c.before) c.if-accounted-ne0.true
-
 overloaded-requires : tie.Need-overloaded-requires
 overloaded-requires c κs =
     let w = c.before.before.before.before.before.before.before.before.before.before.before.before.before.before.before.before.requires.0.within in
     record { few = omega (arith, w.few, w.capacities); limited = w.limited }
 
-returns-2 : tie.Need-returns-then-overloaded
-returns-2 c =
+returns : tie.Need-returns-then-overloaded
+returns c =
     let made = c.before.before.before.before in
-    an_overload_is_the_verdict _ _ _ _ made.account-accounted.result (long made) c.before.before.before.if-accounted-ne0.false _ (comes made)
+    an_overload_is_the_verdict _ _ _ _ made.account-accounted.result (long made) (omega arith) _ (comes made)
     (told c.before.overloaded.result c.before.overloaded.ensures c.if-overloaded.true)
 
 largest-total-requires : tie.Need-largest_total-most-requires
 largest-total-requires c κs = c.before.before.before.before.before.before.before.before.before.before.before.before.before.before.before.before.before.before.requires.0
 
-returns-3 : tie.Need-returns
-returns-3 c =
+returns-2 : tie.Need-returns
+returns-2 c =
     let made = c.before.before.before.before.before in
     let over = c.before.before in
     ap (λ most. Judged made.account-accounted.result.total (eqb made.account-accounted.result.total most)) c.largest_total-most.ensures
-    ∙ the_total_is_the_verdict _ _ _ _ made.account-accounted.result (long made) c.before.before.before.before.if-accounted-ne0.false _ (comes made)
+    ∙ the_total_is_the_verdict _ _ _ _ made.account-accounted.result (long made) (omega arith) _ (comes made)
     (denied over.overloaded.result over.overloaded.ensures c.before.if-overloaded.false)
 
+-- The test of the number is left to `omega`, here and above: it finds it among the facts.
 pub judge_tree_spec : {M : Type 1} → statement M
 judge_tree_spec =
     tie.close
@@ -100,8 +98,8 @@ judge_tree_spec =
     (λ c κs. search rules)
     (λ c κs. search rules)
     account-requires
-    returns
+    (λ c. a_fault_is_the_verdict _ _ _ _ c.before.account-accounted.result _ (comes c.before) (λ e. omega arith))
     overloaded-requires
-    returns-2
+    returns
     largest-total-requires
-    returns-3)
+    returns-2)
