@@ -15,15 +15,9 @@ put-cause-requires c κs =
     let a = c.before.before.before.args in
     omega (
       arith,
-      ap length (of_both a.sheet a.number a.line c.before.if-sheet-eq0.true),
+      ap length (of_both a.sheet a.number a.line (omega arith)),
       words_of_sheets_are_short a.sheet a.number a.line (omega arith) (omega arith),
     )
-
-returns : tie.Need-returns-then-sheet-eq0
-returns c =
-    let put = c.before.before in
-    let a = put.before.before.before.before.args in
-    rw (of_both a.sheet a.number a.line put.before.before.if-sheet-eq0.true) put.put_cause.ensures
 
 put-cause-requires-2 : tie.Need-put_cause-requires-2
 put-cause-requires-2 c κs =
@@ -31,7 +25,7 @@ put-cause-requires-2 c κs =
     let a = placed.before.before.before.before.args in
     room_after placed.put_sheet_place-at.ensures (cause a.number ++ (10 ∷ [])) (omega (
       arith,
-      ap length (of_one a.sheet a.number a.line placed.before.before.if-sheet-eq0.false),
+      ap length (of_one a.sheet a.number a.line (omega arith)),
       words_of_sheets_are_short a.sheet a.number a.line (omega arith) (omega arith),
     ))
 
@@ -40,15 +34,19 @@ returns-2 c =
     let put = c.before.before in
     let placed = put.before.before.before.before in
     let a = placed.before.before.before.before.args in
-    rw (of_one a.sheet a.number a.line placed.before.before.if-sheet-eq0.false) (then placed.put_sheet_place-at.ensures put.put_cause-2.ensures)
+    rw (of_one a.sheet a.number a.line (omega arith)) (then placed.put_sheet_place-at.ensures put.put_cause-2.ensures)
 
+-- The test of the sheet is left to `omega`, which finds it among the facts.
 pub write_words_of_sheets_spec : {M : Type 1} → statement M
 write_words_of_sheets_spec =
     tie.close
     (tie.spec
     put-cause-requires
     (λ c. search rules)
-    returns
+    (λ c.
+    let put = c.before.before in
+    let a = put.before.before.before.before.args in
+    rw (of_both a.sheet a.number a.line (omega arith)) put.put_cause.ensures)
     (λ c κs. search rules)
     put-cause-requires-2
     (λ c. search rules)
