@@ -2,6 +2,7 @@
 use mathlib.Core.List.{◌++◌}
 use mathlib.Core.Path.{sym, ap, ◌∙◌}
 use Prim.Native.Nat.{◌≤◌}
+use native.Mathlib.Omega.{arith}
 use borrow.Author.Rules.{rules}
 use lib.ListN.{length, drop}
 use Rattle.planner.specs.Taken.{room_for_the_links, the_lists_are_taken_apart, the_marks_are_taken_apart, the_network_is_a_marked_tree}
@@ -13,17 +14,11 @@ use Rattle.logs.specs.declared.Outcome.TheVariants.{Answered}
 use Rattle.logs.proofs.replay_network.Statement.{statement}
 use Rattle.logs.proofs.replay_network.Tie as tie
 
-returns : tie.Need-returns-then-log-gt-LOGBYTES
-returns c =
-    let s = c.before.before.before.before in
-    let e = too_many_bytes s.requires s.args.log.now s.args.list.now c.if-log-gt-LOGBYTES.true in
-    (sym (ap (λ p. p.outcome) e), sym (ap (λ p. p.list) e))
-
 returns-2 : tie.Need-returns-then-count-gt-LOGLINES
 returns-2 c =
     let else1 = c.before.before in
     let s = else1.before.before.before.before in
-    let e = too_many_lines s.requires s.args.log.now s.args.list.now else1.if-log-gt-LOGBYTES.false (rw c.before.count_lines-count.ensures at c.if-count-gt-LOGLINES.true) in
+    let e = too_many_lines s.requires s.args.log.now s.args.list.now (omega arith) (rw c.before.count_lines-count.ensures at c.if-count-gt-LOGLINES.true) in
     (sym (ap (λ p. p.outcome) e), sym (ap (λ p. p.list) e))
 
 returns-3 : tie.Need-returns-then-count-list
@@ -31,7 +26,7 @@ returns-3 c =
     let counted = c.before.before in
     let else1 = counted.before in
     let s = else1.before.before.before.before in
-    let e = too_few_places s.requires s.args.log.now s.args.list.now else1.if-log-gt-LOGBYTES.false (rw counted.count_lines-count.ensures at c.before.if-count-gt-LOGLINES.false)
+    let e = too_few_places s.requires s.args.log.now s.args.list.now (omega arith) (rw counted.count_lines-count.ensures at c.before.if-count-gt-LOGLINES.false)
     (rw counted.count_lines-count.ensures at c.if-count-list.true) in
     (sym (ap (λ p. p.outcome) e), sym (ap (λ p. p.list) e))
 
@@ -57,16 +52,20 @@ returns-4 c =
     let s = else1.before.before.before.before in
     let log = s.args.log.now in
     let l = s.args.list.now in
-    let e = every_line_answered s.requires log l else1.if-log-gt-LOGBYTES.false (rw counted.count_lines-count.ensures at else3.before.if-count-gt-LOGLINES.false) (places else3) in (
+    let e = every_line_answered s.requires log l (omega arith) (rw counted.count_lines-count.ensures at else3.before.if-count-gt-LOGLINES.false) (places else3) in (
       ap Answered counted.count_lines-count.ensures ∙ sym (ap (λ p. p.outcome) e),
       made.answer_parts.ensures ∙ ap (λ a. a ++ drop (length (lines log)) l) (the_answers_are_the_networks s.requires log) ∙ sym (ap (λ p. p.list) e),
     )
 
+-- The test of the bytes is left to `omega`, here and above: it finds it among the facts.
 pub replay_network_spec : {M : Type 1} → statement M
 replay_network_spec =
     tie.close
     (tie.spec
-    returns
+    (λ c.
+    let s = c.before.before.before.before in
+    let e = too_many_bytes s.requires s.args.log.now s.args.list.now (omega arith) in
+    (sym (ap (λ p. p.outcome) e), sym (ap (λ p. p.list) e)))
     (λ c κs. search rules)
     returns-2
     returns-3
