@@ -1,8 +1,8 @@
 -- What stands ready on the way to the report of a range sheet: the networks of an accepted sheet with its low and with its high sizes, as lists and taken
-use Rattle.std.specs.Prelude.{◌≡◌, true, List, map, ◌++◌, leb, take}
+use Rattle.std.specs.Prelude.{◌≡◌, List, map, ◌++◌, take}
 use Rattle.std.proofs.Math.Path.{refl, sym, ap}
-use Rattle.std.proofs.Common.{subst, ◌∙◌, le-leb}
-use Prim.Native.Nat.{ℕ, suc, ◌+◌, ◌*◌, ◌≤◌, ◌<◌}
+use Rattle.std.proofs.Common.{subst, ◌∙◌}
+use Prim.Native.Nat.{ℕ, suc, ◌*◌, ◌≤◌, ◌<◌}
 use native.Mathlib.Omega.{arith}
 use Rattle.std.proofs.Math.ListN.{length, length-map, get_or-map}
 use Rattle.lists.specs.Numbers.{look}
@@ -285,7 +285,3 @@ module _ {s starting stopping : List ℕ} {n : ℕ} {one-sites two-sites marks l
         → deliver (span_text (span_by s starting stopping one-sites two-sites low high leasts greatests least greatest)) b ≡ spanned s b
     unfolding spanned span_read network_of span_report
     the_span_is_delivered b = rw (the_lists_show_the_span, a.read_low, a.read_high) refl
-
--- a buffer with room for the longest report has room for any
-pub a_report_fits_its_room : (k room : ℕ) → 0 + k ≤ REPORT → REPORT ≤ room → true ≡ leb k room
-a_report_fits_its_room k room h l = sym (le-leb k room (omega arith))
