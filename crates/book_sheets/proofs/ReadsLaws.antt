@@ -1,4 +1,5 @@
 -- The sheet of an entry is accepted, and read as its links and sizes: line after line, each site under a new name, each link between sites that those above do
+-- not join, and in the end all are joined.
 use Rattle.std.specs.Prelude.{◌≡◌, true, ◌≢◌, ℕ, zero, suc, ◌+◌, ◌-◌, ◌*◌, ◌≤◌, ◌<◌, length, get_or, drop, replicate}
 use Rattle.std.proofs.Math.Path.{refl, ap}
 use Rattle.std.proofs.Common.{sym, ◌∙◌, length-drop}

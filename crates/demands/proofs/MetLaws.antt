@@ -1,4 +1,5 @@
 -- What planning tells and what every report says is what is asked: the outcomes by the cases of planning, the report by what it says (`planSays`),
+-- the line of a refusal by its fields.
 use Rattle.std.specs.Prelude.{◌≡◌, refl, List, ℕ, ◌≤◌, ◌<◌, length}
 use Rattle.std.proofs.Math.Path.{sym}
 use Rattle.std.proofs.Common.{ap, ◌∙◌, arith}

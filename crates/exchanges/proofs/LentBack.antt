@@ -1,4 +1,5 @@
 -- What the regions of an accepted pair are told and lent back: the trimmed sizes of the joined tree, and sums that added are its total in halves; and that of
+-- the other sheet it depends on one number alone. Document 02, Card 10.
 use Rattle.std.specs.Prelude.{List, ◌≡◌, refl, ℕ, ◌<◌, length, drop}
 use Rattle.std.proofs.Common.{◌∙◌, arith}
 use Rattle.std.proofs.Math.ListN.{get_or-append}

@@ -1,4 +1,6 @@
 -- When a line of a log is a fault, each number just for its cause: 2 neither `+` nor `-`, 10 wrong number of fields, 11 bad name, 17 name of digits alone,
+-- 12 badly written number, in this order; then 3, an amount of 0 or above the limit. Document 02, Cards 6 and 9. By the first field: the sign chooses the
+-- form.
 use Rattle.std.specs.Prelude.{Bool, cond, ◌&&◌, List, [], ◌∷◌, ◌⊎◌, ◌↔◌, ◌≢◌, ◌≡◌, ℕ, ◌<◌}
 use Rattle.std.proofs.Math.Bool.{true, false, false≢true}
 use Rattle.std.proofs.Math.Logic.{inl, inr}

@@ -1,4 +1,5 @@
 -- When a line of a plan drawn by hand is a fault, each number just for its cause: 2 no `P`, 10 wrong number of fields, 11 bad name, 17 name of digits alone,
+-- 12 badly written number, in this order, as in a log; then 3, an amount of 0 or above the limit. Document 02, Card 12.
 use Rattle.std.specs.Prelude.{Bool, cond, ◌&&◌, List, ◌⊎◌, ◌↔◌, ◌≢◌, ◌≡◌, ℕ, ◌<◌}
 use Rattle.std.proofs.Math.Bool.{true, false}
 use Rattle.std.proofs.Math.Logic.{inl, inr}

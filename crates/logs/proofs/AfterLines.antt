@@ -1,4 +1,6 @@
 -- What holds after every line of a log over an accepted sheet, and what the answer to each line is, also as lent back: the facts of `theory_log` about the
+-- requests of its lines. Document 02, Card 6 ("After every line each link's load is what the answered-0 lines opened over it less what they gave up, and never
+-- above twice its usable size").
 use mathlib.Core.List.{List, []}
 use Rattle.std.specs.Prelude.{◌↔◌, ◌≢◌, ◌≡◌, ℕ, ◌<◌, length, drop}
 use Rattle.std.proofs.Common.{arith}

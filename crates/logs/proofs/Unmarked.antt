@@ -1,4 +1,5 @@
 -- What Card 7 changed in a log (document 02): where every end has one link, a log is answered as by the rule from before, which gave 6 unless the names were
+-- those of two different ends. Since then no end stands between two others.
 use Rattle.std.specs.Prelude.{Bool, List, [], ◌≡◌, ℕ, length}
 use Rattle.std.proofs.Math.Bool.{false}
 use Rattle.std.proofs.Math.Path.{refl, sym}

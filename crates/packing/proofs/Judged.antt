@@ -1,4 +1,6 @@
 -- The number that tells a judgement, taken apart, gives its outcome, for every sheet and plan: the text, which is 0 of a verdict and of nothing else;
+-- of a refusal the number and the line; of a verdict the total and yes or no. Nothing is lost: numbers are at most 21, a line at fault is one of the sheet or of
+-- the plan, and a total is at most PLANLINES times AMOUNT.
 use Rattle.std.specs.Prelude.{true, false, List, ℕ}
 use Rattle.std.proofs.Common.{arith}
 use Rattle.model.specs.Edition.{editions}

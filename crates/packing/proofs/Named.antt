@@ -1,4 +1,5 @@
 -- The number that tells where a name stands, taken apart, gives the name of a site: so many bytes of the sheet from that offset on, for every sheet and every
+-- number. Nothing is lost: a name lies on the sheet, which has at most BYTES bytes.
 use Rattle.std.specs.Prelude.{Bool, true, false, cond, ◌&&◌, List, ◌≡◌, refl, ℕ, zero, suc, ◌+◌, ◌-◌, ◌*◌, ◌/◌, ◌%◌, ◌≤◌, ◌<◌, leb, length, take, drop}
 use Rattle.std.proofs.Common.{subst, arith, leb-true, leb-false}
 use Rattle.std.proofs.Math.Decide.{dec_lt}

@@ -1,4 +1,5 @@
 -- The numbers that tell the two steps of one region by itself, taken apart, give what the steps come to, for all sheets, names,
+-- numbers and lists. Nothing is lost: numbers are at most 19, a line at fault is one of the sheet, and sizes, counts and sums are within the limits.
 use Rattle.std.specs.Prelude.{List, ℕ, ◌*◌, ◌≤◌}
 use Rattle.std.proofs.Common.{arith}
 use Rattle.model.specs.Limits.{BYTES, LINKS, SIZE}

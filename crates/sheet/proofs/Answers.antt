@@ -1,4 +1,6 @@
 -- What reading a sheet answers, in both directions: a number at a line just for its cause, 0 just without one. Numbers are 1 to 8, 10 to 13, 17 or 19, and a
+-- line at fault is one of the sheet. Document 01, "The network sheet" (the table's columns "No." and "Returned"); 02, Cards 1, 5, 9 and 11. By the causes,
+-- one by one.
 use Rattle.std.specs.Prelude.{List, ◌↔◌, ◌≢◌, ◌≡◌, ℕ, suc, ◌≤◌, length}
 use Rattle.std.proofs.Common.{inl, inr, lt-ltb}
 use Rattle.std.proofs.Math.Path.{refl}

@@ -1,4 +1,5 @@
 -- What Card 8 changed in reading (document 02): a sheet that is not headed as edition 2 is read as it was; one that is was refused with 2 at line 1, or with 1
+-- if longer than 16,384 bytes. A planner from before the card knows edition 1 alone. By the heading, which has one digit.
 use Rattle.std.specs.Prelude.{Bool, true, false, cond, ◌&&◌, ◌≡◌, ℕ, ◌+◌, ◌≤◌, ◌<◌, eqb}
 use Rattle.std.proofs.lemmas.Bool.{false≢true}
 use mathlib.Core.List.{List, [], ◌∷◌}

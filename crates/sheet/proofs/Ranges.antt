@@ -1,4 +1,5 @@
 -- A range sheet read with its low sizes and with its high sizes (document 02, Card 11): both are refused alike, or give the same sites, marks and links, and no
+-- low size is above its high one. By the lines, each of which adds the same but for the capacity.
 use Rattle.std.specs.Prelude.{Bool, cond, ◌&&◌, List, [], ◌∷◌, ◌++◌, ◌≡◌, ℕ, zero, suc, ◌+◌, ◌≤◌, eqb, leb, ltb, length, drop}
 use Rattle.std.proofs.Math.Bool.{true, false}
 use Rattle.std.proofs.Math.Path.{refl}

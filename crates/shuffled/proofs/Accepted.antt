@@ -1,4 +1,5 @@
 -- Which reorderings of an accepted sheet are accepted again: those in which each link stands below its two sites. No cause of a refusal is left: a record
+-- keeps its form, sites and links are as many and as different as they were, and links that join no two joined sites in one order do so in no other.
 use Rattle.std.specs.Prelude.{List, [], ◌∷◌, ◌↔◌, ◌≡◌, refl, ℕ, ◌-◌}
 use Rattle.model.specs.declared.Edition.{Edition}
 use Rattle.model.specs.declared.Sizing.TheVariants.{Reserved}

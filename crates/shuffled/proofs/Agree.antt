@@ -1,4 +1,5 @@
 -- The figures in halves of two sheets that hold the same sites and links by name agree: total, trimmed sizes, ends, end sets, their sizes and counts; and
+-- so does the total in whole circuits.
 use Rattle.std.specs.Prelude.{List, ◌≢◌, ◌≡◌, ℕ, zero, suc, ◌-◌, ◌≤◌}
 use Rattle.std.proofs.Common.{inl, inr, ap, ◌∙◌, arith}
 use Rattle.std.proofs.Math.Path.{sym}

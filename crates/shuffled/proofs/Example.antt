@@ -1,4 +1,5 @@
 -- Two sheets that hold the same records in different orders, computed: names in either case, a link with its names exchanged, a reserve of 0 that is not
+-- written, a mark. Their reports agree in all that Card 14 names; their pairs differ, even in number.
 use mathlib.Core.List.{[], ◌∷◌, map, flat_map}
 use Rattle.std.proofs.Common.{inl, inr}
 use Rattle.std.specs.Prelude.{◌≡◌, refl}

@@ -1,4 +1,5 @@
 -- Two accepted sheets that hold the same records give one network, numbered in two ways: sites go by their names, and links by the names of their
+-- sites, since a tree has no two links between the same sites.
 use Rattle.std.specs.Prelude.{List, ◌≡◌, refl, ℕ, ◌-◌, ◌<◌}
 use Rattle.std.proofs.Common.{inl, inr, sym, ◌∙◌}
 use Rattle.std.proofs.Math.Decide.{dec_lt}

@@ -1,4 +1,7 @@
 -- Card 14 holds: two accepted sheets that hold the same records in different orders get reports headed `plan` that agree in the total, each link's trimmed
+-- size, each site's end set and each set size, and reports headed `whole` that agree in the total. Marks and reserves are parts of the records.
+-- Pairs may differ, since the walk goes by number. What is said of the reports stands in `SameReports`, what the same records are in `SameRecords`. The
+-- sheets may even be of different editions.
 use Rattle.std.specs.Prelude.{List, ◌≡◌, refl, ℕ, ◌-◌, ◌≤◌, length}
 use Rattle.std.proofs.Common.{sym, ap, ◌∙◌, arith}
 use Rattle.model.specs.Limits.{REPORT}

@@ -1,4 +1,5 @@
 -- Two owners who show each other one number alone have what the exchange over both sheets has: for every accepted pair the first step shows the first trimmed
+-- size of the shared link, and the second gives what the exchange tells and leaves. Document 02, Card 10.
 use Rattle.std.specs.Prelude.{List, ◌≡◌, ℕ, ◌≤◌, length}
 use Rattle.std.proofs.Common.{inl, inr, sym, ◌∙◌, arith}
 use Rattle.lists.specs.Numbers.{look}

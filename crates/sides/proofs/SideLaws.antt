@@ -1,4 +1,5 @@
 -- The names of an accepted sheet are different, so that two of them mean the link that joins their sites, where one of these may be far, and no other; and what
+-- a step comes to, case by case.
 use Rattle.std.specs.Prelude.{List, ◌≡◌, ℕ, ◌≤◌, ◌<◌, length}
 use Rattle.std.proofs.Math.Path.{refl}
 use borrow.Author.Tests.{le-leb, lt-leb, lt-ltb, le-ltb}

@@ -1,4 +1,5 @@
 -- How large the numbers are that the two steps tell: a number at most 19, a line of the sheet, a size within the limit, a count of links, and a sum in
+-- which each link counts at most twice.
 use Rattle.std.specs.Prelude.{List, ℕ, ◌≤◌}
 use Rattle.std.proofs.Common.{arith}
 use Rattle.model.specs.Limits.{BYTES}

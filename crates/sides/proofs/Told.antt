@@ -1,4 +1,5 @@
 -- What the two steps of one region by itself tell, for every sheet, all names, numbers and lent lists: each number for its cause and for no other, and the list
+-- after. Document 02, Card 10.
 use Rattle.std.specs.Prelude.{List, ◌++◌, ◌↔◌, ◌≡◌, refl, ℕ, ◌≤◌, ◌<◌, length, drop}
 use Rattle.std.proofs.Common.{inl, inr, sym, ap, ◌∙◌, arith}
 use Rattle.std.proofs.Math.Decide.{dec_le}

@@ -1,4 +1,5 @@
 -- What stands ready on the way to the report of a range sheet: the networks of an accepted sheet with its low and with its high sizes, as lists and taken
+-- apart; what is worked out of them is the span, and can be written.
 use Rattle.std.specs.Prelude.{◌≡◌, true, List, map, ◌++◌, leb, take}
 use Rattle.std.proofs.Math.Path.{refl, sym, ap}
 use Rattle.std.proofs.Common.{subst, ◌∙◌, le-leb}

@@ -1,4 +1,5 @@
 -- The total of an entry is the largest of its tree, and that of the plan of which the report is made: through trimming and the pair list, by the
+-- theorems that demand 2 rests on.
 use Rattle.std.specs.Prelude.{ℕ, ◌≤◌}
 use Rattle.std.proofs.Common.{arith}
 use Rattle.lists.specs.Numbers.{look}

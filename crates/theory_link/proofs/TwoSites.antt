@@ -1,4 +1,5 @@
 -- A tree of two sites: one link, and both sites are ends (01, "Pairing": with two sites only). The link carries all of its capacity, each site is in the
+-- set of its own, and the pair list is one pair of twice the capacity, or none for capacity 0; in halves and in whole circuits.
 use Rattle.std.specs.Prelude.{◌≡◌, ◌≢◌, length}
 use Rattle.std.proofs.Math.Path.{refl}
 use Rattle.std.proofs.Common.{sym, ap, ◌∙◌}

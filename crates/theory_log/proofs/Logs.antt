@@ -1,4 +1,5 @@
 -- A booking log, line by line (02, Card 6): after every line each link's load is what the lines answered 0 opened over it less what they gave up, and never
+-- above twice its capacity; a refused line moves nothing; at most OPEN pairs are open, all different, each with an amount. By induction along the log.
 use Rattle.std.specs.Prelude.{◌≡◌, length, take}
 use Rattle.std.proofs.Math.Path.{refl}
 use mathlib.Core.List.{List, [], ◌∷◌}

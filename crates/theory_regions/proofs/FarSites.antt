@@ -1,4 +1,5 @@
 -- The sum over own ends as a program has it, over all ends less the shared link's size; so it is the same whichever site of the shared link stands as far,
+-- where both may, and a region finds its far site by itself.
 use Rattle.std.specs.Prelude.{◌≡◌, ◌≢◌, ◌↔◌, List, length}
 use Rattle.std.proofs.Math.Path.{refl}
 use Rattle.std.proofs.Common.{ap, ◌∙◌, inl, inr}

@@ -1,4 +1,5 @@
 -- The decision whether two regions share one link tells it: by the names, which are different within a region, and since two sites of a tree have at most one
+-- link between them.
 use Rattle.std.specs.Prelude.{◌≡◌, ◌≢◌, ◌↔◌, ◌⊎◌}
 use Rattle.std.proofs.Math.Path.{refl, sym}
 use Rattle.std.proofs.Common.{ap, ◌∙◌}

@@ -1,4 +1,5 @@
 -- Card 10 of document 02 for two regions: what they are given after the exchange is the trimmed sizes of their joined tree, link by link, and the two sums
+-- added are its total in halves, the largest that a plan of it has, however finely cut.
 use Rattle.std.specs.Prelude.{◌≡◌, ℕ, ◌+◌}
 use Rattle.std.proofs.Math.Path.{sym}
 use native.Mathlib.Omega.{arith}

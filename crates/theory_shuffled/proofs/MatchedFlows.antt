@@ -1,4 +1,5 @@
 -- Plans carried from one numbering of a network to the other: loads and totals stay, so the largest total is the same, among all plans and among those in
+-- whole circuits, or of whatever kind. A chain of links stays a chain, so a link separates the same sites.
 use mathlib.Core.List.{List, [], ◌∷◌}
 use Rattle.std.specs.Prelude.{◌≢◌, ◌≡◌, length}
 use Rattle.std.proofs.Math.Logic.{inl, inr}

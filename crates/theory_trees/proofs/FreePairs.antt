@@ -1,4 +1,5 @@
 -- Pairs free to be joined: the test `freePair` tells just which entries are routes, and what is crossed is another terminal on the path. It sees no order of
+-- the two sites, and where every terminal has one link it holds of any two different terminals.
 use Rattle.std.specs.Prelude.{◌≡◌, ◌≢◌}
 use Prim.Native.Nat.{ℕ}
 use Rattle.model.specs.Flows.{Links, Site, Tree}

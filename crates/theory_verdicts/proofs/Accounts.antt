@@ -1,4 +1,5 @@
 -- What the lines of a plan drawn by hand come to: the lowest line with a number, or the entries of all; and what holds of the entries. By induction over the
+-- lines: a line is answered by the entries of those before it.
 use Rattle.std.specs.Prelude.{◌≡◌, refl, ◌⊎◌, ◌≢◌, List, [], ◌∷◌, ℕ, zero, suc, ◌+◌, ◌*◌, ◌≤◌, ◌<◌, length}
 use Rattle.std.proofs.Common.{sym, ap, ◌∙◌, inl, inr, mul-le-mul_left, arith}
 use Rattle.lists.specs.Numbers.{Each}

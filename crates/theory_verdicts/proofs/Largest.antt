@@ -1,4 +1,5 @@
 -- Whether a plan drawn by hand is one of the largest: its total is the sum of the trimmed sizes at the ends exactly if no plan that fits, however finely
+-- cut, has a greater total. By the plan of the pairing, which fits and has that sum as its total.
 use Rattle.std.specs.Prelude.{◌≡◌, ◌↔◌, List, ℕ, ◌≤◌}
 use Rattle.std.proofs.Common.{arith}
 use Rattle.lists.specs.Numbers.{look}

@@ -1,4 +1,5 @@
 -- What code that keeps the lists in arrays relies on: no amount is 0, none is greater than what was sent,
+-- and no list is longer than there are sites below.
 use Rattle.std.specs.Prelude.{List, [], ℕ, zero, suc, ◌-◌, ◌*◌, ◌≤◌}
 use Rattle.lists.specs.Numbers.{Each}
 use Rattle.model.specs.Flows.{Links, sum_at}

@@ -1,4 +1,5 @@
 -- That the parts are what document 02 says: their links share inner sites, chained, and no others (`one-part-iff-one-region`); the root is the lowest inner
+-- site (`root-iff-lowest`); and two terminals are free to be joined just if they stand at one part (`free-iff-at-one-part`).
 use Rattle.std.specs.Prelude.{◌≡◌, ◌≢◌, ◌↔◌, ◌⊎◌}
 use Rattle.std.proofs.Math.Path.{refl, sym}
 use Rattle.std.proofs.Common.{ap, ◌∙◌, inl, inr}

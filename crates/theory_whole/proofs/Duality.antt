@@ -1,4 +1,6 @@
 -- No end sets do better than a plan: the total of a plan in whole circuits and the odd pieces of any end sets together are at most the set sizes
+-- (004, theorem 2). By parity: a route crosses the border of each set that holds just one of its ends, and the loads of the links that leave a piece sum to an
+-- even number, so that an odd piece leaves a part of their capacities unused.
 use mathlib.Core.List.{List, []}
 use Prim.Native.Nat.{ℕ, ◌+◌, ◌-◌, ◌≤◌}
 use native.Mathlib.Omega.{arith}

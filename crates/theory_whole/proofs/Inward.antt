@@ -1,4 +1,5 @@
 -- The way inward: what is kept while the sites are taken one by one, and what holds of the intervals in the end. By an invariant: every site that is
+-- taken has its values by those of its children, `most` is the sum over the children taken so far, and `top` is the one of them with the greatest `high`.
 use Rattle.std.specs.Prelude.{◌≡◌, ℕ, ◌-◌, ◌<◌, length, get_or, set}
 use Rattle.std.proofs.Math.Path.{sym, fun_ext}
 use Rattle.std.proofs.Common.{◌∙◌, get_or-set_same, get_or-set_other}

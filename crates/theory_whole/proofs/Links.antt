@@ -1,4 +1,5 @@
 -- The links of a tree along an inward order: each site but the last has just one link to a later site, its parent link; the links at a site are that one and
+-- the parent links of its children; and every link is the parent link of one site. By induction along the order, the first site's links split off.
 use Rattle.std.specs.Prelude.{ℕ, ◌-◌, ◌≤◌}
 use Rattle.std.proofs.Math.Logic.{if_pos, if_neg}
 use mathlib.Core.List.{List, [], ◌∷◌}

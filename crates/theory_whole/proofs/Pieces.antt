@@ -1,4 +1,5 @@
 -- Odd pieces are counted at their first sites, seen from the root: B and c there have the parity of the links that leave the piece. By adding up B over the
+-- sites of a piece: below a site in no set, the high b of a child has the parity of its B or of its c. Letters as in Loads.
 use Rattle.std.specs.Prelude.{◌≡◌, ◌≢◌, ◌⊎◌}
 use Rattle.std.proofs.Math.Path.{refl, sym, ap}
 use Rattle.std.proofs.Common.{◌∙◌, inl, inr}

@@ -1,4 +1,5 @@
 -- The loads of a plan in whole circuits: halved amounts, whose loads are even at every inner site, since no site passes on an odd number of the links
+-- that separate two other sites.
 use Rattle.std.specs.Prelude.{◌≡◌, refl, ◌≢◌}
 use Rattle.std.proofs.Common.{ap}
 use mathlib.Core.List.{List, [], ◌∷◌}

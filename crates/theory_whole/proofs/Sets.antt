@@ -1,4 +1,5 @@
 -- Disjoint sets, one for each terminal, whose sizes less the odd pieces are what the loads bring to the terminals. By adding up, children first, what the
+-- links below a site leave of sets: three cases by how the set of the parent goes on. Letters as in Loads; goal: where the children `top` lead.
 use Rattle.std.specs.Prelude.{◌≡◌, ◌≢◌, ◌⊎◌, List}
 use Rattle.std.proofs.Math.Path.{refl, sym, ap}
 use Rattle.std.proofs.Common.{◌∙◌}

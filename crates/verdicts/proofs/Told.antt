@@ -1,4 +1,5 @@
 -- What judging tells, for every sheet and every plan: each number for its cause and for no other; an accepted plan is a plan that fits, with its total, and yes
+-- exactly if no fitting plan, however finely cut, has a greater total. Document 02, Card 12, and 01 on a second text read with the sheet.
 use Rattle.std.specs.Prelude.{true, ◌≡◌, ◌≢◌, ℕ, ◌*◌, ◌≤◌, ◌<◌, eqb}
 use Rattle.std.proofs.Math.Path.{refl, ap}
 use Rattle.std.proofs.Common.{◌∙◌, inl, inr}
