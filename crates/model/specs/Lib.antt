@@ -1,5 +1,7 @@
 pub mod Limits
 pub mod Edition
+pub mod Refusals
+pub mod TextRefusals
 pub mod Text
 pub mod Flows
 pub mod Trimming

@@ -1,7 +1,7 @@
 -- Plans in whole circuits: what is asked of plans, loads, sets and pieces. Document 02, Card 2. Amounts are in halves, loads and capacities in circuits;
 -- c: the capacities. A set is told by its terminal: `owner x` is the terminal whose set holds site x, or 0 where none does, so sets are disjoint.
 use Rattle.std.specs.Prelude.{◌≡◌, ◌≢◌, ◌⊎◌, List, ℕ, ◌+◌, ◌*◌, ◌%◌, ◌≤◌, length}
-use Rattle.lists.specs.Numbers.{pick, is, differ, sum, over, Each}
+use Rattle.lists.specs.Numbers.{is, differ, sum, over, Each}
 use Rattle.model.specs.Flows.{Links, Site, Multiflow, Below, Fits, sites, one, two, sum_at, label, total, at_terminals}
 use Rattle.model.specs.Trimming.{Balanced}
 use Rattle.model.specs.Cuts.{kept}

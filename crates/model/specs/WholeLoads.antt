@@ -4,7 +4,7 @@ use Rattle.std.proofs.Math.Logic.{ite}
 use Rattle.std.specs.Prelude.{List, [], ◌∷◌, map, ℕ, ◌+◌, ◌-◌, ◌*◌, ◌%◌, min, max, length}
 use Rattle.std.proofs.Math.Decide.{ℕ_discrete, dec_le, dec_lt}
 use Rattle.lists.specs.Numbers.{pick, is, over, upfrom}
-use Rattle.model.specs.Flows.{Links, one, two, sum_at, sites}
+use Rattle.model.specs.Flows.{Links, one, two, sum_at}
 use Rattle.model.specs.Trimming.{unvisited, elimination}
 
 -- ---- parents: the last site of an inward order is the root; every other site has one link to a later site, its parent

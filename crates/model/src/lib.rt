@@ -3,6 +3,7 @@
 
 ghost use Rattle.std.specs.Prelude.{◌≡◌};
 ghost use Rattle.model.specs.Edition.{edition1, edition2, ranges_low, ranges_high};
+ghost use Rattle.model.specs.TextRefusals.{in_text};
 
 // The limits of the planner: every length of an array is one of these. specs/Limits.antt has them by the same names.
 
@@ -81,6 +82,34 @@ pub enum Request {
     Open(Pair),
     GiveUp(Pair),
     Fault(u64),
+}
+
+// A refusal: its number, and the line with the fault, or 0 where no line has it.
+#[derive(Clone, Copy, PartialEq, Eq, Debug)]
+pub struct Refusal {
+    pub number: u64,
+    pub line: usize,
+}
+
+// A refusal of one of two texts: the text, 1 or 2, or 0 for both together, with the refusal's number and line.
+#[derive(Clone, Copy, PartialEq, Eq, Debug)]
+pub struct TextRefusal {
+    pub text: u64,
+    pub number: u64,
+    pub line: usize,
+}
+
+impl Refusal {
+    // This refusal, told as that of one of two texts.
+    pub fn in_text(self, text: u64) -> TextRefusal
+        ensures { result ≡ in_text self text }
+    {
+        TextRefusal {
+            text,
+            number: self.number,
+            line: self.line,
+        }
+    }
 }
 
 // What a sheet's link lines give (02, Cards 5 and 11): a size and maybe a reserve; or a low and a high size, of which the low one, or the high one, is taken
