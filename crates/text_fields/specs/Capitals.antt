@@ -1,13 +1,13 @@
 -- Names in either case (document 02, Card 4): strings read in capitals byte by byte, and what is hashed of them. Of names that are the same the caseless
 -- bytes are the same, since a-z and A-Z differ in the bit of 32 alone.
-use Rattle.std.specs.Prelude.{Bool, true, false, cond, ◌&&◌, List, [], ◌∷◌, map, ◌≢◌, ◌≡◌, refl, ℕ, ◌+◌, ◌-◌, ◌*◌, ◌^◌, ◌<◌, ◌≤◌, eqb, leb, length, get_or, drop}
-use Rattle.std.proofs.Common.{sym, ap, ◌∙◌, arith, leb-true}
+use Rattle.std.specs.Prelude.{Bool, true, false, cond, ◌&&◌, List, [], ◌∷◌, ◌≢◌, ◌≡◌, refl, ℕ, ◌+◌, ◌-◌, ◌*◌, ◌^◌, ◌<◌, leb, length, get_or}
+use Rattle.std.proofs.Common.{sym, ap, ◌∙◌, arith, ext_get_or, leb-true}
 use Rattle.std.specs.Int.Bits.{bit_and}
-use Rattle.std.proofs.lemmas.Nat.{and_block, and_le_l}
+use Rattle.std.proofs.lemmas.Nat.{and_block}
 use Rattle.std.proofs.lemmas.List.{length-map}
 use Rattle.std.proofs.Math.ListN.{get_or-map}
-use Rattle.text_fields.specs.Fields.{same, capital, capitals, SameName, same_name, caseless, half_word}
-use Rattle.text_fields.specs.FieldLaws.{both, same_step, not_same, equal_are_same}
+use Rattle.text_fields.specs.Fields.{capital, capitals, SameName, same_name, caseless, half_word}
+use Rattle.text_fields.specs.FieldLaws.{both, not_same, equal_are_same}
 
 -- ---- capitals
 
@@ -23,12 +23,16 @@ capital-at f i = get_or-map capital f i 0
 pub same_length : (f g : List ℕ) → SameName f g → length f ≡ length g
 same_length f g e = sym (length-capitals f) ∙ ap length e ∙ length-capitals g
 
--- two strings from place i on, by the bytes at i
-pub same_capitals_step : (a b : List ℕ) (i : ℕ) → i < length a → i < length b
-    → same (drop i (capitals a)) (drop i (capitals b))
-    ≡ (eqb (capital (get_or a i 0)) (capital (get_or b i 0)) && same (drop (i + 1) (capitals a)) (drop (i + 1) (capitals b)))
-same_capitals_step a b i h k =
-    rw (← (capital-at a i), ← (capital-at b i)) (same_step (capitals a) (capitals b) i (omega (arith, length-capitals a)) (omega (arith, length-capitals b)))
+-- names are the same where each byte is, and not where one is not
+pub alike_everywhere : (a b : List ℕ) → length a ≡ length b → ((k : ℕ) → k < length a → capital (get_or a k 0) ≡ capital (get_or b k 0)) → same_name a b ≡ true
+alike_everywhere a b e each =
+    let long : length (capitals a) ≡ length (capitals b) = length-capitals a ∙ e ∙ sym (length-capitals b) in
+    let alike : capitals a ≡ capitals b = ext_get_or 0 (capitals a) (capitals b) long
+    (λ k h. capital-at a k ∙ each k (omega (arith, length-capitals a)) ∙ sym (capital-at b k)) in
+    rw (← alike) (equal_are_same (capitals a))
+
+pub apart_somewhere : (a b : List ℕ) (k : ℕ) → capital (get_or a k 0) ≢ capital (get_or b k 0) → same_name a b ≡ false
+apart_somewhere a b k d = not_same (capitals a) (capitals b) (λ e. d (sym (capital-at a k) ∙ ap (λ l. get_or l k 0) e ∙ capital-at b k))
 
 -- ---- caseless bytes
 

@@ -1,10 +1,14 @@
 -- Laws of fields, by induction over the bytes: strings are the same just if they are equal; the elements of a list are tested one by one;
 -- and the fields of a line are the bytes up to its first tab and the fields of what follows.
-use Rattle.std.specs.Prelude.{Bool, true, false, cond, ◌&&◌, ◌||◌, List, [], ◌∷◌, ◌⊎◌, ◌≢◌, ◌≡◌, refl, ℕ, zero, suc, ◌+◌, ◌≤◌, ◌<◌, eqb, leb, ltb, length, get_or, take, drop}
-use Rattle.std.proofs.Math.Bool.{and-true, and-eq-true_iff}
-use Rattle.std.proofs.Common.{true≢false, inl, inr, ⊎_elim, ap, ◌∙◌, add-one, arith, drop-cons, eqb-true, eq-eqb, leb-true, ltb-true, ltb-false}
+use Rattle.std.specs.Prelude.{Bool, true, false, cond, ◌&&◌, ◌||◌, List, [], ◌∷◌, ◌⊎◌, ◌≢◌, ◌≡◌, refl, ℕ, zero, suc, ◌+◌, ◌-◌, ◌≤◌, ◌<◌, eqb, leb, ltb, length, get_or, take, drop}
+use Rattle.std.proofs.Math.Bool.{and-true, or-true, or-false, and-eq-true_iff}
+use Rattle.std.proofs.Common.{true≢false, inl, inr, ⊎_elim, sym, ap, ◌∙◌, ext_get_or, get_or-take, get_or-drop, add-one, arith, drop-cons, eqb-true, eq-eqb, leb-true, ltb-true, ltb-false}
 use Rattle.std.proofs.Math.Dec.{eqb-suc-suc}
 use Rattle.std.proofs.lemmas.Bool.{eqb-false}
+use borrow.Author.Tests.{ne_eqb}
+use Rattle.std.proofs.Math.Decide.{dec_lt}
+use Rattle.std.specs.Cmp.Lexicographic.{pointwise, bytes_decides}
+use Rattle.std.specs.List.{list_all}
 use Rattle.text_fields.specs.Fields.{same, all, is_digit, is_letter_or_digit, is_name, is_number, push, fields, field_length}
 
 -- ---- strings
@@ -40,11 +44,35 @@ equal_are_same (x ∷ a) = rw (eq-eqb x x refl) (equal_are_same a)
 pub not_same : (a b : List ℕ) → (a ≡ b → ⊥) → same a b ≡ false
 not_same a b d = fails (same a b) (λ e. d (same_are_equal a b e))
 
--- two strings from place i on, by the bytes at i
-pub same_step : (a b : List ℕ) (i : ℕ) → i < length a → i < length b
-    → same (drop i a) (drop i b) ≡ (eqb (get_or a i 0) (get_or b i 0) && same (drop (i + 1) a) (drop (i + 1) b))
+-- they are compared byte by byte, as slices are
+pub compared : (a b : List ℕ) → pointwise eqb a b ≡ same a b
 unfolding same
-same_step a b i h k = rw (drop-cons a i 0 h, drop-cons b i 0 k, add-one)
+compared [] [] = refl
+compared [] (y ∷ b) = refl
+compared (x ∷ a) [] = refl
+compared (x ∷ a) (y ∷ b) = ap (λ t. eqb x y && t) (compared a b)
+
+-- strings of 8 to 16 bytes are the same just if their first eight bytes and their last are
+pub same_by_ends : (a b : List ℕ) → length a ≡ length b → 8 ≤ length a → length a ≤ 16
+    → (pointwise eqb (take 8 a) (take 8 b) && pointwise eqb (drop (length a - 8) a) (drop (length b - 8) b)) ≡ same a b
+same_by_ends a b e low high = by (pointwise eqb (take 8 a) (take 8 b)) refl (pointwise eqb (drop (length a - 8) a) (drop (length b - 8) b)) refl
+  where
+    by : (t : Bool) → pointwise eqb (take 8 a) (take 8 b) ≡ t → (u : Bool) → pointwise eqb (drop (length a - 8) a) (drop (length b - 8) b) ≡ u
+        → (pointwise eqb (take 8 a) (take 8 b) && pointwise eqb (drop (length a - 8) a) (drop (length b - 8) b)) ≡ same a b
+    by false p u q = rw p (sym (not_same a b (λ z. true≢false (sym ((bytes_decides (take 8 a) (take 8 b)).1 (ap (take 8) z)) ∙ p))))
+    by true p false q = rw (p, q) (sym (not_same a b (λ z. true≢false (sym ((bytes_decides _ _).1 (ap (λ l. drop (length l - 8) l) z)) ∙ q))))
+    by true p true q =
+        let fronts = (bytes_decides (take 8 a) (take 8 b)).0 p in
+        let backs = (bytes_decides (drop (length a - 8) a) (drop (length b - 8) b)).0 q in
+        let whole : a ≡ b = ext_get_or 0 a b e (λ k h. elim (dec_lt k 8) [
+          | yes l ↦ sym (get_or-take 8 a k 0 l) ∙ ap (λ l. get_or l k 0) fronts ∙ get_or-take 8 b k 0 l
+          | no l ↦
+              let at : length a - 8 + (k - (length a - 8)) ≡ k = omega arith in
+              let at2 : length b - 8 + (k - (length a - 8)) ≡ k = omega arith in
+              let here = ap (λ l. get_or l (k - (length a - 8)) 0) backs in
+              rw at at (sym (get_or-drop (length a - 8) a (k - (length a - 8)) 0)) ∙ here ∙ rw at2 at (get_or-drop (length b - 8) b (k - (length a - 8)) 0)
+        ]) in
+        rw (p, q, whole) (sym (equal_are_same b))
 
 -- a string of one byte is that byte
 pub same-one : (a : List ℕ) (b : ℕ) → length a ≡ 1 → same a (b ∷ []) ≡ eqb (get_or a 0 0) b
@@ -57,6 +85,12 @@ same-one (x ∷ y ∷ a) b e = absurd (omega arith)
 pub all_step : (p : ℕ → Bool) (a : List ℕ) (i : ℕ) → i < length a → all p (drop i a) ≡ (p (get_or a i 0) && all p (drop (i + 1) a))
 unfolding all
 all_step p a i h = rw (drop-cons a i 0 h, add-one)
+
+-- the test of every element is that of the library
+pub all_of_list : (p : ℕ → Bool) (l : List ℕ) → list_all p l ≡ all p l
+unfolding all
+all_of_list p [] = refl
+all_of_list p (x ∷ l) = ap (λ t. p x && t) (all_of_list p l)
 
 -- where every element passes, each one does
 pub each_passes : {A : Type 0} (p : A → Bool) (l : List A) (d : A) → all p l ≡ true → (k : ℕ) → k < length l → p (get_or l k d) ≡ true
@@ -90,6 +124,19 @@ pub number_has_a_digit : (s : List ℕ) → length s ≡ 0 → is_number s ≡ f
 unfolding is_number
 number_has_a_digit [] e = refl
 number_has_a_digit (b ∷ s) e = absurd (omega arith)
+
+-- a number of one digit is that digit
+pub number_of_one : (s : List ℕ) → length s ≡ 1 → is_number s ≡ is_digit (get_or s 0 0)
+unfolding is_number all
+number_of_one [] e = absurd (omega arith)
+number_of_one (b ∷ []) e = simp (or-true (ltb 48 b), and-true (is_digit b))
+number_of_one (b ∷ x ∷ s) e = absurd (omega arith)
+
+-- and one of more starts with no zero
+pub number_of_more : (s : List ℕ) → 1 < length s → is_number s ≡ (all is_digit s && ltb 48 (get_or s 0 0))
+number_of_more s h =
+    let several : eqb (length s) 1 ≡ false = ne_eqb (length s) 1 (λ e. omega arith) in
+    number_is s (omega arith) ∙ rw (several, or-false (ltb 48 (get_or s 0 0)))
 
 -- a name has 1 to 12 bytes
 pub name-length : (s : List ℕ) → is_name s ≡ true → (1 ≤ length s) × (length s ≤ 12)

@@ -1,17 +1,15 @@
 -- The grammar of a line: its fields as places, and the first rule of a form that they break.
 -- Document 01, "The network sheet": a letter, then names, then numbers. Cards add forms, and numbers for the faults (02, Card 9: no bare numbers as names).
-use Rattle.std.specs.Prelude.{Bool, true, false, cond, not, ◌&&◌, List, [], ◌∷◌, ◌⊎◌, ◌≡◌, ℕ, ◌+◌, ◌≤◌, ◌<◌, leb, length, replicate}
+use Rattle.std.specs.Prelude.{Bool, true, false, cond, not, ◌&&◌, List, [], ◌∷◌, ◌⊎◌, ◌≡◌, ℕ, ◌+◌, ◌≤◌, ◌<◌, leb, length, replicate, Result, Ok, Err, Option, Some, None}
 use Rattle.std.proofs.lemmas.List.Edits.{sets}
 use Rattle.std.proofs.Math.Seq.{slice}
 use Rattle.text_fields.specs.Fields.{same, fields, field, all, digits_alone, is_name, is_number, value}
 use Rattle.text_grammar.specs.declared.Fields.{Fields}
 use Rattle.text_grammar.specs.declared.Form.{Form}
-use Rattle.text_grammar.specs.declared.Check.{Check}
-use Rattle.text_grammar.specs.declared.Check.TheVariants.{Formed, Letter, Count, Name, Digits, Number}
+use Rattle.text_grammar.specs.declared.Broken.{Broken}
+use Rattle.text_grammar.specs.declared.Broken.TheVariants.{Letter, Count, Name, Digits, Number}
 use Rattle.text_grammar.specs.declared.Rule.{Rule}
 use Rattle.text_grammar.specs.declared.Rule.TheVariants as rule
-use Rattle.text_grammar.specs.declared.Size.{Size}
-use Rattle.text_grammar.specs.declared.Size.TheVariants.{Within, Above}
 
 -- ---- fields as places
 
@@ -35,6 +33,10 @@ pub record Fits (form : Form) : Type 0 where
   pub least : 1 + form.names + form.least ≤ FIELDS
   pub most : 1 + form.names + form.most ≤ FIELDS
 
+-- what a line is found to be: formed, or the first rule that it breaks
+abbrev pub Check : Type 0
+Check = Result (Unit {0}) Broken
+
 -- not of digits alone
 abbrev pub is_lettered : List ℕ → Bool
 is_lettered f = not (digits_alone f)
@@ -50,7 +52,7 @@ unfoldable pub checked_fields : ℕ → List (List ℕ) → Check
 checked_fields n fs =
     cond (all is_name (slice 1 (1 + n) fs))
     (cond (all is_lettered (slice 1 (1 + n) fs))
-    (cond (all is_number (slice (1 + n) (length fs) fs)) Formed Number) Digits) Name
+    (cond (all is_number (slice (1 + n) (length fs) fs)) (Ok tt) (Err Number)) (Err Digits)) (Err Name)
 
 -- the first rule that fields break: the first is the letter alone; there are neither too few nor too many; names are names; none of them is of digits alone;
 -- numbers are numbers
@@ -59,17 +61,20 @@ checked form fs =
     cond (same (field fs 0) (form.letter ∷ []))
     (cond (leb (1 + form.names + form.least) (length fs) && leb (length fs) (1 + form.names + form.most))
     (checked_fields form.names fs)
-    Count) Letter
+    (Err Count)) (Err Letter)
 
--- the number of the fault (Card 1: 2 no known letter, 10 wrong number of fields, 11 bad name, 12 badly written number; Card 9: 17 name of digits only), and 0
--- for a line that is formed
+-- the number of the fault (Card 1: 2 no known letter, 10 wrong number of fields, 11 bad name, 12 badly written number; Card 9: 17 name of digits only)
+abbrev pub number_of : Broken → ℕ
+number_of Letter = 2
+number_of Count = 10
+number_of Name = 11
+number_of Digits = 17
+number_of Number = 12
+
+-- and 0 for a line that is formed
 unfoldable pub fault_of : Check → ℕ
-fault_of Formed = 0
-fault_of Letter = 2
-fault_of Count = 10
-fault_of Name = 11
-fault_of Digits = 17
-fault_of Number = 12
+fault_of (Ok u) = 0
+fault_of (Err b) = number_of b
 
 -- ---- the rules of a form, in their order: what holds of fields that break one of them
 
@@ -114,5 +119,5 @@ pub record BadNumber (form : Form) (fs : List (List ℕ)) : Type 0 where
 -- ---- numbers within a limit
 
 -- the value of a string of digits, if it is at most `most`
-unfoldable pub size_of : ℕ → List ℕ → Size
-size_of most s = cond (leb (value s) most) (Within (value s)) Above
+unfoldable pub size_of : ℕ → List ℕ → Option ℕ
+size_of most s = cond (leb (value s) most) (Some (value s)) None

@@ -1,5 +1,5 @@
 -- The finding of a line held against a form tells which rule is broken, and a broken rule its finding: rule by rule, in their order.
-use Rattle.std.specs.Prelude.{Bool, cond, ◌&&◌, List, [], ◌∷◌, ◌⊎◌, ◌≢◌, ◌≡◌, ℕ, ◌+◌, ◌-◌, ◌≤◌, ◌<◌, length, take}
+use Rattle.std.specs.Prelude.{Bool, cond, ◌&&◌, List, [], ◌∷◌, ◌≢◌, ◌≡◌, ℕ, ◌+◌, ◌-◌, ◌≤◌, ◌<◌, length, take, Ok, Err}
 use Rattle.std.proofs.Math.Bool.{true, false, false≢true}
 use Rattle.std.proofs.Math.Logic.{inl, inr}
 use Rattle.std.proofs.Common.{⊎_elim, sym, ◌∙◌, arith, get_or-take, get_or-drop}
@@ -9,10 +9,9 @@ use Rattle.std.proofs.Math.Seq.{slice, length-slice}
 use borrow.Author.Tests.{leb-true, leb-false, not-true, not-false}
 use Rattle.text_fields.specs.Fields.{same, field, all, digits_alone, is_name, is_number}
 use Rattle.text_fields.specs.FieldLaws.{same_are_equal, equal_are_same, each_passes, some_one_fails}
-use Rattle.text_grammar.specs.Grammar.{is_lettered, checked_fields, checked, WrongCount, RightCount, BadName, BareName, BadNumber}
+use Rattle.text_grammar.specs.Grammar.{Check, is_lettered, checked_fields, checked, WrongCount, RightCount, BadName, BareName, BadNumber}
 use Rattle.text_grammar.specs.declared.Form.{Form}
-use Rattle.text_grammar.specs.declared.Check.{Check}
-use Rattle.text_grammar.specs.declared.Check.TheVariants.{Formed, Letter, Count, Name, Digits, Number}
+use Rattle.text_grammar.specs.declared.Broken.TheVariants.{Letter, Count, Name, Digits, Number}
 
 -- ---- the fields from one number on, before another
 
@@ -46,12 +45,12 @@ pub record Kept (form : Form) (fs : List (List ℕ)) : Type 0 where
 module _ (form : Form) where
   -- the rule that a finding tells
   abbrev pub Tells : List (List ℕ) → Check → Type 0
-  Tells fs Formed = Kept form fs
-  Tells fs Letter = field fs 0 ≢ form.letter ∷ []
-  Tells fs Count = WrongCount form fs
-  Tells fs Name = BadName form fs
-  Tells fs Digits = BareName form fs
-  Tells fs Number = BadNumber form fs
+  Tells fs (Ok u) = Kept form fs
+  Tells fs (Err Letter) = field fs 0 ≢ form.letter ∷ []
+  Tells fs (Err Count) = WrongCount form fs
+  Tells fs (Err Name) = BadName form fs
+  Tells fs (Err Digits) = BareName form fs
+  Tells fs (Err Number) = BadNumber form fs
 
   -- the fields after the letter
   module _ (fs : List (List ℕ)) (r : RightCount form fs) where
@@ -72,7 +71,7 @@ module _ (form : Form) where
     fields-tell = by (all is_name (slice 1 end fs)) refl (all is_lettered (slice 1 end fs)) refl (all is_number (slice end (length fs) fs)) refl
       where
         by : (t : Bool) → all is_name (slice 1 end fs) ≡ t → (u : Bool) → all is_lettered (slice 1 end fs) ≡ u
-            → (v : Bool) → all is_number (slice end (length fs) fs) ≡ v → Tells fs (cond t (cond u (cond v Formed Number) Digits) Name)
+            → (v : Bool) → all is_number (slice end (length fs) fs) ≡ v → Tells fs (cond t (cond u (cond v (Ok tt) (Err Number)) (Err Digits)) (Err Name))
         by false a u b v c =
             let h = some is_name 1 end fs within a in
             record { counted = r; at = h.0; after_the_letter = h.1; among_the_names = omega arith; bad = h.3 }
@@ -106,7 +105,7 @@ module _ (form : Form) where
     where
       by : (t : Bool) → same (field fs 0) (form.letter ∷ []) ≡ t → (u : Bool) → leb (1 + form.names + form.least) (length fs) ≡ u
           → (v : Bool) → leb (length fs) (1 + form.names + form.most) ≡ v
-          → Tells fs (cond t (cond (u && v) (checked_fields form.names fs) Count) Letter)
+          → Tells fs (cond t (cond (u && v) (checked_fields form.names fs) (Err Count)) (Err Letter))
       by true a true b true c =
           fields-tell fs (record { letter = same_are_equal _ _ a; enough = leb-true _ _ b; no_more = leb-true _ _ c })
       by true a true b false c = record { letter = same_are_equal _ _ a; count = inr (leb-false _ _ c) }
@@ -119,56 +118,56 @@ module _ (form : Form) (fs : List (List ℕ)) where
   apart : WrongCount form fs → RightCount form fs → ⊥
   apart w r = ⊎_elim (λ l. omega (arith, r.enough)) (λ l. omega (arith, r.no_more)) w.count
 
-  pub a_wrong_count_is_found : WrongCount form fs → checked form fs ≡ Count
+  pub a_wrong_count_is_found : WrongCount form fs → checked form fs ≡ Err Count
   a_wrong_count_is_found w = by (checked form fs) (a_finding_tells_its_rule form fs)
     where
-      by : (c : Check) → Tells form fs c → c ≡ Count
-      by Formed h = absurd (apart w h.counted)
-      by Letter h = absurd (h w.letter)
-      by Count h = refl
-      by Name h = absurd (apart w h.counted)
-      by Digits h = absurd (apart w h.counted)
-      by Number h = absurd (apart w h.counted)
+      by : (c : Check) → Tells form fs c → c ≡ Err Count
+      by (Ok u) h = absurd (apart w h.counted)
+      by (Err Letter) h = absurd (h w.letter)
+      by (Err Count) h = refl
+      by (Err Name) h = absurd (apart w h.counted)
+      by (Err Digits) h = absurd (apart w h.counted)
+      by (Err Number) h = absurd (apart w h.counted)
 
-  pub a_bad_name_is_found : BadName form fs → checked form fs ≡ Name
+  pub a_bad_name_is_found : BadName form fs → checked form fs ≡ Err Name
   a_bad_name_is_found w = by (checked form fs) (a_finding_tells_its_rule form fs)
     where
       no_name : ((k : ℕ) → 1 ≤ k → k ≤ form.names → is_name (field fs k) ≡ true) → ⊥
       no_name names = false≢true (sym w.bad ∙ names w.at w.after_the_letter w.among_the_names)
 
-      by : (c : Check) → Tells form fs c → c ≡ Name
-      by Formed h = absurd (no_name h.names_are_names)
-      by Letter h = absurd (h w.counted.letter)
-      by Count h = absurd (apart h w.counted)
-      by Name h = refl
-      by Digits h = absurd (no_name h.names_are_names)
-      by Number h = absurd (no_name h.names_are_names)
+      by : (c : Check) → Tells form fs c → c ≡ Err Name
+      by (Ok u) h = absurd (no_name h.names_are_names)
+      by (Err Letter) h = absurd (h w.counted.letter)
+      by (Err Count) h = absurd (apart h w.counted)
+      by (Err Name) h = refl
+      by (Err Digits) h = absurd (no_name h.names_are_names)
+      by (Err Number) h = absurd (no_name h.names_are_names)
 
-  pub a_bare_name_is_found : BareName form fs → checked form fs ≡ Digits
+  pub a_bare_name_is_found : BareName form fs → checked form fs ≡ Err Digits
   a_bare_name_is_found w = by (checked form fs) (a_finding_tells_its_rule form fs)
     where
       some-bare : ((k : ℕ) → 1 ≤ k → k ≤ form.names → digits_alone (field fs k) ≡ false) → ⊥
       some-bare none = false≢true (sym (none w.at w.after_the_letter w.among_the_names) ∙ w.bare)
 
-      by : (c : Check) → Tells form fs c → c ≡ Digits
-      by Formed h = absurd (some-bare h.none_is_bare)
-      by Letter h = absurd (h w.counted.letter)
-      by Count h = absurd (apart h w.counted)
-      by Name h = absurd (false≢true (sym h.bad ∙ w.names_are_names h.at h.after_the_letter h.among_the_names))
-      by Digits h = refl
-      by Number h = absurd (some-bare h.none_is_bare)
+      by : (c : Check) → Tells form fs c → c ≡ Err Digits
+      by (Ok u) h = absurd (some-bare h.none_is_bare)
+      by (Err Letter) h = absurd (h w.counted.letter)
+      by (Err Count) h = absurd (apart h w.counted)
+      by (Err Name) h = absurd (false≢true (sym h.bad ∙ w.names_are_names h.at h.after_the_letter h.among_the_names))
+      by (Err Digits) h = refl
+      by (Err Number) h = absurd (some-bare h.none_is_bare)
 
-  pub a_bad_number_is_found : BadNumber form fs → checked form fs ≡ Number
+  pub a_bad_number_is_found : BadNumber form fs → checked form fs ≡ Err Number
   a_bad_number_is_found w = by (checked form fs) (a_finding_tells_its_rule form fs)
     where
-      by : (c : Check) → Tells form fs c → c ≡ Number
-      by Formed h = absurd (false≢true (sym w.bad ∙ h.numbers_are_numbers w.at w.after_the_names w.within))
-      by Letter h = absurd (h w.counted.letter)
-      by Count h = absurd (apart h w.counted)
-      by Name h = absurd (false≢true (sym h.bad ∙ w.names_are_names h.at h.after_the_letter h.among_the_names))
-      by Digits h = absurd (false≢true (sym (w.none_is_bare h.at h.after_the_letter h.among_the_names) ∙ h.bare))
-      by Number h = refl
+      by : (c : Check) → Tells form fs c → c ≡ Err Number
+      by (Ok u) h = absurd (false≢true (sym w.bad ∙ h.numbers_are_numbers w.at w.after_the_names w.within))
+      by (Err Letter) h = absurd (h w.counted.letter)
+      by (Err Count) h = absurd (apart h w.counted)
+      by (Err Name) h = absurd (false≢true (sym h.bad ∙ w.names_are_names h.at h.after_the_letter h.among_the_names))
+      by (Err Digits) h = absurd (false≢true (sym (w.none_is_bare h.at h.after_the_letter h.among_the_names) ∙ h.bare))
+      by (Err Number) h = refl
 
   -- a line that is formed keeps every rule
-  pub a_formed_line_keeps_the_rules : checked form fs ≡ Formed → Kept form fs
+  pub a_formed_line_keeps_the_rules : checked form fs ≡ Ok tt → Kept form fs
   a_formed_line_keeps_the_rules e = rw e at (a_finding_tells_its_rule form fs)

@@ -1,10 +1,9 @@
--- A size by its digits one by one: the value so far never falls, and is held against the limit by what it leaves of it.
-use Rattle.std.specs.Prelude.{Bool, true, false, List, [], ◌∷◌, ◌≡◌, refl, ℕ, ◌+◌, ◌-◌, ◌*◌, ◌≤◌, ◌<◌, leb, length, get_or, drop}
-use Rattle.std.proofs.Common.{sym, ◌∙◌, add-one, arith, drop-cons, leb-true, leb-false, le-leb}
+-- A size by its digits one by one: the value so far never falls.
+use Rattle.std.specs.Prelude.{List, [], ◌∷◌, ◌≡◌, ℕ, ◌+◌, ◌-◌, ◌*◌, ◌≤◌, ◌<◌, length, get_or, drop, Some, None}
+use Rattle.std.proofs.Common.{◌∙◌, add-one, arith, drop-cons, le-leb}
 use Rattle.std.proofs.lemmas.Bool.{lt-leb}
 use Rattle.text_fields.specs.Fields.{value_from, value}
 use Rattle.text_grammar.specs.Grammar.{size_of}
-use Rattle.text_grammar.specs.declared.Size.TheVariants.{Within, Above}
 
 -- the value of the digits from place i on, after those that make v, by the digit at i
 value_step : (s : List ℕ) (v i : ℕ) → i < length s → value_from v (drop i s) ≡ value_from (v * 10 + (get_or s i 0 - 48)) (drop (i + 1) s)
@@ -24,18 +23,10 @@ value_turn s v i d h e w =
     let whole : value s ≡ value_from (v * 10 + d) (drop (i + 1) s) = w ∙ rw e (value_step s v i h) in
     (omega (arith, whole, value_grows (drop (i + 1) s) (v * 10 + d)), whole)
 
-pub size-within : (most : ℕ) (s : List ℕ) → value s ≤ most → size_of most s ≡ Within (value s)
+pub size-within : (most : ℕ) (s : List ℕ) → value s ≤ most → size_of most s ≡ Some (value s)
 unfolding size_of
 size-within most s h = rw (le-leb (value s) most h)
 
-pub size_above : (most : ℕ) (s : List ℕ) → most < value s → size_of most s ≡ Above
+pub size_above : (most : ℕ) (s : List ℕ) → most < value s → size_of most s ≡ None
 unfolding size_of
 size_above most s h = rw (lt-leb (value s) most h)
-
--- a value and a digit are held against the limit by what the value leaves of it
-pub room_left : (v d most : ℕ) → v ≤ most → leb d (most - v) ≡ leb (v + d) most
-room_left v d most h = by (leb d (most - v)) refl
-  where
-    by : (t : Bool) → leb d (most - v) ≡ t → t ≡ leb (v + d) most
-    by true e = sym (le-leb (v + d) most (omega (arith, leb-true d (most - v) e)))
-    by false e = sym (lt-leb (v + d) most (omega (arith, leb-false d (most - v) e)))

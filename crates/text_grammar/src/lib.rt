@@ -5,7 +5,7 @@
 ghost use Rattle.std.specs.Prelude.{◌≡◌, ◌+◌, ◌-◌, ◌*◌, ◌≤◌, ◌<◌, leb, length, set};
 ghost use Rattle.std.proofs.Math.Seq.{slice};
 ghost use Rattle.text_fields.specs.Fields.{fields, field, all};
-ghost use Rattle.text_grammar.specs.Grammar.{FIELDS, split, keeps, checked_fields, Fits, checked, fault_of, size_of};
+ghost use Rattle.text_grammar.specs.Grammar.{FIELDS, split, keeps, checked_fields, Fits, checked, number_of, fault_of, size_of};
 
 // The most fields that a form has. specs/Grammar.antt has it by the same name.
 pub const FIELDS: usize = 5;
@@ -27,10 +27,9 @@ pub struct Form {
     pub most: usize,
 }
 
-// What a line is found to be when it is held against a form: formed, or the first of the rules that it breaks.
-#[derive(Clone, Copy)]
-pub enum Check {
-    Formed,
+// The rules of a form, in their order: a line that is not formed breaks one of them first.
+#[derive(Clone, Copy, PartialEq, Eq, Debug)]
+pub enum Broken {
     Letter,
     Count,
     Name,
@@ -39,6 +38,8 @@ pub enum Check {
 }
 
 // What some fields of a line have to be: names, not of digits alone, or numbers.
+// Stays: a closure in the place of this enum is no plainer, since the contract of `all_keep` would have to say in general what it answers of each field,
+// where `keeps` in specs/ says it of the three.
 #[derive(Clone, Copy)]
 enum Rule {
     Name,
@@ -46,14 +47,8 @@ enum Rule {
     Number,
 }
 
-// The value of a number, where it is within a limit.
-#[derive(Clone, Copy)]
-pub enum Size {
-    Within(u64),
-    Above,
-}
-
 // The ends of fields, with one more where there is a place for it.
+#[tactic(auto, using(crate::specs::SplitLaws::set_past))]
 fn mark(end: &mut [usize; FIELDS], k: usize, place: usize)
     requires { length end.old ≡ FIELDS }
     ensures { end.new ≡ set end.old k place }
@@ -69,15 +64,13 @@ pub fn split(line: &[u8]) -> Fields
 {
     let mut end = [0; FIELDS];
     let mut count = 0;
-    let mut i = 0;
-    while i < line.len() {
-        if line[i] == b'\t' {
+    for (i, b) in line.iter().enumerate() {
+        if *b == b'\t' {
             mark(&mut end, count, i);
             count += 1;
         }
-        i += 1;
     }
-    mark(&mut end, count, i);
+    mark(&mut end, count, line.len());
     Fields {
         end,
         count: count + 1,
@@ -114,98 +107,88 @@ fn all_keep(line: &[u8], found: Fields, from: usize, to: usize, rule: Rule) -> b
     requires { (found ≡ split line.now) × (to ≤ found.count) × (to ≤ FIELDS) }
     ensures { result ≡ all (keeps rule) (slice from to (fields line.now)) }
 {
-    let mut k = from;
-    while k < to {
+    for k in from..to {
         if !keeps(field(line, found, k), rule) {
             return false;
         }
-        k += 1;
     }
     true
 }
 
 // What the fields after the first are found to be: as many names as given, none of digits alone, then numbers.
-fn check_fields(line: &[u8], found: Fields, names: usize) -> Check
+#[tactic(auto, using(crate::specs::SplitLaws::count_of_split), unfolding(crate::specs::Grammar::checked_fields))]
+fn check_fields(line: &[u8], found: Fields, names: usize) -> Result<(), Broken>
     requires { (found ≡ split line.now) × (found.count ≤ FIELDS) × (names < found.count) }
     ensures { result ≡ checked_fields names (fields line.now) }
 {
     let end = 1 + names;
     if !all_keep(line, found, 1, end, Rule::Name) {
-        return Check::Name;
+        return Err(Broken::Name);
     }
     if !all_keep(line, found, 1, end, Rule::Lettered) {
-        return Check::Digits;
+        return Err(Broken::Digits);
     }
     if !all_keep(line, found, end, found.count, Rule::Number) {
-        return Check::Number;
+        return Err(Broken::Number);
     }
-    Check::Formed
+    Ok(())
 }
 
 // What a line is found to be when its fields are held against a form.
-pub fn check_line(line: &[u8], found: Fields, form: Form) -> Check
+#[tactic(auto, using(crate::specs::SplitLaws::count_of_split), unfolding(crate::specs::Grammar::checked))]
+pub fn check_line(line: &[u8], found: Fields, form: Form) -> Result<(), Broken>
     requires { (found ≡ split line.now) × Fits form }
     ensures { result ≡ checked form (fields line.now) }
 {
     if !text_fields::is_byte(field(line, found, 0), form.letter) {
-        return Check::Letter;
+        return Err(Broken::Letter);
     }
     if found.count < 1 + form.names + form.least {
-        return Check::Count;
+        return Err(Broken::Count);
     }
     if found.count > 1 + form.names + form.most {
-        return Check::Count;
+        return Err(Broken::Count);
     }
     check_fields(line, found, form.names)
 }
 
+impl Broken {
+    // The number of the fault of a line that breaks a rule.
+    pub fn number(self) -> u64
+        ensures { result ≡ number_of self }
+    {
+        match self {
+            Broken::Letter => 2,
+            Broken::Count => 10,
+            Broken::Name => 11,
+            Broken::Digits => 17,
+            Broken::Number => 12,
+        }
+    }
+}
+
 // The number of the fault that a line has, and 0 where it is formed.
-pub fn fault(check: Check) -> u64
+#[tactic(auto, unfolding(crate::specs::Grammar::fault_of))]
+pub fn fault(check: Result<(), Broken>) -> u64
     ensures { result ≡ fault_of check }
 {
     match check {
-        Check::Formed => 0,
-        Check::Letter => 2,
-        Check::Count => 10,
-        Check::Name => 11,
-        Check::Digits => 17,
-        Check::Number => 12,
+        Ok(()) => 0,
+        Err(broken) => broken.number(),
     }
-}
-
-// The value of a digit.
-fn digit_value(b: u8) -> u64
-    ensures { result ≡ b - 48 }
-{
-    if b < b'0' {
-        return 0;
-    }
-    (b - b'0') as u64
-}
-
-// Whether a value with one more digit behind it is at most `most`.
-fn fits(value: u64, digit: u64, most: u64) -> bool
-    ensures { result ≡ leb (value * 10 + digit) most }
-{
-    if value > most / 10 {
-        return false;
-    }
-    digit <= most - value * 10
 }
 
 // The value of a string of digits, of any length, if it is at most `most`.
-pub fn size_of(s: &[u8], most: u64) -> Size
+pub fn size_of(s: &[u8], most: u64) -> Option<u64>
     ensures { result ≡ size_of most s.now }
 {
     let mut value: u64 = 0;
-    let mut i = 0;
-    while i < s.len() {
-        let digit = digit_value(s[i]);
-        if !fits(value, digit, most) {
-            return Size::Above;
+    for b in s {
+        let digit = u64::from(b.saturating_sub(b'0'));
+        value = value.checked_mul(10)?.checked_add(digit)?;
+        if value > most {
+            return None;
         }
-        value = value * 10 + digit;
-        i += 1;
     }
-    Size::Within(value)
+    Some(value)
 }

@@ -10,10 +10,11 @@ ghost use Rattle.text_lines.specs.LineLaws.{NoTen};
 fn line_start(sheet: &[u8], at: usize) -> usize
     ensures { result ≡ line_start sheet.now at }
 {
-    if at < sheet.len() { at } else { sheet.len() }
+    at.min(sheet.len())
 }
 
 // The offset at which a line ends that has at most one byte left on the sheet.
+#[tactic(auto, using(crate::specs::LineLaws::line_past_the_sheet_is_empty, crate::specs::LineLaws::line_length_step))]
 fn last_end(sheet: &[u8], end: usize) -> usize
     requires { (end ≤ length sheet.now) × (length sheet.now ≤ end + 1) }
     ensures { result ≡ end + line_length (drop end sheet.now) }
@@ -33,10 +34,8 @@ fn has_ten(sheet: &[u8], at: usize) -> bool
     ensures { result ≡ false → NoTen sheet.now at 8 }
 {
     let mut any = false;
-    let mut i = 0;
-    while i < 8 {
-        any = any | (sheet[at + i] == b'\n');
-        i += 1;
+    for b in &sheet[at..at + 8] {
+        any |= *b == b'\n';
     }
     any
 }
@@ -49,6 +48,7 @@ fn pass_over(sheet: &[u8], from: usize) -> usize
 {
     let length = sheet.len();
     let mut end = from;
+    // Stays: the place is what is asked for, so an iterator over groups of eight (`chunks_exact`) would have it counted beside the loop all the same.
     while 7 < length - end {
         if has_ten(sheet, end) {
             return end;
@@ -64,6 +64,7 @@ fn line_end(sheet: &[u8], at: usize) -> usize
 {
     let mut end = pass_over(sheet, line_start(sheet, at));
     let length = sheet.len();
+    // Stays: the place is what is asked for, from the one that `pass_over` found on by twos, so there is no range or iterator that gives it.
     while 1 < length - end {
         if sheet[end] == b'\n' {
             return end;
@@ -86,6 +87,7 @@ fn line_at(sheet: &[u8], at: usize) -> &[u8]
 }
 
 // The offset after the line at an offset and its byte 10.
+#[tactic(auto, using(crate::specs::LineLaws::next_line_is_past_the_end, crate::specs::LineLaws::line_ends_on_sheet))]
 fn after_line(sheet: &[u8], at: usize) -> usize
     ensures { result ≡ after_line sheet.now at }
 {
@@ -94,6 +96,7 @@ fn after_line(sheet: &[u8], at: usize) -> usize
 }
 
 // A sheet and the offset of the next line on it (01: line reader).
+// Stays: no `Iterator`, since those who read need the offset of each line too, by which names are places on the sheet, and an iterator over lines hides it.
 #[derive(Clone, Copy)]
 pub struct LineReader<'a> {
     pub sheet: &'a [u8],
