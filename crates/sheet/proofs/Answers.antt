@@ -1,15 +1,16 @@
 -- What reading a sheet answers, in both directions: a number at a line just for its cause, 0 just without one. Numbers are 1 to 8, 10 to 13, 17 or 19, and a
 -- line at fault is one of the sheet. Document 01, "The network sheet" (the table's columns "No." and "Returned"); 02, Cards 1, 5, 9 and 11. By the causes,
 -- one by one.
-use Rattle.std.specs.Prelude.{List, ◌↔◌, ◌≢◌, ◌≡◌, ℕ, suc, ◌≤◌, length}
+use Rattle.std.specs.Prelude.{Ok, Err, List, ◌↔◌, ◌≢◌, ◌≡◌, ℕ, suc, ◌≤◌, length}
 use Rattle.std.proofs.Common.{inl, inr, lt-ltb}
 use Rattle.std.proofs.Math.Path.{refl}
 use native.Mathlib.Omega.{arith}
 use Rattle.model.specs.declared.Edition.{Edition}
+use Rattle.model.specs.declared.Refusal as answer
 use Rattle.model.specs.declared.Sizing.{Sizing}
 use Rattle.text_lines.specs.Lines.{has_line}
 use Rattle.text_lines.specs.LineLaws.{after-line-is-later}
-use Rattle.sheet.specs.Sheet.{Network, empty, Read, refused, accepted, read_as}
+use Rattle.sheet.specs.Sheet.{Network, Read, refused, accepted, read_as}
 use Rattle.sheet.specs.Reading.{lists, reading}
 use Rattle.sheet.specs.Causes.{Cause, unended, no_heading, no_letter, wrong_count, bad_name, bare_name, bad_number}
 use Rattle.sheet.specs.Causes.{too_large, too_much_held, low-above-high, too_many, given, not-given, already_joined}
@@ -93,7 +94,7 @@ module _ (ed : Edition) (s : List ℕ) where
       by (refused m l) t = let e = t.0 in let f = t.1 in cc
       by (accepted net) t = absurd (omega (arith, t.0))
 
-  pub zero_is_told_just_without_a_cause : (number (reading (read_as ed s)).answer ≡ 0) ↔ ((n k : ℕ) → ¬ (Refusal ed s n k))
+  pub zero_is_told_just_without_a_cause : (number (reading (read_as ed s)) ≡ 0) ↔ ((n k : ℕ) → ¬ (Refusal ed s n k))
   unfolding number reading
   zero_is_told_just_without_a_cause = (
     λ e n k c. let t = ((a_number_is_told_just_for_its_cause n k (refusals_have_sheet_numbers c).some).1 c).0 in
@@ -101,19 +102,19 @@ module _ (ed : Edition) (s : List ℕ) where
     λ none. by (read_as ed s) refl none,
   )
     where
-      by : (r : Read) → read_as ed s ≡ r → ((n k : ℕ) → ¬ (Refusal ed s n k)) → number (reading r).answer ≡ 0
+      by : (r : Read) → read_as ed s ≡ r → ((n k : ℕ) → ¬ (Refusal ed s n k)) → number (reading r) ≡ 0
       by (refused n k) e none = absurd (none n k ((a_sheet_is_refused_for_its_cause ed s n k).0 e))
       by (accepted net) e none = refl
 
-  -- a sheet that is refused is answered with the network of no sites, any other with its own
-  pub a_refused_sheet_gets_no_network : number (reading (read_as ed s)).answer ≢ 0 → (reading (read_as ed s)).network ≡ lists empty
+  -- a sheet that is refused is answered with its refusal and no network, any other with its own network
+  pub a_refused_sheet_gets_no_network : number (reading (read_as ed s)) ≢ 0 → (r : answer.Refusal) × (reading (read_as ed s) ≡ Err r)
   unfolding number reading
   a_refused_sheet_gets_no_network = by (read_as ed s)
     where
-      by : (r : Read) → number (reading r).answer ≢ 0 → (reading r).network ≡ lists empty
-      by (refused n k) d = refl
+      by : (r : Read) → number (reading r) ≢ 0 → (e : answer.Refusal) × (reading r ≡ Err e)
+      by (refused n k) d = (record { number = n; line = k }, refl)
       by (accepted net) d = absurd (d refl)
 
-  pub an_accepted_sheet_gets_its_network : (net : Network) → read_as ed s ≡ accepted net → (reading (read_as ed s)).network ≡ lists net
+  pub an_accepted_sheet_gets_its_network : (net : Network) → read_as ed s ≡ accepted net → reading (read_as ed s) ≡ Ok (lists net)
   unfolding reading
   an_accepted_sheet_gets_its_network net e = rw e refl

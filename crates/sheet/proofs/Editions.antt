@@ -46,7 +46,11 @@ of_the_edition P s one two = by (is_heading edition1 (fields (line_at s 0))) (is
     by false true = two
     by false false = one
 
--- as that it is one of network sheets, whose link lines give a size and a reserve (02, Card 11: range sheets are another planner's)
+-- as that it has no more sites than there are places
+pub a_known_edition_is_within_the_limits : (s : List ℕ) → (edition_of editions s).sites ≤ SITES
+a_known_edition_is_within_the_limits s = of_the_edition (λ ed. ed.sites ≤ SITES) s (omega arith) (omega arith)
+
+-- and that it is one of network sheets, whose link lines give a size and a reserve (02, Card 11: range sheets are another planner's)
 pub a_known_edition_is_of_networks : (s : List ℕ) → (edition_of editions s).sizing ≡ Reserved
 a_known_edition_is_of_networks s = of_the_edition (λ ed. ed.sizing ≡ Reserved) s refl refl
 
@@ -84,7 +88,7 @@ a_line_at_fault_is_within_the_limit s c =
 pub an_accepted_sheet_is_within_the_largest : (s : List ℕ) (net : Network) → read_sheet editions s ≡ accepted net → IsNetwork largest s net
 an_accepted_sheet_is_within_the_largest s net e =
     let N = an_accepted_sheet_is_a_tree (edition_of editions s) s net e in
-    let few = of_the_edition (λ ed. ed.sites ≤ SITES) s (omega arith) (omega arith) in
+    let few = a_known_edition_is_within_the_limits s in
     let small = of_the_edition (λ ed. ed.size ≤ SIZE) s (omega arith) (omega arith) in
     record {
       tree = N.tree;

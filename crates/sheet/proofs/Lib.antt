@@ -1,3 +1,4 @@
+pub mod Passed
 pub mod Progress
 pub mod Answers
 pub mod Editions

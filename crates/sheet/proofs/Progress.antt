@@ -13,23 +13,23 @@ use Rattle.model.specs.Limits.{PLACES, SITES}
 use Rattle.lists.specs.Numbers.{upfrom}
 use Rattle.model.specs.Flows.{Site}
 use Rattle.model.specs.declared.Edition.{Edition}
+use Rattle.model.specs.declared.Refusal.{Refusal}
 use Rattle.tree_labels.specs.Labels.{whole}
 use Rattle.tree_labels.specs.LabelPlaces.{whole-sites}
 use Rattle.tree_parents.specs.Parents.{Joins, Settled}
 use Rattle.text_lines.specs.Lines.{after_line}
 use Rattle.sheet_names.specs.Names.{TABLE, part, ranges, hash, entered, Indexes}
 use Rattle.sheet_names.specs.TableLaws.{no_sites, site-entered}
-use Rattle.sheet.specs.Sheet.{Network, empty, with_site, with_link, refused, accepted, step_of, added, read_line, read_lines, and_then, finish}
-use Rattle.sheet.specs.Reading.{padded, lists, reading}
+use Rattle.sheet.specs.Sheet.{Stepped, Network, empty, with_site, with_link, refused, accepted, step_of, added, read_line, read_lines, and_then, finish}
+use Rattle.sheet.specs.Reading.{padded, lists, site_stored, link_stored, reading}
 use Rattle.sheet.specs.Sound.{Sound, Accepts, none_is_sound, distinct_names, a_line_keeps_sound, links_are_few}
 use Rattle.sheet.specs.ReadLaws.{lines_end, lines_step}
 use Rattle.sheet.specs.Held.{LabelsOf, Held}
 use Rattle.sheet.specs.ListLaws.{padded_more, names_are}
 use Rattle.sheet.specs.LabelLaws.{own_labels, labels_join, alike-tells}
 use Rattle.sheet.specs.declared.Lists.{Lists}
-use Rattle.sheet.specs.declared.stepping.Step.{Step}
 use Rattle.sheet.specs.declared.stepping.Step.TheVariants as step
-use Rattle.sheet.specs.declared.Answer.TheVariants.{Accepted}
+use Rattle.std.specs.Prelude.{Ok, Err}
 
 -- an element more of a list, in the first free place of the list of one of its parts
 placed : (f : ℕ × ℕ → ℕ) (rs : List (ℕ × ℕ)) (r : ℕ × ℕ) → length rs < SITES
@@ -38,31 +38,6 @@ placed f rs r h =
     ap (λ n. set (padded SITES (map f rs)) n (f r)) (sym (length-map rs f))
     ∙ padded_more SITES (map f rs) (f r) (omega (arith, length-map rs f))
     ∙ ap (padded SITES) (sym (map-append f rs (r ∷ [])))
-
--- the lists with one site more, and with one link more
-abbrev site_stored : Lists → ℕ → ℕ → ℕ → Lists
-site_stored net a b m = record {
-  start = set net.start net.sites a;
-  end = set net.end net.sites b;
-  mark = set net.mark net.sites m;
-  one = net.one;
-  two = net.two;
-  capacity = net.capacity;
-  sites = net.sites + 1;
-  links = net.links;
-}
-
-abbrev link_stored : Lists → ℕ → ℕ → ℕ → Lists
-link_stored net a b size = record {
-  start = net.start;
-  end = net.end;
-  mark = net.mark;
-  one = set net.one net.links a;
-  two = set net.two net.links b;
-  capacity = set net.capacity net.links size;
-  sites = net.sites;
-  links = net.links + 1;
-}
 
 -- the lists hold the network of the lines before the line at an offset, the table its names, and the lines from there on decide
 pub record Progress (ed : Edition) (s : List ℕ) (net : Lists) (table parents : List ℕ) (at number : ℕ) : Type 0 where
@@ -114,7 +89,7 @@ module _ {ed : Edition} {s table parents : List ℕ} {net : Lists} {at number : 
   pub held : Held net.start net.end net.sites parents P.read
   held = record { names = ranges_are; labels_are = P.labels_are }
 
-  module _ (w : Step) (h : at < length s) (e : w ≡ step_of ed s P.read number at) where
+  module _ (w : Stepped) (h : at < length s) (e : w ≡ step_of ed s P.read number at) where
     -- the step reads the line
     line-is : read_line ed s P.read number at ≡ added P.read w
     unfolding read_line
@@ -144,22 +119,22 @@ module _ {ed : Edition} {s table parents : List ℕ} {net : Lists} {at number : 
         }
 
     -- a heading leaves the lists as they are
-    pub by_heading : w ≡ step.Nothing → Progress ed s net table parents (after_line s at) (number + 1)
+    pub by_heading : w ≡ Ok step.Nothing → Progress ed s net table parents (after_line s at) (number + 1)
     by_heading q = on P.read (ap (added P.read) q) net P.lists_are table P.indexed P.labels_are
 
     -- a site takes the next place of the names
-    pub site-fits : (a b m : ℕ) → w ≡ step.Site a b m → net.sites < SITES
+    pub site-fits : (a b m : ℕ) → w ≡ Ok (step.Site a b m) → net.sites < SITES
     site-fits a b m q = omega (arith, sites_are, (sound-next _ (ap (added P.read) q)).few, length-append P.read.names ((a, b) ∷ []))
 
     -- its name lies on the sheet
-    pub site_lies : (a b m : ℕ) → w ≡ step.Site a b m → (a ≤ b) × (b ≤ length s)
+    pub site_lies : (a b m : ℕ) → w ≡ Ok (step.Site a b m) → (a ≤ b) × (b ≤ length s)
     site_lies a b m q =
         let names = P.read.names in
         let last = (sound-next _ (ap (added P.read) q)).names (length names) (omega (arith, length-append names ((a, b) ∷ []))) in
         let range = rw (get_or-append_seam names (a, b) [] (0, 0)) at last in
         (range.start, range.end)
 
-    pub by_site : (a b m : ℕ) → w ≡ step.Site a b m → (entries : List ℕ) → entries ≡ entered table (hash (part s (a, b))) (net.sites + 1)
+    pub by_site : (a b m : ℕ) → w ≡ Ok (step.Site a b m) → (entries : List ℕ) → entries ≡ entered table (hash (part s (a, b))) (net.sites + 1)
         → Progress ed s (site_stored net a b m) entries parents (after_line s at) (number + 1)
     unfolding lists
     by_site a b m q entries e =
@@ -179,16 +154,16 @@ module _ {ed : Edition} {s table parents : List ℕ} {net : Lists} {at number : 
     link-behind a b = reverse_aux-append P.read.links ((a, b) ∷ []) []
 
     -- a link joins two sites
-    link-sites : (a b size : ℕ) → w ≡ step.Link a b size → Site (length P.read.names) a × Site (length P.read.names) b
+    link-sites : (a b size : ℕ) → w ≡ Ok (step.Link a b size) → Site (length P.read.names) a × Site (length P.read.names) b
     link-sites a b size q = rw (link-behind a b) at (sound-next _ (ap (added P.read) q)).ends 0 (omega arith)
 
-    pub link_fits : (a b size : ℕ) → w ≡ step.Link a b size → (net.links < SITES) × (a < PLACES) × (b < PLACES)
+    pub link_fits : (a b size : ℕ) → w ≡ Ok (step.Link a b size) → (net.links < SITES) × (a < PLACES) × (b < PLACES)
     link_fits a b size q =
         let are-sites = link-sites a b size q in
         let few = P.sound.few in
         omega (arith, links_are, links_are_few P.sound (omega arith))
 
-    pub by_link : (a b size : ℕ) → w ≡ step.Link a b size → {after : List ℕ} → Joins parents after a b
+    pub by_link : (a b size : ℕ) → w ≡ Ok (step.Link a b size) → {after : List ℕ} → Joins parents after a b
         → Progress ed s (link_stored net a b size) table after (after_line s at) (number + 1)
     unfolding lists
     by_link a b size q joins =
@@ -203,9 +178,9 @@ module _ {ed : Edition} {s table parents : List ℕ} {net : Lists} {at number : 
         table P.indexed (labels_join P.labels_are joins)
 
     -- a refused line decides
-    pub by_refusal : (n l : ℕ) → w ≡ step.Refused n l → and_then (read_lines ed s (length s) 1 0 empty) finish ≡ refused n l
+    pub by_refusal : (r : Refusal) → w ≡ Err r → and_then (read_lines ed s (length s) 1 0 empty) finish ≡ refused r.number r.line
     unfolding and_then
-    by_refusal n l q = rw (P.rest, lines_step ed s number at P.read h, line-is, q)
+    by_refusal r q = rw (P.rest, lines_step ed s number at P.read h, line-is, q)
 
   -- ---- after the last line
 
@@ -229,6 +204,6 @@ module _ {ed : Edition} {s table parents : List ℕ} {net : Lists} {at number : 
 
     -- else the network is that of the lists
     pub by_acceptance : whole labels net.sites ≡ true
-        → reading (and_then (read_lines ed s (length s) 1 0 empty) finish) ≡ record { answer = Accepted; network = net }
+        → reading (and_then (read_lines ed s (length s) 1 0 empty) finish) ≡ Ok net
     unfolding reading
     by_acceptance e = rw (finished, all-joined, e, ← P.lists_are)

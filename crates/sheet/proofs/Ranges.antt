@@ -1,6 +1,6 @@
 -- A range sheet read with its low sizes and with its high sizes (document 02, Card 11): both are refused alike, or give the same sites, marks and links, and no
 -- low size is above its high one. By the lines, each of which adds the same but for the capacity.
-use Rattle.std.specs.Prelude.{Bool, cond, ◌&&◌, List, [], ◌∷◌, ◌++◌, ◌≡◌, ℕ, zero, suc, ◌+◌, ◌≤◌, eqb, leb, ltb, length, drop}
+use Rattle.std.specs.Prelude.{Option, Some, None, Ok, Err, Bool, cond, ◌&&◌, List, [], ◌∷◌, ◌++◌, ◌≡◌, ℕ, zero, suc, ◌+◌, ◌≤◌, eqb, leb, ltb, length, drop, Result}
 use Rattle.std.proofs.Math.Bool.{true, false}
 use Rattle.std.proofs.Math.Path.{refl}
 use Rattle.std.proofs.Common.{ap, ◌∙◌, arith, length-append}
@@ -12,13 +12,10 @@ use Rattle.sheet_kinds.specs.LineKinds.{is_heading}
 use Rattle.sheet_kinds.specs.RangeLines.{LineAlike, kinds_alike}
 use Rattle.sheet_kinds.specs.declared.Line.{Line}
 use Rattle.sheet_kinds.specs.declared.Line.TheVariants as line
-use Rattle.sheet_names.specs.declared.Found.{Found}
-use Rattle.sheet_names.specs.declared.Found.TheVariants.{At, Absent}
-use Rattle.sheet.specs.Sheet.{Network, empty, with_site, with_link, Read, refused, accepted}
+use Rattle.sheet.specs.Sheet.{Stepped, refusal, Network, empty, with_site, with_link, Read, refused, accepted}
 use Rattle.sheet.specs.Sheet.{part, lookup, site_step, link_step, heading_step, record_step}
 use Rattle.sheet.specs.Sheet.{step_of, added, read_line, and_then, read_lines, all_joined, finish, read_as}
-use Rattle.sheet.specs.declared.stepping.Step.{Step}
-use Rattle.sheet.specs.declared.stepping.Step.TheVariants.{Nothing, Site, Link, Refused}
+use Rattle.sheet.specs.declared.stepping.Step.TheVariants.{Nothing, Site, Link}
 use Rattle.sheet.specs.Ranges.{Ranged, ReadAlike, StepAlike}
 
 -- one capacity more
@@ -32,41 +29,41 @@ appended_below (x ∷ p) (y ∷ q) c d e below h zero = below 0
 appended_below (x ∷ p) (y ∷ q) c d e below h (suc j) = appended_below p q c d (omega arith) (λ i. below (suc i)) h j
 
 module _ (s : List ℕ) (a b : Network) (r : Ranged a b) (k at : ℕ) where
-  same_step : (w : Step) → StepAlike w w
-  same_step Nothing = refl
-  same_step (Site x e m) = refl
-  same_step (Link x y c) = (c, refl, omega arith)
-  same_step (Refused n l) = refl
+  same_step : (w : Stepped) → StepAlike w w
+  same_step (Ok Nothing) = refl
+  same_step (Ok (Site x e m)) = refl
+  same_step (Ok (Link x y c)) = (c, refl, omega arith)
+  same_step (Err why) = refl
 
-  link-alike : (c d : ℕ) → c ≤ d → (u w : Found) → StepAlike (link_step k a.links c u w) (link_step k a.links d u w)
+  link-alike : (c d : ℕ) → c ≤ d → (u w : Option ℕ) → StepAlike (link_step k a.links c u w) (link_step k a.links d u w)
   unfolding link_step
-  link-alike c d h Absent w = refl
-  link-alike c d h (At x) Absent = refl
-  link-alike c d h (At x) (At y) = by (eqb (joined a.links x y) 1)
+  link-alike c d h None w = refl
+  link-alike c d h (Some x) None = refl
+  link-alike c d h (Some x) (Some y) = by (eqb (joined a.links x y) 1)
     where
-      by : (t : Bool) → StepAlike (cond t (Refused 7 k) (Link x y c)) (cond t (Refused 7 k) (Link x y d))
+      by : (t : Bool) → StepAlike (cond t (Err (refusal 7 k)) (Ok (Link x y c))) (cond t (Err (refusal 7 k)) (Ok (Link x y d)))
       by true = refl
       by false = (d, refl, h)
 
-  record_alike : (v w : Line) → LineAlike v w → StepAlike (record_step ranges_low s a k at v) (record_step ranges_high s b k at w)
+  record_alike : (v w : Result Line ℕ) → LineAlike v w → StepAlike (record_step ranges_low s a k at v) (record_step ranges_high s b k at w)
   unfolding record_step site_step
-  record_alike (line.Site x e m) w h = rw (h, r.names) (same_step (site_step ranges_low k (length a.names) (at + x, at + e) m (lookup s a.names
+  record_alike (Ok (line.Site x e m)) w h = rw (h, r.names) (same_step (site_step ranges_low k (length a.names) (at + x, at + e) m (lookup s a.names
       (part s (at + x, at + e)))))
-  record_alike (line.Link x e y f c) w h = rw (h.1, r.names, r.links) (link-alike c h.0 h.2 _ _)
-  record_alike (line.Fault n) w h = rw h refl
+  record_alike (Ok (line.Link x e y f c)) w h = rw (h.1, r.names, r.links) (link-alike c h.0 h.2 _ _)
+  record_alike (Err n) w h = rw h refl
 
   step_alike : StepAlike (step_of ranges_low s a k at) (step_of ranges_high s b k at)
   unfolding step_of heading_step is_heading
   step_alike = by (ltb (at + line_length (drop at s)) (length s)) (eqb k 1) _ _ _ (record_alike _ _ (kinds_alike (line_at s at)))
     where
-      by : (t u : Bool) (x v w : Step) → StepAlike v w → StepAlike (cond t (cond u x v) (Refused 2 k)) (cond t (cond u x w) (Refused 2 k))
+      by : (t u : Bool) (x v w : Stepped) → StepAlike v w → StepAlike (cond t (cond u x v) (Err (refusal 2 k))) (cond t (cond u x w) (Err (refusal 2 k)))
       by true true x v w h = same_step x
       by true false x v w h = h
       by false u x v w h = refl
 
-  added-alike : (v w : Step) → StepAlike v w → ReadAlike (added a v) (added b w)
-  added-alike Nothing w h = rw h (b, refl, r)
-  added-alike (Site x e m) w h = rw h (
+  added-alike : (v w : Stepped) → StepAlike v w → ReadAlike (added a v) (added b w)
+  added-alike (Ok Nothing) w h = rw h (b, refl, r)
+  added-alike (Ok (Site x e m)) w h = rw h (
     with_site b (x, e) m,
     refl,
     record {
@@ -77,7 +74,7 @@ module _ (s : List ℕ) (a b : Network) (r : Ranged a b) (k at : ℕ) where
       below = r.below;
     },
   )
-  added-alike (Link x y c) w h = rw h.1 (
+  added-alike (Ok (Link x y c)) w h = rw h.1 (
     with_link b (x, y) h.0,
     refl,
     record {
@@ -88,7 +85,7 @@ module _ (s : List ℕ) (a b : Network) (r : Ranged a b) (k at : ℕ) where
       below = appended_below a.capacities b.capacities c h.0 r.each r.below h.2;
     },
   )
-  added-alike (Refused n l) w h = rw h refl
+  added-alike (Err why) w h = rw h refl
 
 then_alike : (f g : Network → Read) → ((a b : Network) → Ranged a b → ReadAlike (f a) (g b)) → (v w : Read) → ReadAlike v w
     → ReadAlike (and_then v f) (and_then w g)

@@ -1,6 +1,6 @@
 -- What Card 9 changed in reading (document 02): a sheet without bare numbers for names is read as it was, and so is every sheet that is not refused with 17
 -- now; no site of an accepted sheet has a bare number for its name. Line by line.
-use Rattle.std.specs.Prelude.{Bool, List, ◌⊎◌, ◌≢◌, ◌≡◌, ℕ, ◌+◌, ◌<◌, length, drop}
+use Rattle.std.specs.Prelude.{Err, Bool, List, ◌⊎◌, ◌≢◌, ◌≡◌, ℕ, ◌+◌, ◌<◌, length, drop}
 use Rattle.std.proofs.Math.Bool.{true, false, cond, and-false}
 use Rattle.std.proofs.Math.Logic.{inl, inr, ⊎_elim}
 use Rattle.std.proofs.Math.Path.{refl}
@@ -19,14 +19,13 @@ use Rattle.sheet_kinds.specs.FaultyLines as faulty
 use Rattle.sheet_kinds.specs.FaultyLines.{BareName, Broken}
 use Rattle.sheet_kinds.specs.BareNames.{a_line_is_as_before_or_bare}
 use Rattle.sheet_names.specs.Names.{name_at}
-use Rattle.sheet.specs.Sheet.{Network, refused, accepted, heading_step, record_step, step_of, read_line, read_as, lookup}
+use Rattle.sheet.specs.Sheet.{refusal, Network, refused, accepted, heading_step, record_step, step_of, read_line, read_as, lookup}
 use Rattle.sheet.specs.StepCases.{later_step}
 use Rattle.sheet.specs.Earlier.{kind_bare, record_by, record_by_the_look_up, step_by, read_as_by}
 use Rattle.sheet.specs.Alike.{offset, placed, a_sheet_is_read_alike}
 use Rattle.sheet.specs.Causes.{Ended, fields_at, bare_name, Reached, by_line}
 use Rattle.sheet.specs.OwnLines.{a_name_stands_on_its_own_line}
 use Rattle.sheet.specs.SheetTheorem.{a_sheet_is_refused_for_its_cause}
-use Rattle.sheet.specs.declared.stepping.Step.TheVariants.{Refused}
 
 -- the line at an offset has a bare number for a name: the cause of 17
 abbrev pub BareAt : Sizing → List ℕ → ℕ → Type 0
@@ -51,8 +50,8 @@ module _ (ed : Edition) (s : List ℕ) (net : Network) (k at : ℕ) where
     where
       by : (t : Bool) → ltb (at + line_length (drop at s)) (length s) ≡ t → (u : Bool) → eqb k 1 ≡ u
           → (kind_bare ed (line_at s at) ≡ kind ed (line_at s at)) ⊎ BareAt ed.sizing s at → let first = heading_step ed (line_at s at) in
-          (cond t (cond u first (record_by lookup ed s net k at (kind_bare ed (line_at s at)))) (Refused 2 k)
-          ≡ cond t (cond u first (record_step ed s net k at (kind ed (line_at s at)))) (Refused 2 k)) ⊎ Bare
+          (cond t (cond u first (record_by lookup ed s net k at (kind_bare ed (line_at s at)))) (Err (refusal 2 k))
+          ≡ cond t (cond u first (record_step ed s net k at (kind ed (line_at s at)))) (Err (refusal 2 k))) ⊎ Bare
       by false e u f o = inl refl
       by true e true f o = inl refl
       by true e false f (inl z) = inl (rw z (record_by_the_look_up ed s net k at (kind ed (line_at s at))))

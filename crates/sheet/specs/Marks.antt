@@ -1,6 +1,6 @@
 -- What Card 7 changed in reading (document 02): a sheet without `T` lines and bare numbers for names is read as it was, and no site of a sheet without `T`
 -- lines is marked; a `T` line had no known letter, so a sheet was refused with 2 at the first of them, if for nothing above. Line by line.
-use Rattle.std.specs.Prelude.{Bool, List, ◌≡◌, ℕ, zero, suc, ◌+◌, ◌≤◌, ◌<◌, ltb, length, drop}
+use Rattle.std.specs.Prelude.{Err, Bool, List, ◌≡◌, ℕ, zero, suc, ◌+◌, ◌≤◌, ◌<◌, ltb, length, drop}
 use Rattle.std.proofs.Math.Bool.{true, false, cond}
 use Rattle.std.proofs.Math.Path.{refl, ap}
 use Rattle.std.proofs.Common.{sym, ◌∙◌}
@@ -17,14 +17,13 @@ use Rattle.text_lines.specs.Lines.{line_length, line_at, after_line, has_line}
 use Rattle.text_lines.specs.LineLaws.{after-line-is-later}
 use Rattle.sheet_kinds.specs.LineKinds.{field}
 use Rattle.sheet_kinds.specs.Unmarked.{a_line_without_mark_is_as_before, a_marked_line_had_no_known_letter, a_marked_line_is_no_heading}
-use Rattle.sheet.specs.Sheet.{Network, empty, refused, accepted, heading_step, step_of, added, read_line, and_then, finish, read_as, lookup}
+use Rattle.sheet.specs.Sheet.{Stepped, refusal, Network, empty, refused, accepted, heading_step, step_of, added, read_line, and_then, finish, read_as, lookup}
 use Rattle.sheet.specs.Earlier.{kind_bare, kind_unmarked, record_by, step_by, read_lines_by, read_as_by}
 use Rattle.sheet.specs.Alike.{offset, placed, a_sheet_is_read_alike}
 use Rattle.sheet.specs.BareNames.{WithoutBareNames, an_accepted_line_is_as_before, a_line_that_is_reached_is_as_before}
 use Rattle.sheet.specs.Causes.{fields_at, Reached, start, next}
 use Rattle.sheet.specs.SheetTheorem.{an_accepted_sheet_is_a_tree}
 use Rattle.sheet.specs.OwnLines.{a_name_stands_on_its_own_line, a_site_is_marked_just_by_its_letter}
-use Rattle.sheet.specs.declared.stepping.Step.TheVariants.{Refused}
 
 -- the line at an offset has the letter `T`
 abbrev pub MarkedAt : List ℕ → ℕ → Type 0
@@ -43,15 +42,18 @@ module _ (ed : Edition) (s : List ℕ) (net : Network) (k at : ℕ) where
   step_alike d = rw (a_line_without_mark_is_as_before ed (line_at s at) d)
 
   -- a line with the letter `T` was refused with 2, whatever the lines above had given
-  pub a_marked_line_was_refused_with_2 : MarkedAt s at → step_by kind_unmarked lookup ed s net k at ≡ Refused 2 k
+  pub a_marked_line_was_refused_with_2 : MarkedAt s at → step_by kind_unmarked lookup ed s net k at ≡ Err (refusal 2 k)
   unfolding step_by heading_step record_by
   a_marked_line_was_refused_with_2 e =
       rw (a_marked_line_had_no_known_letter ed (line_at s at) e, a_marked_line_is_no_heading ed (line_at s at) e)
       (by (ltb (at + line_length (drop at s)) (length s)) (eqb k 1) refl)
     where
-      by : (t u : Bool) → eqb k 1 ≡ u → cond t (cond u (Refused 2 1) (Refused 2 k)) (Refused 2 k) ≡ Refused 2 k
+      told : ℕ → Stepped
+      told n = Err (refusal 2 n)
+
+      by : (t u : Bool) → eqb k 1 ≡ u → cond t (cond u (told 1) (told k)) (told k) ≡ told k
       by false u f = refl
-      by true true f = ap (Refused 2) (sym (eqb-true k 1 f))
+      by true true f = ap told (sym (eqb-true k 1 f))
       by true false f = refl
 
 -- ---- a sheet without marks

@@ -1,7 +1,7 @@
 -- The name of a site stands on its own `N` line (document 01: "comes back as the bytes of its own `N` line"), or on its own `T` line, which marks it (02,
 -- Card 7), and a link with its usable size on its own `L` line (02, Card 5). By induction over the lines that are read: a line adds a name just where it is
 -- a site, and then the range of its field 1 and its mark, and a link just where it is one.
-use Rattle.std.specs.Prelude.{Bool, cond, ◌↔◌, ◌≡◌, leb, ltb, length, get_or, drop}
+use Rattle.std.specs.Prelude.{Option, Some, None, Ok, Err, Bool, cond, ◌↔◌, ◌≡◌, leb, ltb, length, get_or, drop, Result}
 use Rattle.std.proofs.Math.Bool.{true, false}
 use mathlib.Core.List.{List, [], ◌∷◌, ◌++◌}
 use Rattle.std.proofs.Math.Path.{refl, subst}
@@ -21,16 +21,13 @@ use Rattle.sheet_kinds.specs.LineKindLaws.{a_mark_tells_its_letter, no_mark_tell
 use Rattle.sheet_kinds.specs.KindForms.{LinkWithin, Tells, a_kind_tells_its_form}
 use Rattle.sheet_kinds.specs.declared.Line.{Line}
 use Rattle.sheet_kinds.specs.declared.Line.TheVariants as line
-use Rattle.sheet_names.specs.declared.Found.{Found}
-use Rattle.sheet_names.specs.declared.Found.TheVariants.{At, Absent}
-use Rattle.sheet.specs.Sheet.{Network, with_site, with_link, accepted, part, lookup, site_by, site_step, link_step, heading_step, record_step, step_of}
+use Rattle.sheet.specs.Sheet.{Stepped, refusal, Network, with_site, with_link, accepted, part, lookup, site_by, site_step, link_step, heading_step, record_step, step_of}
 use Rattle.sheet.specs.Sheet.{added, read_line, read_as}
 use Rattle.sheet.specs.Causes.{Named, fields_at, Reached, start, next}
 use Rattle.sheet.specs.CauseLaws.{Finds, finds, first_name, a_site_is_looked_up_by_field_1}
 use Rattle.sheet.specs.CauseLaws.{a_link_is_looked_up_by_field_1, a_link_is_looked_up_by_field_2}
 use Rattle.sheet.specs.RefusalLaws.{an_accepted_sheet_is_read_to_its_end}
-use Rattle.sheet.specs.declared.stepping.Step.{Step}
-use Rattle.sheet.specs.declared.stepping.Step.TheVariants.{Nothing, Site, Link, Refused}
+use Rattle.sheet.specs.declared.stepping.Step.TheVariants.{Nothing, Site, Link}
 
 -- a line of a sheet, read after n sites, is a site line, r is the range of its field 1, and m is its mark
 pub record OwnLine (ed : Edition) (s : List ℕ) (n : ℕ) (r : ℕ × ℕ) (m : ℕ) : Type 0 where
@@ -64,20 +61,20 @@ pub record OwnLinkLine (ed : Edition) (s : List ℕ) (j : ℕ) (l : ℕ × ℕ) 
 
 module _ (ed : Edition) (s : List ℕ) (net : Network) (k at : ℕ) where
   -- a step that adds nothing is that of line 1, one that adds a site is that of a site line, and one that adds a link is that of a link line
-  abbrev pub Adds : Step → Type 0
-  Adds Nothing = k ≡ 1
-  Adds (Site a e m) = IsSite (fields_at s at) × ((a, e) ≡ first_name s at) × (m ≡ mark (fields_at s at))
-  Adds (Link a b c) = IsLinkLine ed s net.names at a b c
-  Adds (Refused n m) = Unit {0}
+  abbrev pub Adds : Stepped → Type 0
+  Adds (Ok Nothing) = k ≡ 1
+  Adds (Ok (Site a e m)) = IsSite (fields_at s at) × ((a, e) ≡ first_name s at) × (m ≡ mark (fields_at s at))
+  Adds (Ok (Link a b c)) = IsLinkLine ed s net.names at a b c
+  Adds (Err r) = Unit {0}
 
-  site_adds : IsSite (fields_at s at) → (w : Found) → Adds (site_step ed k (length net.names) (first_name s at) (mark (fields_at s at)) w)
+  site_adds : IsSite (fields_at s at) → (w : Option ℕ) → Adds (site_step ed k (length net.names) (first_name s at) (mark (fields_at s at)) w)
   unfolding site_step
   site_adds is = by (leb ed.sites (length net.names))
     where
-      by : (t : Bool) (w : Found) → Adds (cond t (Refused 4 k) (site_by k (first_name s at) (mark (fields_at s at)) w))
+      by : (t : Bool) (w : Option ℕ) → Adds (cond t (Err (refusal 4 k)) (site_by k (first_name s at) (mark (fields_at s at)) w))
       by true w = tt
-      by false (At v) = tt
-      by false Absent = (is, refl, refl)
+      by false (Some v) = tt
+      by false None = (is, refl, refl)
 
   link_adds : LinkWithin ed (line_at s at) → let one = field (fields_at s at) 1 in let two = field (fields_at s at) 2 in
       Adds (link_step k net.links (capacity ed.sizing (fields_at s at)) (lookup s net.names one) (lookup s net.names two))
@@ -91,36 +88,36 @@ module _ (ed : Edition) (s : List ℕ) (net : Network) (k at : ℕ) where
       two = field (fields_at s at) 2
 
       either : (t : Bool) (a b : ℕ) → Named s net.names one a → Named s net.names two b
-          → Adds (cond t (Refused 7 k) (Link a b (capacity ed.sizing (fields_at s at))))
+          → Adds (cond t (Err (refusal 7 k)) (Ok (Link a b (capacity ed.sizing (fields_at s at)))))
       either true a b p q = tt
       either false a b p q = record { is-link = is; first = p; second = q; usable = refl }
 
-      by : (u : Found) → Finds s net.names one u → (w : Found) → Finds s net.names two w
+      by : (u : Option ℕ) → Finds s net.names one u → (w : Option ℕ) → Finds s net.names two w
           → Adds (link_step k net.links (capacity ed.sizing (fields_at s at)) u w)
-      by Absent p w q = tt
-      by (At a) p Absent q = tt
-      by (At a) p (At b) q = either (eqb (joined net.links a b) 1) a b p q
+      by None p w q = tt
+      by (Some a) p None q = tt
+      by (Some a) p (Some b) q = either (eqb (joined net.links a b) 1) a b p q
 
-  heading_adds : k ≡ 1 → (t : Bool) → Adds (cond t Nothing (Refused 2 1))
+  heading_adds : k ≡ 1 → (t : Bool) → Adds (cond t (Ok Nothing) (Err (refusal 2 1)))
   heading_adds e true = e
   heading_adds e false = tt
 
-  record_adds : (w : Line) → Tells ed (line_at s at) w → Adds (record_step ed s net k at w)
+  record_adds : (w : Result Line ℕ) → Tells ed (line_at s at) w → Adds (record_step ed s net k at w)
   unfolding record_step
-  record_adds (line.Site a e m) form = subst (λ w. Adds (record_step ed s net k at w)) (sym form.1) (site_adds form.0 _)
-  record_adds (line.Link a e b f size) form =
+  record_adds (Ok (line.Site a e m)) form = subst (λ w. Adds (record_step ed s net k at (Ok w))) (sym form.1) (site_adds form.0 _)
+  record_adds (Ok (line.Link a e b f size)) form =
       let is = form.0.link in
-      subst (λ w. Adds (record_step ed s net k at w)) (sym form.1)
+      subst (λ w. Adds (record_step ed s net k at (Ok w))) (sym form.1)
       (rw (a_link_is_looked_up_by_field_1 s at ed.sizing is, a_link_is_looked_up_by_field_2 s at ed.sizing is) (link_adds form.0))
-  record_adds (line.Fault n) form = tt
+  record_adds (Err n) form = tt
 
   pub step_adds : Adds (step_of ed s net k at)
   unfolding step_of heading_step
   step_adds =
       by (ltb (at + line_length (drop at s)) (length s)) (eqb k 1) refl (kind ed (line_at s at)) (a_kind_tells_its_form ed (line_at s at))
     where
-      by : (t u : Bool) → eqb k 1 ≡ u → (w : Line) → Tells ed (line_at s at) w
-          → Adds (cond t (cond u (heading_step ed (line_at s at)) (record_step ed s net k at w)) (Refused 2 k))
+      by : (t u : Bool) → eqb k 1 ≡ u → (w : Result Line ℕ) → Tells ed (line_at s at) w
+          → Adds (cond t (cond u (heading_step ed (line_at s at)) (record_step ed s net k at w)) (Err (refusal 2 k)))
       by false u e w form = tt
       by true true e w form = heading_adds (eqb-true k 1 e) (is_heading ed (fields_at s at))
       by true false e w form = record_adds w form
@@ -135,14 +132,14 @@ module _ (ed : Edition) (s : List ℕ) (net : Network) (k at : ℕ) where
   unfolding read_line
   line-sites after = by (step_of ed s net k at) step_adds
     where
-      by : (w : Step) → Adds w → added net w ≡ accepted after → SitesAfter after
-      by Nothing h e = let same : after ≡ net = cc in
+      by : (w : Stepped) → Adds w → added net w ≡ accepted after → SitesAfter after
+      by (Ok Nothing) h e = let same : after ≡ net = cc in
           as-they-stood (ap (λ (n : Network). n.names) same) (ap (λ (n : Network). n.marks) same)
-      by (Site a b m) h e = let same : after ≡ with_site net (a, b) m = cc in
+      by (Ok (Site a b m)) h e = let same : after ≡ with_site net (a, b) m = cc in
           one-site-more h.0 (rw (← h.1) (ap (λ (n : Network). n.names) same)) (rw (← h.2) (ap (λ (n : Network). n.marks) same))
-      by (Link a b size) h e = let same : after ≡ with_link net (a, b) size = cc in
+      by (Ok (Link a b size)) h e = let same : after ≡ with_link net (a, b) size = cc in
           as-they-stood (ap (λ (n : Network). n.names) same) (ap (λ (n : Network). n.marks) same)
-      by (Refused n m) h e = contradiction cc
+      by (Err r) h e = contradiction cc
 
   -- and no link, or its own, with its usable size
   pub data LinksAfter (after : Network) : Type 0 where
@@ -154,14 +151,14 @@ module _ (ed : Edition) (s : List ℕ) (net : Network) (k at : ℕ) where
   unfolding read_line
   line-links after = by (step_of ed s net k at) step_adds
     where
-      by : (w : Step) → Adds w → added net w ≡ accepted after → LinksAfter after
-      by Nothing h e = let same : after ≡ net = cc in
+      by : (w : Stepped) → Adds w → added net w ≡ accepted after → LinksAfter after
+      by (Ok Nothing) h e = let same : after ≡ net = cc in
           as-they-were (ap (λ (n : Network). n.links) same) (ap (λ (n : Network). n.capacities) same)
-      by (Site a b m) h e = let same : after ≡ with_site net (a, b) m = cc in
+      by (Ok (Site a b m)) h e = let same : after ≡ with_site net (a, b) m = cc in
           as-they-were (ap (λ (n : Network). n.links) same) (ap (λ (n : Network). n.capacities) same)
-      by (Link a b c) h e = let same : after ≡ with_link net (a, b) c = cc in
+      by (Ok (Link a b c)) h e = let same : after ≡ with_link net (a, b) c = cc in
           one-link-more a b c h (ap (λ (n : Network). n.links) same) (ap (λ (n : Network). n.capacities) same)
-      by (Refused n m) h e = contradiction cc
+      by (Err r) h e = contradiction cc
 
 -- ---- the lines
 

@@ -1,11 +1,9 @@
 -- A range sheet read with its low sizes and with its high sizes (document 02, Card 11): both are refused alike, or give the same sites, marks and links, and no
 -- low size is above its high one. By the lines, each of which adds the same but for the capacity.
-use Rattle.std.specs.Prelude.{[], ◌≡◌, ℕ, ◌≤◌, length}
+use Rattle.std.specs.Prelude.{Ok, Err, ◌≡◌, ℕ, ◌≤◌, length}
 use Rattle.lists.specs.Numbers.{look}
-use Rattle.sheet_kinds.specs.declared.Line.TheVariants as line
-use Rattle.sheet.specs.Sheet.{Network, Read, refused, accepted}
-use Rattle.sheet.specs.declared.stepping.Step.{Step}
-use Rattle.sheet.specs.declared.stepping.Step.TheVariants.{Nothing, Site, Link, Refused}
+use Rattle.sheet.specs.Sheet.{Stepped, Network, Read, refused, accepted}
+use Rattle.sheet.specs.declared.stepping.Step.TheVariants.{Nothing, Site, Link}
 
 -- ---- what agrees
 
@@ -23,11 +21,11 @@ ReadAlike (refused n k) r = r ≡ refused n k
 ReadAlike (accepted a) r = (b : Network) × (r ≡ accepted b) × Ranged a b
 
 -- the same step, but for the capacity of a link
-abbrev pub StepAlike : Step → Step → Type 0
-StepAlike Nothing w = w ≡ Nothing
-StepAlike (Site a e m) w = w ≡ Site a e m
-StepAlike (Link a b c) w = (d : ℕ) × (w ≡ Link a b d) × (c ≤ d)
-StepAlike (Refused n k) w = w ≡ Refused n k
+abbrev pub StepAlike : Stepped → Stepped → Type 0
+StepAlike (Ok Nothing) w = w ≡ Ok Nothing
+StepAlike (Ok (Site a e m)) w = w ≡ Ok (Site a e m)
+StepAlike (Ok (Link a b c)) w = (d : ℕ) × (w ≡ Ok (Link a b d)) × (c ≤ d)
+StepAlike (Err why) w = w ≡ Err why
 
 -- ---- what a line adds
 

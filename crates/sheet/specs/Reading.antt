@@ -1,11 +1,10 @@
--- The answer of the code for what reading a sheet comes to: the network as lists of SITES places.
+-- The answer of the code for what reading a sheet comes to: the network as lists of SITES places, or the refusal.
 -- Document 01, "The network sheet"; the table's columns "No." and "Returned".
-use Rattle.std.specs.Prelude.{List, ◌++◌, map, ℕ, ◌-◌, length, replicate}
+use Rattle.std.specs.Prelude.{List, ◌++◌, map, ℕ, ◌+◌, ◌-◌, length, set, replicate, Result, Ok, Err}
 use Rattle.model.specs.Limits.{SITES}
-use Rattle.sheet.specs.Sheet.{Network, empty, Read, refused, accepted}
-use Rattle.sheet.specs.declared.Answer.TheVariants.{Accepted, Refused}
+use Rattle.model.specs.declared.Refusal.{Refusal}
+use Rattle.sheet.specs.Sheet.{Network, refusal, Read, refused, accepted}
 use Rattle.sheet.specs.declared.Lists.{Lists}
-use Rattle.sheet.specs.declared.Reading.{Reading}
 
 -- a list with zeros behind it, n places in all
 unfoldable pub padded : ℕ → List ℕ → List ℕ
@@ -24,7 +23,33 @@ lists net = record {
   links = length net.links;
 }
 
--- refused with number and line, and no network; or accepted with the network
-unfoldable pub reading : Read → Reading
-reading (refused n k) = record { answer = Refused n k; network = lists empty }
-reading (accepted net) = record { answer = Accepted; network = lists net }
+-- the lists with one site more, in the first free places
+abbrev pub site_stored : Lists → ℕ → ℕ → ℕ → Lists
+site_stored net a b m = record {
+  start = set net.start net.sites a;
+  end = set net.end net.sites b;
+  mark = set net.mark net.sites m;
+  one = net.one;
+  two = net.two;
+  capacity = net.capacity;
+  sites = net.sites + 1;
+  links = net.links;
+}
+
+-- the lists with one link more, in the first free places
+abbrev pub link_stored : Lists → ℕ → ℕ → ℕ → Lists
+link_stored net a b size = record {
+  start = net.start;
+  end = net.end;
+  mark = net.mark;
+  one = set net.one net.links a;
+  two = set net.two net.links b;
+  capacity = set net.capacity net.links size;
+  sites = net.sites;
+  links = net.links + 1;
+}
+
+-- refused with number and line, and then there is no network; or accepted with the network
+unfoldable pub reading : Read → Result Lists Refusal
+reading (refused n k) = Err (refusal n k)
+reading (accepted net) = Ok (lists net)

@@ -1,6 +1,6 @@
 -- What Card 1 changed in reading: by the numbering from before, which gave 2 for each of them, every sheet without bare numbers for names is
 -- read as today, but that 2 stands for 10, 11 and 12; the line, and everything else, is as it was. Document 02, Card 1. By the cases of a step.
-use Rattle.std.specs.Prelude.{Bool, ◌&&◌, List, ◌≡◌, eqb, ltb, length, drop}
+use Rattle.std.specs.Prelude.{Option, Some, None, Ok, Err, Bool, ◌&&◌, List, ◌≡◌, eqb, ltb, length, drop, Result}
 use Rattle.std.proofs.Math.Bool.{true, false, cond}
 use Rattle.std.proofs.Math.Path.{refl, sym}
 use Rattle.std.proofs.Common.{◌∙◌}
@@ -15,46 +15,43 @@ unfoldable pub use Rattle.sheet_kinds.specs.Numbering.{number_before}
 use Rattle.sheet_kinds.specs.Numbering.{line_before, a_line_is_as_before}
 use Rattle.sheet_kinds.specs.declared.Line.{Line}
 use Rattle.sheet_kinds.specs.declared.Line.TheVariants as line
-use Rattle.sheet_names.specs.declared.Found.{Found}
-use Rattle.sheet_names.specs.declared.Found.TheVariants.{At, Absent}
-use Rattle.sheet.specs.Sheet.{Network, empty, Read, refused, accepted, site_step, site_by, link_step, heading_step, step_of, added, and_then}
+use Rattle.sheet.specs.Sheet.{Stepped, refusal, Network, empty, Read, refused, accepted, site_step, site_by, link_step, heading_step, step_of, added, and_then}
 use Rattle.sheet.specs.Sheet.{all_joined, finish, read_as, part, lookup}
 use Rattle.sheet.specs.Alike.{a_sheet_is_read_alike}
 use Rattle.sheet.specs.BareNames.{WithoutBareNames, a_sheet_without_bare_names_is_read_as_before}
 use Rattle.sheet.specs.Earlier.{kind_before, record_by, record_by_the_look_up, step_by, read_lines_by, read_as_by}
-use Rattle.sheet.specs.declared.stepping.Step.{Step}
-use Rattle.sheet.specs.declared.stepping.Step.TheVariants.{Nothing, Site, Link, Refused}
+use Rattle.sheet.specs.declared.stepping.Step.TheVariants.{Nothing, Site, Link}
 
 -- what reading came to before: 2 for 10, 11 and 12, at the same line; everything else stays
 abbrev pub read_before : Read → Read
 read_before (refused n k) = refused (number_before n) k
 read_before (accepted net) = accepted net
 
-abbrev step_before : Step → Step
-step_before Nothing = Nothing
-step_before (Site a e m) = Site a e m
-step_before (Link a b size) = Link a b size
-step_before (Refused n k) = Refused (number_before n) k
+abbrev step_before : Stepped → Stepped
+step_before (Ok Nothing) = Ok Nothing
+step_before (Ok (Site a e m)) = Ok (Site a e m)
+step_before (Ok (Link a b size)) = Ok (Link a b size)
+step_before (Err r) = Err (refusal (number_before r.number) r.line)
 
 -- ---- a step
 
-site_stays : (ed : Edition) (k n : ℕ) (r : ℕ × ℕ) (m : ℕ) (w : Found) → step_before (site_step ed k n r m w) ≡ site_step ed k n r m w
+site_stays : (ed : Edition) (k n : ℕ) (r : ℕ × ℕ) (m : ℕ) (w : Option ℕ) → step_before (site_step ed k n r m w) ≡ site_step ed k n r m w
 unfolding site_step number_before
 site_stays ed k n r m w = by (leb ed.sites n) w
   where
-    by : (t : Bool) (w : Found) → step_before (cond t (Refused 4 k) (site_by k r m w)) ≡ cond t (Refused 4 k) (site_by k r m w)
+    by : (t : Bool) (w : Option ℕ) → step_before (cond t (Err (refusal 4 k)) (site_by k r m w)) ≡ cond t (Err (refusal 4 k)) (site_by k r m w)
     by true w = refl
-    by false (At v) = refl
-    by false Absent = refl
+    by false (Some v) = refl
+    by false None = refl
 
 module _ (k : ℕ) (net : Network) (size : ℕ) where
-  link_stays : (u w : Found) → step_before (link_step k net.links size u w) ≡ link_step k net.links size u w
+  link_stays : (u w : Option ℕ) → step_before (link_step k net.links size u w) ≡ link_step k net.links size u w
   unfolding link_step number_before
-  link_stays Absent w = refl
-  link_stays (At a) Absent = refl
-  link_stays (At a) (At b) = by (eqb (joined net.links a b) 1)
+  link_stays None w = refl
+  link_stays (Some a) None = refl
+  link_stays (Some a) (Some b) = by (eqb (joined net.links a b) 1)
     where
-      by : (t : Bool) → step_before (cond t (Refused 7 k) (Link a b size)) ≡ cond t (Refused 7 k) (Link a b size)
+      by : (t : Bool) → step_before (cond t (Err (refusal 7 k)) (Ok (Link a b size))) ≡ cond t (Err (refusal 7 k)) (Ok (Link a b size))
       by true = refl
       by false = refl
 
@@ -62,17 +59,17 @@ heading-before : (ed : Edition) (l : List ℕ) → heading_step ed l ≡ step_be
 unfolding heading_step number_before
 heading-before ed l = by (is_heading ed (fields l))
   where
-    by : (t : Bool) → cond t Nothing (Refused 2 1) ≡ step_before (cond t Nothing (Refused 2 1))
+    by : (t : Bool) → cond t (Ok Nothing) (Err (refusal 2 1)) ≡ step_before (cond t (Ok Nothing) (Err (refusal 2 1)))
     by true = refl
     by false = refl
 
 module _ (ed : Edition) (s : List ℕ) where
   module _ (net : Network) (k at : ℕ) where
-    record-before : (w : Line) → record_by lookup ed s net k at (line_before w) ≡ step_before (record_by lookup ed s net k at w)
+    record-before : (w : Result Line ℕ) → record_by lookup ed s net k at (line_before w) ≡ step_before (record_by lookup ed s net k at w)
     unfolding record_by number_before
-    record-before (line.Site a e m) = sym (site_stays ed k (length net.names) _ m (lookup s net.names (part s (at + a, at + e))))
-    record-before (line.Link a e b f size) = sym (link_stays k net size _ _)
-    record-before (line.Fault n) = refl
+    record-before (Ok (line.Site a e m)) = sym (site_stays ed k (length net.names) _ m (lookup s net.names (part s (at + a, at + e))))
+    record-before (Ok (line.Link a e b f size)) = sym (link_stays k net size _ _)
+    record-before (Err n) = refl
 
     step-before : step_by kind_before lookup ed s net k at ≡ step_before (step_by kind_bare lookup ed s net k at)
     unfolding step_by number_before
@@ -80,20 +77,20 @@ module _ (ed : Edition) (s : List ℕ) where
         rw (a_line_is_as_before ed (line_at s at))
         (by (ltb (at + line_length (drop at s)) (length s)) (eqb k 1) (kind_bare ed (line_at s at)))
       where
-        by : (t u : Bool) (w : Line) → let first = heading_step ed (line_at s at) in
-            cond t (cond u first (record_by lookup ed s net k at (line_before w))) (Refused 2 k)
-            ≡ step_before (cond t (cond u first (record_by lookup ed s net k at w)) (Refused 2 k))
+        by : (t u : Bool) (w : Result Line ℕ) → let first = heading_step ed (line_at s at) in
+            cond t (cond u first (record_by lookup ed s net k at (line_before w))) (Err (refusal 2 k))
+            ≡ step_before (cond t (cond u first (record_by lookup ed s net k at w)) (Err (refusal 2 k)))
         by true true w = heading-before ed (line_at s at)
         by true false w = record-before w
         by false u w = refl
 
   -- ---- the lines and the sheet
 
-  added-before : (net : Network) (w : Step) → added net (step_before w) ≡ read_before (added net w)
-  added-before net Nothing = refl
-  added-before net (Site a e m) = refl
-  added-before net (Link a b size) = refl
-  added-before net (Refused n k) = refl
+  added-before : (net : Network) (w : Stepped) → added net (step_before w) ≡ read_before (added net w)
+  added-before net (Ok Nothing) = refl
+  added-before net (Ok (Site a e m)) = refl
+  added-before net (Ok (Link a b size)) = refl
+  added-before net (Err r) = refl
 
   then_before : (r : Read) (f g : Network → Read) → ((net : Network) → f net ≡ read_before (g net)) → and_then (read_before r) f ≡ read_before (and_then r g)
   unfolding and_then

@@ -1,17 +1,16 @@
 -- The network sheet: from its bytes to the network and the names, or to the number and line of its refusal.
 -- Document 01, "The network sheet"; 02, Card 7 (marks), Card 8 (editions). What a line by itself is stands in `LineKinds`.
-use Rattle.std.specs.Prelude.{Bool, true, cond, ◌&&◌, List, [], ◌∷◌, ◌++◌, ℕ, zero, suc, ◌+◌, eqb, leb, ltb, length, get_or, drop}
+use Rattle.std.specs.Prelude.{Option, Some, None, Result, Ok, Err, Bool, true, cond, ◌&&◌, List, [], ◌∷◌, ◌++◌, ℕ, zero, suc, ◌+◌, eqb, leb, ltb, length, get_or, drop}
 use Rattle.model.specs.Flows.{Links, sites, ends, joined}
 use Rattle.model.specs.Edition.{edition1}
 use Rattle.model.specs.declared.Edition.{Edition}
+use Rattle.model.specs.declared.Refusal.{Refusal}
 use Rattle.text_lines.specs.Lines.{line_length, line_at, after_line, has_line}
 use Rattle.sheet_kinds.specs.LineKinds.{fields, is_heading, kind}
 use Rattle.sheet_kinds.specs.declared.Line.{Line}
 use Rattle.sheet_kinds.specs.declared.Line.TheVariants as line
-use Rattle.sheet_names.specs.declared.Found.{Found}
-use Rattle.sheet_names.specs.declared.Found.TheVariants.{At, Absent}
 use Rattle.sheet.specs.declared.stepping.Step.{Step}
-use Rattle.sheet.specs.declared.stepping.Step.TheVariants.{Nothing, Site, Link, Refused}
+use Rattle.sheet.specs.declared.stepping.Step.TheVariants.{Nothing, Site, Link}
 -- a part of the sheet, and the look-up of a name
 pub use Rattle.sheet_names.specs.Names.{part, lookup}
 unfoldable pub use Rattle.sheet_names.specs.Names.{lookup_from}
@@ -55,46 +54,54 @@ pub data Read : Type 0 where
 
 -- ---- what a line adds to the network read so far: the line at offset `at`, with number k
 
+-- a refusal with a number and a line
+abbrev pub refusal : ℕ → ℕ → Refusal
+refusal n k = record { number = n; line = k }
+
+-- what a line adds, or its refusal
+abbrev pub Stepped : Type 0
+Stepped = Result Step Refusal
+
 -- a site line, marked or not, by what the look-up of its name found: 5 where the name is given
-abbrev pub site_by : ℕ → ℕ × ℕ → ℕ → Found → Step
-site_by k r mark (At v) = Refused 5 k
-site_by k r mark Absent = Site r.0 r.1 mark
+abbrev pub site_by : ℕ → ℕ × ℕ → ℕ → Option ℕ → Stepped
+site_by k r mark (Some v) = Err (refusal 5 k)
+site_by k r mark None = Ok (Site r.0 r.1 mark)
 
 -- a site line after n sites: 4 where they are as many as the edition allows, then 5
-unfoldable pub site_step : Edition → ℕ → ℕ → ℕ × ℕ → ℕ → Found → Step
-site_step ed k n r mark found = cond (leb ed.sites n) (Refused 4 k) (site_by k r mark found)
+unfoldable pub site_step : Edition → ℕ → ℕ → ℕ × ℕ → ℕ → Option ℕ → Stepped
+site_step ed k n r mark found = cond (leb ed.sites n) (Err (refusal 4 k)) (site_by k r mark found)
 
 -- a link line, by what the look-ups of its names found: 6 where one is not given above, then 7 where its sites are joined by links above, or are one site
-unfoldable pub link_step : ℕ → Links → ℕ → Found → Found → Step
-link_step k ls size Absent w = Refused 6 k
-link_step k ls size (At a) Absent = Refused 6 k
-link_step k ls size (At a) (At b) = cond (eqb (joined ls a b) 1) (Refused 7 k) (Link a b size)
+unfoldable pub link_step : ℕ → Links → ℕ → Option ℕ → Option ℕ → Stepped
+link_step k ls size None w = Err (refusal 6 k)
+link_step k ls size (Some a) None = Err (refusal 6 k)
+link_step k ls size (Some a) (Some b) = cond (eqb (joined ls a b) 1) (Err (refusal 7 k)) (Ok (Link a b size))
 
 -- line 1 is the edition's heading
-unfoldable pub heading_step : Edition → List ℕ → Step
-heading_step ed l = cond (is_heading ed (fields l)) Nothing (Refused 2 1)
+unfoldable pub heading_step : Edition → List ℕ → Stepped
+heading_step ed l = cond (is_heading ed (fields l)) (Ok Nothing) (Err (refusal 2 1))
 
 -- a later line is a site or a link
-unfoldable pub record_step : Edition → List ℕ → Network → ℕ → ℕ → Line → Step
-record_step ed s net k at (line.Site a e m) = site_step ed k (length net.names) (at + a, at + e) m (lookup s net.names (part s (at + a, at + e)))
-record_step ed s net k at (line.Link a e b f size) =
+unfoldable pub record_step : Edition → List ℕ → Network → ℕ → ℕ → Result Line ℕ → Stepped
+record_step ed s net k at (Ok (line.Site a e m)) = site_step ed k (length net.names) (at + a, at + e) m (lookup s net.names (part s (at + a, at + e)))
+record_step ed s net k at (Ok (line.Link a e b f size)) =
     link_step k net.links size (lookup s net.names (part s (at + a, at + e))) (lookup s net.names (part s (at + b, at + f)))
-record_step ed s net k at (line.Fault n) = Refused n k
+record_step ed s net k at (Err n) = Err (refusal n k)
 
 -- 2 for a line that no byte 10 ends, before any other fault
-unfoldable pub step_of : Edition → List ℕ → Network → ℕ → ℕ → Step
+unfoldable pub step_of : Edition → List ℕ → Network → ℕ → ℕ → Stepped
 step_of ed s net k at =
     let line = line_at s at in
     cond (ltb (at + line_length (drop at s)) (length s))
     (cond (eqb k 1) (heading_step ed line) (record_step ed s net k at (kind ed line)))
-    (Refused 2 k)
+    (Err (refusal 2 k))
 
 -- the network with what a line adds, or its refusal
-abbrev pub added : Network → Step → Read
-added net Nothing = accepted net
-added net (Site a e m) = accepted (with_site net (a, e) m)
-added net (Link a b size) = accepted (with_link net (a, b) size)
-added net (Refused n k) = refused n k
+abbrev pub added : Network → Stepped → Read
+added net (Ok Nothing) = accepted net
+added net (Ok (Site a e m)) = accepted (with_site net (a, e) m)
+added net (Ok (Link a b size)) = accepted (with_link net (a, b) size)
+added net (Err r) = refused r.number r.line
 
 -- a line read
 unfoldable pub read_line : Edition → List ℕ → Network → ℕ → ℕ → Read

@@ -1,6 +1,6 @@
 -- What holds of the network after every line that is read without fault. By cases on the line: a site line adds a new name, a link line
 -- joins two sites that were not joined.
-use Rattle.std.specs.Prelude.{Bool, cond, ◌≢◌, ◌≡◌, ltb, length, get_or, take, drop}
+use Rattle.std.specs.Prelude.{Option, Some, None, Ok, Err, Bool, cond, ◌≢◌, ◌≡◌, ltb, length, get_or, take, drop, Result}
 use Rattle.std.proofs.Math.Bool.{true, false}
 use mathlib.Core.List.{List, [], ◌∷◌, ◌++◌, reverse, reverse_aux-append}
 use Rattle.std.proofs.Math.Path.{refl}
@@ -28,11 +28,9 @@ use Rattle.sheet_kinds.specs.declared.Line.TheVariants as line
 use Rattle.sheet_names.specs.Names.{name_at, Different, Distinct}
 use Rattle.sheet_names.specs.Lists.{one_more}
 use Rattle.sheet_names.specs.LookupLaws.{Says, lookup_says}
-use Rattle.sheet_names.specs.declared.Found.{Found}
-use Rattle.sheet_names.specs.declared.Found.TheVariants.{At, Absent}
-use Rattle.sheet.specs.Sheet.{Network, empty, Read, refused, accepted, part, lookup, site_by, site_step, link_step, heading_step, record_step, step_of, added}
+use Rattle.sheet.specs.Sheet.{refusal, Network, empty, Read, refused, accepted, part, lookup, site_by, site_step, link_step, heading_step, record_step, step_of, added}
 use Rattle.sheet.specs.Sheet.{with_site, with_link, read_line, and_then, read_lines}
-use Rattle.sheet.specs.declared.stepping.Step.TheVariants.{Nothing, Link, Refused}
+use Rattle.sheet.specs.declared.stepping.Step.TheVariants.{Nothing, Link}
 
 -- a range of the sheet that holds a name
 pub record IsNameRange (s : List ℕ) (r : ℕ × ℕ) : Type 0 where
@@ -86,7 +84,7 @@ line-name s at a e b p q h = record {
 
 module _ (ed : Edition) (s : List ℕ) (net : Network) (k : ℕ) (sound : Sound ed s net) where
   -- the line is a site of a new name
-  new_site : (r : ℕ × ℕ) → IsNameRange s r → (mark : ℕ) → mark ≤ 1 → length net.names < ed.sites → Says s net.names 1 (part s r) Absent
+  new_site : (r : ℕ × ℕ) → IsNameRange s r → (mark : ℕ) → mark ≤ 1 → length net.names < ed.sites → Says s net.names 1 (part s r) None
       → Sound ed s (with_site net r mark)
   new_site r named mark small few new = record {
     few = omega (arith, length-append net.names (r ∷ []));
@@ -128,11 +126,11 @@ module _ (ed : Edition) (s : List ℕ) (net : Network) (k : ℕ) (sound : Sound 
   unfolding site_step
   site-line r named mark small = by (leb ed.sites (length net.names)) refl (lookup s net.names (part s r)) (lookup_says s (part s r) net.names 1)
     where
-      by : (t : Bool) → leb ed.sites (length net.names) ≡ t → (w : Found) → Says s net.names 1 (part s r) w
-          → Accepts (Sound ed s) (added net (cond t (Refused 4 k) (site_by k r mark w)))
+      by : (t : Bool) → leb ed.sites (length net.names) ≡ t → (w : Option ℕ) → Says s net.names 1 (part s r) w
+          → Accepts (Sound ed s) (added net (cond t (Err (refusal 4 k)) (site_by k r mark w)))
       by true e w h = tt
-      by false e (At v) h = tt
-      by false e Absent h = new_site r named mark small (leb-false _ _ e) h
+      by false e (Some v) h = tt
+      by false e None h = new_site r named mark small (leb-false _ _ e) h
 
   link-line : (r q : ℕ × ℕ) (size : ℕ) → size ≤ ed.size
       → Accepts (Sound ed s) (added net (link_step k net.links size (lookup s net.names (part s r)) (lookup s net.names (part s q))))
@@ -142,15 +140,15 @@ module _ (ed : Edition) (s : List ℕ) (net : Network) (k : ℕ) (sound : Sound 
       (lookup_says s (part s q) net.names 1)
     where
       either : (a b : ℕ) → Site (length net.names) a → Site (length net.names) b → (t : Bool) → eqb (joined net.links a b) 1 ≡ t
-          → Accepts (Sound ed s) (added net (cond t (Refused 7 k) (Link a b size)))
+          → Accepts (Sound ed s) (added net (cond t (Err (refusal 7 k)) (Ok (Link a b size))))
       either a b p q true e = tt
       either a b p q false e = new_link a b size p q (λ z. eqb-false _ _ e (is_same ((joined_reversed net.links a b).0 z))) h
 
-      by : (u w : Found) → Says s net.names 1 (part s r) u → Says s net.names 1 (part s q) w
+      by : (u w : Option ℕ) → Says s net.names 1 (part s r) u → Says s net.names 1 (part s q) w
           → Accepts (Sound ed s) (added net (link_step k net.links size u w))
-      by Absent w p j = tt
-      by (At a) Absent p j = tt
-      by (At a) (At b) p j = either a b (omega arith) (omega arith) (eqb (joined net.links a b) 1) refl
+      by None w p j = tt
+      by (Some a) None p j = tt
+      by (Some a) (Some b) p j = either a b (omega arith) (omega arith) (eqb (joined net.links a b) 1) refl
 
   -- a line that is read without fault keeps what holds
   pub a_line_keeps_sound : (at : ℕ) → at ≤ length s → Accepts (Sound ed s) (read_line ed s net k at)
@@ -158,17 +156,17 @@ module _ (ed : Edition) (s : List ℕ) (net : Network) (k : ℕ) (sound : Sound 
   a_line_keeps_sound at b =
       by (ltb (at + line_length (drop at s)) (length s)) (eqb k 1) (kind ed (line_at s at)) (kinds_are_formed ed (line_at s at))
     where
-      heading : (t : Bool) → Accepts (Sound ed s) (added net (cond t Nothing (Refused 2 1)))
+      heading : (t : Bool) → Accepts (Sound ed s) (added net (cond t (Ok Nothing) (Err (refusal 2 1))))
       heading true = sound
       heading false = tt
 
-      later : (w : Line) → Formed ed.size (line_at s at) w → Accepts (Sound ed s) (added net (record_step ed s net k at w))
-      later (line.Site a e m) h = site-line (at + a, at + e) (line-name s at a e b h.0 h.1 h.2) m h.3
-      later (line.Link a e c f size) h = link-line (at + a, at + e) (at + c, at + f) size h.4
-      later (line.Fault n) h = tt
+      later : (w : Result Line ℕ) → Formed ed.size (line_at s at) w → Accepts (Sound ed s) (added net (record_step ed s net k at w))
+      later (Ok (line.Site a e m)) h = site-line (at + a, at + e) (line-name s at a e b h.0 h.1 h.2) m h.3
+      later (Ok (line.Link a e c f size)) h = link-line (at + a, at + e) (at + c, at + f) size h.4
+      later (Err n) h = tt
 
-      by : (t u : Bool) (w : Line) → Formed ed.size (line_at s at) w
-          → Accepts (Sound ed s) (added net (cond t (cond u (heading_step ed (line_at s at)) (record_step ed s net k at w)) (Refused 2 k)))
+      by : (t u : Bool) (w : Result Line ℕ) → Formed ed.size (line_at s at) w
+          → Accepts (Sound ed s) (added net (cond t (cond u (heading_step ed (line_at s at)) (record_step ed s net k at w)) (Err (refusal 2 k))))
       by false u w h = tt
       by true true w h = heading (is_heading ed (fields (line_at s at)))
       by true false w h = later w h

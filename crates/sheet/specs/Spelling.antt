@@ -1,7 +1,7 @@
 -- What Card 4 changed in reading (document 02): a sheet on which no two names differ in case alone is read as it was when names were looked up by
 -- their bytes. By induction over the lines: the names that the lines above gave are those of site lines, so a name that is the same as one of
 -- them has its bytes.
-use Rattle.std.specs.Prelude.{Bool, true, false, List, [], ◌∷◌, ◌⊎◌, ◌≡◌, ℕ, suc, ◌+◌, ◌<◌, length, get_or}
+use Rattle.std.specs.Prelude.{Bool, true, false, List, [], ◌∷◌, ◌⊎◌, ◌≡◌, ℕ, suc, ◌+◌, ◌<◌, length, get_or, Result, Ok, Err}
 use Rattle.std.proofs.Common.{true≢false, inl, inr, sym, ap, ◌∙◌, arith}
 use Rattle.std.proofs.Math.Path.{refl, subst}
 use Rattle.model.specs.declared.Edition.{Edition}
@@ -99,26 +99,26 @@ module _ (ed : Edition) (s : List ℕ) (alike : SpeltAlike s) where
           },
         )
 
-    site-alike : IsSite (fields_at s at) → (m : ℕ) → let w = line.Site 2 (2 + length (field (fields_at s at) 1)) m in
+    site-alike : IsSite (fields_at s at) → (m : ℕ) → let w = Ok (line.Site 2 (2 + length (field (fields_at s at) 1)) m) in
         record_by lookup_bytes ed s net k at w ≡ record_step ed s net k at w
     unfolding record_by record_step
     site-alike is m = rw (found_alike (first_name s at) (inl (site-name is)))
 
     link-alike : IsLink ed.sizing (fields_at s at) → (size : ℕ) → let one = length (field (fields_at s at) 1) in
-        let w = line.Link 2 (2 + one) (3 + one) (3 + one + length (field (fields_at s at) 2)) size in
+        let w = Ok (line.Link 2 (2 + one) (3 + one) (3 + one + length (field (fields_at s at) 2)) size) in
         record_by lookup_bytes ed s net k at w ≡ record_step ed s net k at w
     unfolding record_by record_step
     link-alike is size =
         let names = link-names is in
         rw (found_alike (first_name s at) (inr names.0), found_alike (second_name s at) (inr names.1))
 
-    record_alike : (w : Line) → Tells ed (line_at s at) w → record_by lookup_bytes ed s net k at w ≡ record_step ed s net k at w
+    record_alike : (w : Result Line ℕ) → Tells ed (line_at s at) w → record_by lookup_bytes ed s net k at w ≡ record_step ed s net k at w
     unfolding record_by record_step
-    record_alike (line.Site a e m) form =
-        subst (λ w. record_by lookup_bytes ed s net k at w ≡ record_step ed s net k at w) (sym form.1) (site-alike form.0 _)
-    record_alike (line.Link a e b f size) form =
-        subst (λ w. record_by lookup_bytes ed s net k at w ≡ record_step ed s net k at w) (sym form.1) (link-alike form.0.link _)
-    record_alike (line.Fault n) form = refl
+    record_alike (Ok (line.Site a e m)) form =
+        subst (λ w. record_by lookup_bytes ed s net k at (Ok w) ≡ record_step ed s net k at (Ok w)) (sym form.1) (site-alike form.0 _)
+    record_alike (Ok (line.Link a e b f size)) form =
+        subst (λ w. record_by lookup_bytes ed s net k at (Ok w) ≡ record_step ed s net k at (Ok w)) (sym form.1) (link-alike form.0.link _)
+    record_alike (Err n) form = refl
 
     step_alike : step_by kind lookup_bytes ed s net k at ≡ step_of ed s net k at
     unfolding step_by step_of

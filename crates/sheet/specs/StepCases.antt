@@ -1,5 +1,5 @@
 -- A step, case by case: the ending of the line first, then its number; and that a site which a look-up finds has a place.
-use Rattle.std.specs.Prelude.{List, ◌≢◌, ◌≡◌, ℕ, ◌+◌, ◌≤◌, ◌<◌, length, drop}
+use Rattle.std.specs.Prelude.{Option, Some, None, Err, List, ◌≢◌, ◌≡◌, ℕ, ◌+◌, ◌≤◌, ◌<◌, length, drop}
 use Rattle.std.proofs.Common.{arith}
 use borrow.Author.Tests.{eq-eqb, ne_eqb, lt-ltb, le-ltb}
 use Rattle.model.specs.declared.Edition.{Edition}
@@ -8,13 +8,10 @@ use Rattle.text_lines.specs.LineLaws.{length_of_line}
 use Rattle.sheet_kinds.specs.LineKinds.{kind}
 use Rattle.sheet_names.specs.Names.{lookup}
 use Rattle.sheet_names.specs.LookupLaws.{Says, lookup_says}
-use Rattle.sheet_names.specs.declared.Found.{Found}
-use Rattle.sheet_names.specs.declared.Found.TheVariants.{At, Absent}
-use Rattle.sheet.specs.Sheet.{Network, heading_step, record_step, step_of}
-use Rattle.sheet.specs.declared.stepping.Step.TheVariants.{Refused}
+use Rattle.sheet.specs.Sheet.{refusal, Network, heading_step, record_step, step_of}
 
 module _ (ed : Edition) (s : List ℕ) (net : Network) (k at : ℕ) where
-  pub unended_step : length s ≤ at + length (line_at s at) → step_of ed s net k at ≡ Refused 2 k
+  pub unended_step : length s ≤ at + length (line_at s at) → step_of ed s net k at ≡ Err (refusal 2 k)
   unfolding step_of
   unended_step h = rw (le-ltb (at + line_length (drop at s)) (length s) (omega (arith, length_of_line s at)))
 
@@ -27,14 +24,14 @@ module _ (ed : Edition) (s : List ℕ) (net : Network) (k at : ℕ) where
   later_step h d = rw (lt-ltb (at + line_length (drop at s)) (length s) (omega (arith, length_of_line s at)), ne_eqb k 1 d)
 
 -- a site that is found has one of n places
-abbrev pub Labelled : ℕ → Found → Type 0
-Labelled n (At v) = v < n
-Labelled n Absent = Unit {0}
+abbrev pub Labelled : ℕ → Option ℕ → Type 0
+Labelled n (Some v) = v < n
+Labelled n None = Unit {0}
 
 -- what is found among fewer than n sites has one of n places
 pub labelled : (s f : List ℕ) (names : List (ℕ × ℕ)) (n : ℕ) → length names < n → Labelled n (lookup s names f)
 labelled s f names n l = by (lookup s names f) (lookup_says s f names 1)
   where
-    by : (w : Found) → Says s names 1 f w → Labelled n w
-    by (At v) h = omega arith
-    by Absent h = tt
+    by : (w : Option ℕ) → Says s names 1 f w → Labelled n w
+    by (Some v) h = omega arith
+    by None h = tt

@@ -1,25 +1,18 @@
 // Reading a network sheet (document 01, "The network sheet"): from its bytes to the network and the names, or to its refusal.
 #![tactic(auto)]
 
-ghost use Rattle.std.specs.Prelude.{◌≡◌, ◌≤◌, length};
+ghost use Rattle.std.specs.Prelude.{◌≡◌, ◌<◌, ◌≤◌, length};
 ghost use Rattle.model.specs.Limits.{SITES};
 ghost use Rattle.model.specs.Edition.{editions, ranges_low, ranges_high};
-ghost use Rattle.sheet.specs.Sheet.{empty, refused, read_lines, and_then, finish, read_as, edition_of, read_sheet, name_range};
+ghost use Rattle.sheet.specs.Sheet.{empty, read_lines, and_then, finish, read_as, edition_of, read_sheet, name_range};
 ghost use Rattle.sheet_names.specs.Names.{IsPart};
-ghost use Rattle.sheet.specs.Reading.{lists, reading};
+ghost use Rattle.sheet.specs.Reading.{lists, site_stored, link_stored, reading};
 
 mod stepping;
 
-use model::{Edition, SITES};
+use model::{Edition, Refusal, SITES};
 use sheet_names::TABLE;
 use stepping::Step;
-
-// What a sheet is answered: accepted, or refused with the refusal's number and its line.
-#[derive(Clone, Copy)]
-pub enum Answer {
-    Accepted,
-    Refused { number: u64, line: usize },
-}
 
 // The network of a sheet: for each site the range of its name on the sheet and its mark (1 marked, 0 not), for each link its two sites and its capacity,
 // each in the order of the sheet, with zeros behind them; and how many sites and links there are.
@@ -42,99 +35,95 @@ pub struct Range {
     pub end: usize,
 }
 
-// What reading a sheet comes to; the network of a sheet that is refused is empty.
-#[derive(Clone, Copy)]
-pub struct Reading {
-    pub answer: Answer,
-    pub network: Lists,
-}
-
-// The network of no sites.
-fn nothing() -> Lists
-    ensures { result ≡ lists empty }
-{
-    Lists {
-        start: [0; SITES],
-        end: [0; SITES],
-        mark: [0; SITES],
-        one: [0; SITES],
-        two: [0; SITES],
-        capacity: [0; SITES],
-        sites: 0,
-        links: 0,
+impl Lists {
+    // The network of no sites.
+    fn empty() -> Self
+        ensures { result ≡ lists empty }
+    {
+        Lists {
+            start: [0; SITES],
+            end: [0; SITES],
+            mark: [0; SITES],
+            one: [0; SITES],
+            two: [0; SITES],
+            capacity: [0; SITES],
+            sites: 0,
+            links: 0,
+        }
     }
-}
 
-// The refusal of a sheet.
-fn refusal(number: u64, line: usize) -> Reading
-    ensures { result ≡ reading (refused number line) }
-{
-    Reading {
-        answer: Answer::Refused { number, line },
-        network: nothing(),
+    // One site more: the range of its name, and its mark.
+    fn add_site(&mut self, start: usize, end: usize, mark: u8)
+        requires { self.old.sites < SITES }
+        ensures { self.new ≡ site_stored self.old start end mark }
+    {
+        let i = self.sites;
+        self.start[i] = start;
+        self.end[i] = end;
+        self.mark[i] = mark;
+        self.sites = i + 1;
+    }
+
+    // One link more: its two sites, and its capacity.
+    fn add_link(&mut self, one: usize, two: usize, capacity: u64)
+        requires { self.old.links < SITES }
+        ensures { self.new ≡ link_stored self.old one two capacity }
+    {
+        let i = self.links;
+        self.one[i] = one;
+        self.two[i] = two;
+        self.capacity[i] = capacity;
+        self.links = i + 1;
     }
 }
 
 // What the lines of a sheet come to.
-fn read_lines(sheet: &[u8], edition: Edition) -> Reading
+fn read_lines(sheet: &[u8], edition: Edition) -> Result<Lists, Refusal>
     requires { edition.sites ≤ SITES }
     ensures { result ≡ reading (and_then (read_lines edition sheet.now (length sheet.now) 1 0 empty) finish) }
 {
-    let mut net = nothing();
+    let mut net = Lists::empty();
     let mut table = [0u16; TABLE];
     let mut parents = tree_labels::own_labels();
     let mut at = 0;
     let mut number = 1;
+    // Stays: the next line begins where the scan of this one is found to end, so there is no range or iterator to go over.
     while text_lines::has_line(sheet, at) {
         let found = sheet_scan::scan(sheet, at, edition);
         let step = stepping::step_at(
             edition, sheet, found, &net.start, &net.end, net.sites, &table, &parents, number, at,
-        );
+        )?;
         at = found.next;
         number += 1;
         match step {
-            Step::Refused { number: n, line } => {
-                return refusal(n, line);
-            }
             Step::Nothing => {}
             Step::Site { start, end, mark } => {
-                let i = net.sites;
-                net.start[i] = start;
-                net.end[i] = end;
-                net.mark[i] = mark;
-                net.sites = i + 1;
-                sheet_names::enter(&mut table, sheet, start, end, i + 1);
+                net.add_site(start, end, mark);
+                sheet_names::enter(&mut table, sheet, start, end, net.sites);
             }
             Step::Link { one, two, size } => {
-                let i = net.links;
-                net.one[i] = one;
-                net.two[i] = two;
-                net.capacity[i] = size;
-                net.links = i + 1;
+                net.add_link(one, two, size);
                 tree_parents::join(&mut parents, one, two);
             }
         }
     }
     tree_parents::settle(&mut parents);
     if !tree_labels::is_whole(&parents, net.sites) {
-        return refusal(8, 0);
+        return Err(Refusal { number: 8, line: 0 });
     }
-    Reading {
-        answer: Answer::Accepted,
-        network: net,
-    }
+    Ok(net)
 }
 
 // A sheet read as one of an edition: its network, or its refusal (01: check 1 comes first).
-fn read_as(sheet: &[u8], edition: Edition) -> Reading
+fn read_as(sheet: &[u8], edition: Edition) -> Result<Lists, Refusal>
     requires { edition.sites ≤ SITES }
     ensures { result ≡ reading (read_as edition sheet.now) }
 {
     if sheet.len() < 1 {
-        return refusal(1, 0);
+        return Err(Refusal { number: 1, line: 0 });
     }
     if sheet.len() > edition.bytes {
-        return refusal(1, 0);
+        return Err(Refusal { number: 1, line: 0 });
     }
     read_lines(sheet, edition)
 }
@@ -151,21 +140,21 @@ fn edition_of(sheet: &[u8]) -> Edition
 }
 
 // A sheet read, as one of its edition.
-pub fn read(sheet: &[u8]) -> Reading
+pub fn read(sheet: &[u8]) -> Result<Lists, Refusal>
     ensures { result ≡ reading (read_sheet editions sheet.now) }
 {
     read_as(sheet, edition_of(sheet))
 }
 
 // A range sheet read (02, Card 11), its low sizes taken for the capacities.
-pub fn read_low(sheet: &[u8]) -> Reading
+pub fn read_low(sheet: &[u8]) -> Result<Lists, Refusal>
     ensures { result ≡ reading (read_as ranges_low sheet.now) }
 {
     read_as(sheet, Edition::low())
 }
 
 // A range sheet read, its high sizes taken for the capacities.
-pub fn read_high(sheet: &[u8]) -> Reading
+pub fn read_high(sheet: &[u8]) -> Result<Lists, Refusal>
     ensures { result ≡ reading (read_as ranges_high sheet.now) }
 {
     read_as(sheet, Edition::high())
@@ -182,8 +171,9 @@ pub fn name_range(sheet: &[u8], site: usize) -> Range
     if site > edition.sites {
         return Range { start: 0, end: 0 };
     }
-    let reading = read_as(sheet, edition);
-    let network = reading.network;
+    let Ok(network) = read_as(sheet, edition) else {
+        return Range { start: 0, end: 0 };
+    };
     let i = site - 1;
     Range {
         start: network.start[i],

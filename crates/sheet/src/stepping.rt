@@ -10,18 +10,17 @@ ghost use Rattle.sheet.specs.Sheet.{Network, site_step, link_step, heading_step,
 ghost use Rattle.sheet.specs.Held.{LabelsOf, Held};
 ghost use Rattle.sheet.specs.StepCases.{Labelled};
 
-use model::{Edition, PLACES, SITES};
+use model::{Edition, PLACES, Refusal, SITES};
 use sheet_kinds::Line;
-use sheet_names::{Found, TABLE};
+use sheet_names::TABLE;
 use sheet_scan::Scanned;
 
-// What a line adds to the network, or its refusal: the number and the line.
+// What a line adds to the network.
 #[derive(Clone, Copy)]
 pub enum Step {
     Nothing,
     Site { start: usize, end: usize, mark: u8 },
     Link { one: usize, two: usize, size: u64 },
-    Refused { number: u64, line: usize },
 }
 
 // What a site line adds, its name being the part from a start to an end, with its mark, by what the look-up of the name found.
@@ -29,62 +28,64 @@ fn site_step(
     edition: Edition,
     here: usize,
     sites: usize,
-    found: Found,
+    found: Option<usize>,
     start: usize,
     end: usize,
     mark: u8,
-) -> Step
+) -> Result<Step, Refusal>
     ensures { result ≡ site_step edition here sites (start, end) mark found }
 {
     if sites >= edition.sites {
-        return Step::Refused {
+        return Err(Refusal {
             number: 4,
             line: here,
-        };
+        });
     }
-    match found {
-        Found::At(_) => Step::Refused {
+    if found.is_some() {
+        return Err(Refusal {
             number: 5,
             line: here,
-        },
-        Found::Absent => Step::Site { start, end, mark },
+        });
     }
+    Ok(Step::Site { start, end, mark })
 }
 
 // What a link line adds, by what the look-ups of its two names found, and the parents of the sites.
-fn link_step(here: usize, parents: &[u16; PLACES], first: Found, second: Found, size: u64) -> Step
+fn link_step(
+    here: usize,
+    parents: &[u16; PLACES],
+    first: Option<usize>,
+    second: Option<usize>,
+    size: u64,
+) -> Result<Step, Refusal>
     requires { Labelled PLACES first × Labelled PLACES second }
     ensures { (ls : Links) → LabelsOf ls parents.now → result ≡ link_step here ls size first second }
 {
-    let Found::At(one) = first else {
-        return Step::Refused {
-            number: 6,
-            line: here,
-        };
-    };
-    let Found::At(two) = second else {
-        return Step::Refused {
-            number: 6,
-            line: here,
-        };
-    };
+    let one = first.ok_or(Refusal {
+        number: 6,
+        line: here,
+    })?;
+    let two = second.ok_or(Refusal {
+        number: 6,
+        line: here,
+    })?;
     if tree_parents::root(parents, one) == tree_parents::root(parents, two) {
-        return Step::Refused {
+        return Err(Refusal {
             number: 7,
             line: here,
-        };
+        });
     }
-    Step::Link { one, two, size }
+    Ok(Step::Link { one, two, size })
 }
 
 // What line 1 adds.
-fn heading_step(edition: Edition, line: &[u8]) -> Step
+fn heading_step(edition: Edition, line: &[u8]) -> Result<Step, Refusal>
     ensures { result ≡ heading_step edition line.now }
 {
     if sheet_kinds::is_heading(line, edition) {
-        return Step::Nothing;
+        return Ok(Step::Nothing);
     }
-    Step::Refused { number: 2, line: 1 }
+    Err(Refusal { number: 2, line: 1 })
 }
 
 // What a later line adds, at an offset.
@@ -98,27 +99,29 @@ fn record_step(
     table: &[u16; TABLE],
     parents: &[u16; PLACES],
     at: usize,
-    line: Line,
-) -> Step
+    line: Result<Line, u64>,
+) -> Result<Step, Refusal>
     requires { (sites ≤ SITES) × Indexes sheet.now (ranges starts.now ends.now 0 sites) table.now
         × (at + length (line_at sheet.now at) < length sheet.now) × Formed edition.size (line_at sheet.now at) line }
     ensures { (net : Network) → Held starts.now ends.now sites parents.now net
         → result ≡ record_step edition sheet.now net here at line }
 {
     match line {
-        Line::Site { start, end, mark } => {
+        Ok(Line::Site { start, end, mark }) => {
             let from = at + start;
             let to = at + end;
             let found = sheet_names::find(sheet, starts, ends, sites, table, &sheet[from..to]);
             site_step(edition, here, sites, found, from, to, mark)
         }
-        Line::Link {
-            start,
-            end,
-            start2,
-            end2,
-            size,
-        } => {
+        Ok(
+            Line::Link {
+                start,
+                end,
+                start2,
+                end2,
+                size,
+            },
+        ) => {
             let from = at + start;
             let to = at + end;
             let from2 = at + start2;
@@ -127,7 +130,7 @@ fn record_step(
             let second = sheet_names::find(sheet, starts, ends, sites, table, &sheet[from2..to2]);
             link_step(here, parents, first, second, size)
         }
-        Line::Fault(number) => Step::Refused { number, line: here },
+        Err(number) => Err(Refusal { number, line: here }),
     }
 }
 
@@ -143,17 +146,17 @@ pub fn step_at<'a>(
     parents: &[u16; PLACES],
     number: usize,
     at: usize,
-) -> Step
+) -> Result<Step, Refusal>
     requires { (sites ≤ SITES) × Indexes sheet.now (ranges starts.now ends.now 0 sites) table.now × (at ≤ length sheet.now)
         × (found ≡ scanned edition sheet.now at) }
     ensures { (net : Network) → Held starts.now ends.now sites parents.now net
         → result ≡ step_of edition sheet.now net number at }
 {
     if found.end >= sheet.len() {
-        return Step::Refused {
+        return Err(Refusal {
             number: 2,
             line: number,
-        };
+        });
     }
     if number == 1 {
         let line = text_lines::line(sheet, at);

@@ -1,6 +1,6 @@
 -- Lines from before Card 9: a name of digits alone was a name like any other. Document 02, Card 9 ("No bare numbers as names").
 -- A line is what it was, or a name of it is of digits alone: by the rules, one of which is new.
-use Rattle.std.specs.Prelude.{Bool, ◌&&◌, List, [], ◌∷◌, ◌⊎◌, ◌≡◌, ℕ, ◌+◌, length}
+use Rattle.std.specs.Prelude.{Bool, ◌&&◌, List, [], ◌∷◌, ◌⊎◌, ◌≡◌, ℕ, ◌+◌, length, Ok, Err, Result}
 use Rattle.std.proofs.Math.Bool.{true, false, cond}
 use Rattle.std.proofs.Math.Logic.{inl, inr}
 use Rattle.std.proofs.Common.{⊎_elim, sym, ap, ◌∙◌}
@@ -12,8 +12,8 @@ use Rattle.model.specs.declared.Edition.{Edition}
 use Rattle.text_grammar.specs.Grammar.{is_lettered, RightCount}
 use Rattle.text_grammar.specs.RuleLaws as rule
 use Rattle.text_grammar.specs.declared.Form.{Form}
-use Rattle.text_grammar.specs.declared.Check.{Check}
-use Rattle.text_grammar.specs.declared.Check.TheVariants as check
+use Rattle.text_grammar.specs.Grammar.{Check}
+use Rattle.text_grammar.specs.declared.Broken.TheVariants as check
 use Rattle.sheet_kinds.specs.LineKinds.{same, fields, field, all, is_name, is_number, checked_fields, checked, site_form, link_form, judged}
 use Rattle.sheet_kinds.specs.LineKinds.{site_line, sized_link, link_line, kind_of, kind}
 use Rattle.sheet_kinds.specs.FaultyLines.{BareName, Broken}
@@ -28,18 +28,18 @@ checked_bare form fs =
     let end = 1 + form.names in
     cond (same (field fs 0) (form.letter ∷ []))
     (cond (leb (end + form.least) (length fs) && leb (length fs) (end + form.most))
-    (cond (all is_name (slice 1 end fs)) (cond (all is_number (slice end (length fs) fs)) check.Formed check.Number) check.Name)
-    check.Count) check.Letter
+    (cond (all is_name (slice 1 end fs)) (cond (all is_number (slice end (length fs) fs)) (Ok tt) (Err check.Number)) (Err check.Name))
+    (Err check.Count)) (Err check.Letter)
 
 -- a line as a site with a letter and a mark, and as a link
-unfoldable pub site_bare : ℕ → ℕ → List (List ℕ) → Line
-site_bare letter mark fs = judged (checked_bare (site_form letter) fs) (Site 2 (2 + length (field fs 1)) mark)
+unfoldable pub site_bare : ℕ → ℕ → List (List ℕ) → Result Line ℕ
+site_bare letter mark fs = judged (checked_bare (site_form letter) fs) (Ok (Site 2 (2 + length (field fs 1)) mark))
 
-unfoldable pub link_bare : Edition → List (List ℕ) → Line
+unfoldable pub link_bare : Edition → List (List ℕ) → Result Line ℕ
 link_bare ed fs = judged (checked_bare (link_form ed.sizing) fs) (sized_link ed fs)
 
 -- what a line was
-unfoldable pub kind_bare : Edition → List ℕ → Line
+unfoldable pub kind_bare : Edition → List ℕ → Result Line ℕ
 kind_bare ed l =
     let fs = fields l in
     cond (same (field fs 0) (bytes "L")) (link_bare ed fs)
@@ -56,10 +56,10 @@ module _ (form : Form) (fs : List (List ℕ)) where
       (all is_name (slice 1 (1 + form.names) fs)) (all is_lettered (slice 1 (1 + form.names) fs))
       (rule.a_finding_tells_its_rule form fs)
     where
-      by : (t u v w : Bool) → let x = cond (all is_number (slice (1 + form.names) (length fs) fs)) check.Formed check.Number in
-          rule.Tells form fs (cond t (cond u (cond v (cond w x check.Digits) check.Name) check.Count) check.Letter)
-          → (cond t (cond u (cond v x check.Name) check.Count) check.Letter
-          ≡ cond t (cond u (cond v (cond w x check.Digits) check.Name) check.Count) check.Letter) ⊎ BareName form fs
+      by : (t u v w : Bool) → let x = cond (all is_number (slice (1 + form.names) (length fs) fs)) (Ok tt) (Err check.Number) in
+          rule.Tells form fs (cond t (cond u (cond v (cond w x (Err check.Digits)) (Err check.Name)) (Err check.Count)) (Err check.Letter))
+          → (cond t (cond u (cond v x (Err check.Name)) (Err check.Count)) (Err check.Letter)
+          ≡ cond t (cond u (cond v (cond w x (Err check.Digits)) (Err check.Name)) (Err check.Count)) (Err check.Letter)) ⊎ BareName form fs
       by false u v w h = inl refl
       by true false v w h = inl refl
       by true true false w h = inl refl
@@ -67,12 +67,12 @@ module _ (form : Form) (fs : List (List ℕ)) where
       by true true true true h = inl refl
 
   -- fields that were found to be formed have the right number
-  pub formed_are_counted : checked_bare form fs ≡ check.Formed → RightCount form fs
+  pub formed_are_counted : checked_bare form fs ≡ Ok tt → RightCount form fs
   formed_are_counted e =
       ⊎_elim (λ s. (rule.a_formed_line_keeps_the_rules form fs (sym s ∙ e)).counted) (λ h. h.counted) checked_as_before
 
 module _ (ed : Edition) (l : List ℕ) where
-  judged_as_before : (form : Form) (w : Line)
+  judged_as_before : (form : Form) (w : Result Line ℕ)
       → (judged (checked_bare form (fields l)) w ≡ judged (checked form (fields l)) w) ⊎ BareName form (fields l)
   judged_as_before form w = ⊎_elim (λ e. inl (ap (λ c. judged c w) e)) inr (checked_as_before form (fields l))
 
@@ -84,7 +84,7 @@ module _ (ed : Edition) (l : List ℕ) where
       (by (same (field (fields l) 0) (bytes "T")) _ _ _ _ (⊎_elim inl (λ h. inr (inl (inr h))) (judged_as_before (site_form 84) _))
       (⊎_elim inl (λ h. inr (inl (inl h))) (judged_as_before (site_form 78) _)))
     where
-      by : (t : Bool) (v w x y : Line) → (v ≡ w) ⊎ Broken ed.sizing BareName l → (x ≡ y) ⊎ Broken ed.sizing BareName l
+      by : (t : Bool) (v w x y : Result Line ℕ) → (v ≡ w) ⊎ Broken ed.sizing BareName l → (x ≡ y) ⊎ Broken ed.sizing BareName l
           → (cond t v x ≡ cond t w y) ⊎ Broken ed.sizing BareName l
       by true v w x y h k = h
       by false v w x y h k = k

@@ -2,7 +2,7 @@
 -- written number, in this order; then 3, a link of which a number is above the limit; then 13, a link whose reserve is above its size, or, on a range sheet,
 -- 19, a link whose low size is above its high one. Document 02, Cards 1, 5, 7, 9 and 11.
 -- By the first field: the letter chooses the form. A heading below line 1 has no known letter.
-use Rattle.std.specs.Prelude.{Bool, cond, List, [], ◌∷◌, ◌⊎◌, ◌↔◌, ◌≢◌, ◌≡◌, ℕ, ◌≤◌, ◌<◌, length}
+use Rattle.std.specs.Prelude.{Bool, cond, List, [], ◌∷◌, ◌⊎◌, ◌↔◌, ◌≢◌, ◌≡◌, ℕ, ◌≤◌, ◌<◌, length, Ok, Err, Result}
 use Rattle.std.proofs.Math.Bool.{true, false}
 use Rattle.std.proofs.lemmas.Bool.{false≢true}
 use Rattle.std.proofs.Math.Logic.{inl}
@@ -15,8 +15,8 @@ use Rattle.model.specs.declared.Sizing.{Sizing}
 use Rattle.model.specs.declared.Sizing.TheVariants.{Reserved, Low, High}
 use Rattle.text_fields.specs.FieldLaws.{not_same}
 use Rattle.text_grammar.specs.declared.Form.{Form}
-use Rattle.text_grammar.specs.declared.Check.{Check}
-use Rattle.text_grammar.specs.declared.Check.TheVariants as check
+use Rattle.text_grammar.specs.Grammar.{Check}
+use Rattle.text_grammar.specs.declared.Broken.TheVariants as check
 pub use Rattle.text_grammar.specs.Grammar.{WrongCount, BadName, BareName, BadNumber}
 use Rattle.text_grammar.specs.FormLaws.{another_letter}
 use Rattle.text_grammar.specs.RuleLaws as rule
@@ -25,7 +25,7 @@ use Rattle.sheet_kinds.specs.LineKinds.{site_line, size, reserve, low, high, lin
 use Rattle.sheet_kinds.specs.LineKindLaws.{same_are_equal, equal_are_same, judged_cases, link_parts, Apart, apart_is, capacity_cases, above_is_3}
 use Rattle.sheet_kinds.specs.LineKindLaws.{apart_is_its_number}
 use Rattle.sheet_kinds.specs.declared.Line.{Line}
-use Rattle.sheet_kinds.specs.declared.Line.TheVariants.{Site, Link, Fault}
+use Rattle.sheet_kinds.specs.declared.Line.TheVariants.{Site, Link}
 
 -- ---- the causes
 
@@ -89,10 +89,10 @@ module _ (ed : Edition) (l : List ℕ) where
 
   -- ---- a fault has its cause
 
-  abbrev Right : Line → Type 0
-  Right (Site a e m) = Unit {0}
-  Right (Link a e b f size) = Unit {0}
-  Right (Fault n) = LineFault ed l n
+  abbrev Right : Result Line ℕ → Type 0
+  Right (Ok (Site a e m)) = Unit {0}
+  Right (Ok (Link a e b f size)) = Unit {0}
+  Right (Err n) = LineFault ed l n
 
   -- two numbers that give no capacity
   apart_right : (z : Sizing) → ed.sizing ≡ z → IsLink ed.sizing (fields l) → let a = value (field (fields l) 3) in let b = value (field (fields l) 4) in
@@ -107,15 +107,15 @@ module _ (ed : Edition) (l : List ℕ) where
       (field (fields l) 3) (field (fields l) 4) (λ o. too_large (record { link = g; above = o })) (apart_right ed.sizing refl g) (λ a b h. tt)
 
   -- by the rule that is broken
-  link_right : same (field (fields l) 0) (bytes "L") ≡ true → (c : Check) → rule.Tells (link_form ed.sizing) (fields l) c → c ≢ check.Formed
+  link_right : same (field (fields l) 0) (bytes "L") ≡ true → (c : Check) → rule.Tells (link_form ed.sizing) (fields l) c → c ≢ Ok tt
       → LineFault ed l (fault_of c)
   unfolding fault_of
-  link_right e check.Formed h d = absurd (d refl)
-  link_right e check.Letter h d = absurd (h (same_are_equal _ _ e))
-  link_right e check.Count h d = wrong_count (inr h)
-  link_right e check.Name h d = bad_name (inr h)
-  link_right e check.Digits h d = bare_name (inr h)
-  link_right e check.Number h d = bad_number (inr h)
+  link_right e (Ok tt) h d = absurd (d refl)
+  link_right e (Err check.Letter) h d = absurd (h (same_are_equal _ _ e))
+  link_right e (Err check.Count) h d = wrong_count (inr h)
+  link_right e (Err check.Name) h d = bad_name (inr h)
+  link_right e (Err check.Digits) h d = bare_name (inr h)
+  link_right e (Err check.Number) h d = bad_number (inr h)
 
   -- a field that is found to be no letter is not that letter
   another : (letter : List ℕ) → same (field (fields l) 0) letter ≡ false → field (fields l) 0 ≢ letter
@@ -127,13 +127,13 @@ module _ (ed : Edition) (l : List ℕ) where
   site_right letter mark none broken = judged_cases Right (checked (site_form letter) (fields l)) _ (λ g. tt)
       (by (checked (site_form letter) (fields l)) (rule.a_finding_tells_its_rule (site_form letter) (fields l)))
     where
-      by : (c : Check) → rule.Tells (site_form letter) (fields l) c → c ≢ check.Formed → LineFault ed l (fault_of c)
-      by check.Formed h d = absurd (d refl)
-      by check.Letter h d = no_letter (none h)
-      by check.Count h d = wrong_count (broken WrongCount h)
-      by check.Name h d = bad_name (broken BadName h)
-      by check.Digits h d = bare_name (broken BareName h)
-      by check.Number h d = bad_number (broken BadNumber h)
+      by : (c : Check) → rule.Tells (site_form letter) (fields l) c → c ≢ Ok tt → LineFault ed l (fault_of c)
+      by (Ok tt) h d = absurd (d refl)
+      by (Err check.Letter) h d = no_letter (none h)
+      by (Err check.Count) h d = wrong_count (broken WrongCount h)
+      by (Err check.Name) h d = bad_name (broken BadName h)
+      by (Err check.Digits) h d = bare_name (broken BareName h)
+      by (Err check.Number) h d = bad_number (broken BadNumber h)
 
   right : Right (kind ed l)
   unfolding kind kind_of link_line
@@ -150,49 +150,49 @@ module _ (ed : Edition) (l : List ℕ) where
 
   -- ---- a cause makes its fault
 
-  site_fault : (c : Check) (n : ℕ) → field (fields l) 0 ≡ bytes "N" → checked plain_form (fields l) ≡ c → ((w : Line) → judged c w ≡ Fault n)
-      → kind ed l ≡ Fault n
+  site_fault : (c : Check) (n : ℕ) → field (fields l) 0 ≡ bytes "N" → checked plain_form (fields l) ≡ c → ((w : Result Line ℕ) → judged c w ≡ Err n)
+      → kind ed l ≡ Err n
   unfolding site_line
   site_fault c n e is f = kind_of_N e ∙ rw is (f _)
 
-  marked_fault : (c : Check) (n : ℕ) → field (fields l) 0 ≡ bytes "T" → checked marked_form (fields l) ≡ c → ((w : Line) → judged c w ≡ Fault n)
-      → kind ed l ≡ Fault n
+  marked_fault : (c : Check) (n : ℕ) → field (fields l) 0 ≡ bytes "T" → checked marked_form (fields l) ≡ c → ((w : Result Line ℕ) → judged c w ≡ Err n)
+      → kind ed l ≡ Err n
   unfolding site_line
   marked_fault c n e is f = kind_of_T e ∙ rw is (f _)
 
-  link_fault : (c : Check) (n : ℕ) → field (fields l) 0 ≡ bytes "L" → checked (link_form ed.sizing) (fields l) ≡ c → ((w : Line) → judged c w ≡ Fault n)
-      → kind ed l ≡ Fault n
+  link_fault : (c : Check) (n : ℕ) → field (fields l) 0 ≡ bytes "L" → checked (link_form ed.sizing) (fields l) ≡ c → ((w : Result Line ℕ) → judged c w ≡ Err n)
+      → kind ed l ≡ Err n
   unfolding link_line
   link_fault c n e is f = kind_of_L e ∙ rw is (f _)
 
-  large : TooLarge ed l → kind ed l ≡ Fault 3
+  large : TooLarge ed l → kind ed l ≡ Err 3
   unfolding link_line judged fault_of sized_link
   large h =
       kind_of_L (link_parts ed.sizing (fields l) h.link).letter
       ∙ rw (h.link, above_is_3 ed.sizing ed.size (field (fields l) 3) (field (fields l) 4) h.above)
 
   apart : IsLink ed.sizing (fields l) → let a = value (field (fields l) 3) in let b = value (field (fields l) 4) in
-      a ≤ ed.size → b ≤ ed.size → Apart ed.sizing a b → kind ed l ≡ Fault (apart_is ed.sizing)
+      a ≤ ed.size → b ≤ ed.size → Apart ed.sizing a b → kind ed l ≡ Err (apart_is ed.sizing)
   unfolding link_line judged fault_of sized_link
   apart g a b h =
       kind_of_L (link_parts ed.sizing (fields l) g).letter
       ∙ rw (g, apart_is_its_number ed.sizing ed.size (field (fields l) 3) (field (fields l) 4) a b h)
 
-  held : TooMuchHeld ed l → kind ed l ≡ Fault 13
+  held : TooMuchHeld ed l → kind ed l ≡ Err 13
   held h =
       let a = size (fields l) in
       let b = reserve (fields l) in
-      subst (λ z. Apart z a b → kind ed l ≡ Fault (apart_is z)) h.of_a_network (apart h.link h.within h.reserve-within) h.above
+      subst (λ z. Apart z a b → kind ed l ≡ Err (apart_is z)) h.of_a_network (apart h.link h.within h.reserve-within) h.above
 
-  swapped : LowAboveHigh ed l → kind ed l ≡ Fault 19
+  swapped : LowAboveHigh ed l → kind ed l ≡ Err 19
   swapped h = by ed.sizing refl (apart h.link h.low-within h.high-within)
     where
-      by : (z : Sizing) → ed.sizing ≡ z → (Apart z (low (fields l)) (high (fields l)) → kind ed l ≡ Fault (apart_is z)) → kind ed l ≡ Fault 19
+      by : (z : Sizing) → ed.sizing ≡ z → (Apart z (low (fields l)) (high (fields l)) → kind ed l ≡ Err (apart_is z)) → kind ed l ≡ Err 19
       by Reserved e k = absurd (h.of_ranges e)
       by Low e k = k h.above
       by High e k = k h.above
 
-  fault_of_lem : (n : ℕ) → LineFault ed l n → kind ed l ≡ Fault n
+  fault_of_lem : (n : ℕ) → LineFault ed l n → kind ed l ≡ Err n
   unfolding judged fault_of kind kind_of site_line
   fault_of_lem n (no_letter h) =
       rw (
@@ -200,23 +200,23 @@ module _ (ed : Edition) (l : List ℕ) where
         not_same (field (fields l) 0) (bytes "T") h.no_marked_site,
         another_letter plain_form (fields l) (not_same (field (fields l) 0) (bytes "N") h.no_site),
       )
-  fault_of_lem n (wrong_count (inl (inl h))) = site_fault check.Count 10 h.letter (rule.a_wrong_count_is_found plain_form (fields l) h) (λ w. refl)
-  fault_of_lem n (wrong_count (inl (inr h))) = marked_fault check.Count 10 h.letter (rule.a_wrong_count_is_found marked_form (fields l) h) (λ w. refl)
-  fault_of_lem n (wrong_count (inr h)) = link_fault check.Count 10 h.letter (rule.a_wrong_count_is_found (link_form ed.sizing) (fields l) h) (λ w. refl)
-  fault_of_lem n (bad_name (inl (inl h))) = site_fault check.Name 11 h.counted.letter (rule.a_bad_name_is_found plain_form (fields l) h) (λ w. refl)
-  fault_of_lem n (bad_name (inl (inr h))) = marked_fault check.Name 11 h.counted.letter (rule.a_bad_name_is_found marked_form (fields l) h) (λ w. refl)
-  fault_of_lem n (bad_name (inr h)) = link_fault check.Name 11 h.counted.letter (rule.a_bad_name_is_found (link_form ed.sizing) (fields l) h) (λ w. refl)
-  fault_of_lem n (bare_name (inl (inl h))) = site_fault check.Digits 17 h.counted.letter (rule.a_bare_name_is_found plain_form (fields l) h) (λ w. refl)
-  fault_of_lem n (bare_name (inl (inr h))) = marked_fault check.Digits 17 h.counted.letter (rule.a_bare_name_is_found marked_form (fields l) h) (λ w. refl)
-  fault_of_lem n (bare_name (inr h)) = link_fault check.Digits 17 h.counted.letter (rule.a_bare_name_is_found (link_form ed.sizing) (fields l) h) (λ w. refl)
-  fault_of_lem n (bad_number (inl (inl h))) = site_fault check.Number 12 h.counted.letter (rule.a_bad_number_is_found plain_form (fields l) h) (λ w. refl)
-  fault_of_lem n (bad_number (inl (inr h))) = marked_fault check.Number 12 h.counted.letter (rule.a_bad_number_is_found marked_form (fields l) h) (λ w. refl)
-  fault_of_lem n (bad_number (inr h)) = link_fault check.Number 12 h.counted.letter (rule.a_bad_number_is_found (link_form ed.sizing) (fields l) h)
+  fault_of_lem n (wrong_count (inl (inl h))) = site_fault (Err check.Count) 10 h.letter (rule.a_wrong_count_is_found plain_form (fields l) h) (λ w. refl)
+  fault_of_lem n (wrong_count (inl (inr h))) = marked_fault (Err check.Count) 10 h.letter (rule.a_wrong_count_is_found marked_form (fields l) h) (λ w. refl)
+  fault_of_lem n (wrong_count (inr h)) = link_fault (Err check.Count) 10 h.letter (rule.a_wrong_count_is_found (link_form ed.sizing) (fields l) h) (λ w. refl)
+  fault_of_lem n (bad_name (inl (inl h))) = site_fault (Err check.Name) 11 h.counted.letter (rule.a_bad_name_is_found plain_form (fields l) h) (λ w. refl)
+  fault_of_lem n (bad_name (inl (inr h))) = marked_fault (Err check.Name) 11 h.counted.letter (rule.a_bad_name_is_found marked_form (fields l) h) (λ w. refl)
+  fault_of_lem n (bad_name (inr h)) = link_fault (Err check.Name) 11 h.counted.letter (rule.a_bad_name_is_found (link_form ed.sizing) (fields l) h) (λ w. refl)
+  fault_of_lem n (bare_name (inl (inl h))) = site_fault (Err check.Digits) 17 h.counted.letter (rule.a_bare_name_is_found plain_form (fields l) h) (λ w. refl)
+  fault_of_lem n (bare_name (inl (inr h))) = marked_fault (Err check.Digits) 17 h.counted.letter (rule.a_bare_name_is_found marked_form (fields l) h) (λ w. refl)
+  fault_of_lem n (bare_name (inr h)) = link_fault (Err check.Digits) 17 h.counted.letter (rule.a_bare_name_is_found (link_form ed.sizing) (fields l) h) (λ w. refl)
+  fault_of_lem n (bad_number (inl (inl h))) = site_fault (Err check.Number) 12 h.counted.letter (rule.a_bad_number_is_found plain_form (fields l) h) (λ w. refl)
+  fault_of_lem n (bad_number (inl (inr h))) = marked_fault (Err check.Number) 12 h.counted.letter (rule.a_bad_number_is_found marked_form (fields l) h) (λ w. refl)
+  fault_of_lem n (bad_number (inr h)) = link_fault (Err check.Number) 12 h.counted.letter (rule.a_bad_number_is_found (link_form ed.sizing) (fields l) h)
       (λ w. refl)
   fault_of_lem n (too_large h) = large h
   fault_of_lem n (too_much_held h) = held h
   fault_of_lem n (low-above-high h) = swapped h
 
   -- each number just for its cause
-  pub a_line_is_a_fault_just_for_its_cause : (n : ℕ) → (kind ed l ≡ Fault n) ↔ LineFault ed l n
+  pub a_line_is_a_fault_just_for_its_cause : (n : ℕ) → (kind ed l ≡ Err n) ↔ LineFault ed l n
   a_line_is_a_fault_just_for_its_cause n = (λ e. subst Right e right, fault_of_lem n)

@@ -1,6 +1,6 @@
 -- What is known of a line by its kind: its names are ranges of it, the mark of a site is 0 or 1, and the size of a link is within the limit.
 -- By the places of the fields.
-use Rattle.std.specs.Prelude.{Bool, true, false, cond, List, ◌≡◌, ℕ, ◌+◌, ◌-◌, ◌≤◌, ◌<◌, length, get_or, take, drop}
+use Rattle.std.specs.Prelude.{Bool, true, false, cond, List, ◌≡◌, ℕ, ◌+◌, ◌-◌, ◌≤◌, ◌<◌, length, get_or, take, drop, Ok, Result, Err}
 use Rattle.std.proofs.Common.{inl, inr, ap, ◌∙◌, arith}
 use Rattle.std.proofs.Math.Nat.{sub-zero}
 use Rattle.model.specs.Text.{bytes}
@@ -9,18 +9,17 @@ use Rattle.model.specs.declared.Sizing.{Sizing}
 use Rattle.text_grammar.specs.Grammar.{ends, split}
 use Rattle.text_grammar.specs.SplitLaws.{field_lies, length_of_field, end_of_split}
 use Rattle.text_grammar.specs.declared.Fields.{Fields}
-use Rattle.text_grammar.specs.declared.Check.TheVariants as check
 use Rattle.sheet_kinds.specs.LineKinds.{same, fields, field, is_name, checked, site_form, plain_form, marked_form, link_form, IsSite, IsLink}
 use Rattle.sheet_kinds.specs.LineKinds.{site_line, capacity, link_of, sized_link, link_line, kind_of, kind}
 use Rattle.sheet_kinds.specs.LineKindLaws.{judged_cases, parts_of_a_site, site_parts, one_letter, link_parts, taken-is-within, capacity_cases}
 use Rattle.sheet_kinds.specs.declared.Line.{Line}
-use Rattle.sheet_kinds.specs.declared.Line.TheVariants.{Site, Link, Fault}
+use Rattle.sheet_kinds.specs.declared.Line.TheVariants.{Site, Link}
 
 -- names are ranges of the line, the mark of a site is 0 or 1, and the size of a link is within the limit
-abbrev pub Formed : ℕ → List ℕ → Line → Type 0
-Formed most l (Site a e m) = (a ≤ e) × (e ≤ length l) × (is_name (take (e - a) (drop a l)) ≡ true) × (m ≤ 1)
-Formed most l (Link a e b f size) = (a ≤ e) × (e ≤ length l) × (b ≤ f) × (f ≤ length l) × (size ≤ most)
-Formed most l (Fault n) = Unit {0}
+abbrev pub Formed : ℕ → List ℕ → Result Line ℕ → Type 0
+Formed most l (Ok (Site a e m)) = (a ≤ e) × (e ≤ length l) × (is_name (take (e - a) (drop a l)) ≡ true) × (m ≤ 1)
+Formed most l (Ok (Link a e b f size)) = (a ≤ e) × (e ≤ length l) × (b ≤ f) × (f ≤ length l) × (size ≤ most)
+Formed most l (Err n) = Unit {0}
 
 module _ (l : List ℕ) where
   abbrev one : ℕ
@@ -49,14 +48,14 @@ module _ (l : List ℕ) where
       rw (second, third_end h e, sub-zero) at (field_lies 2 l 0 h).part
 
   module _ (most : ℕ) where
-    pub site_is_formed : IsSite (fields l) → (mark : ℕ) → mark ≤ 1 → Formed most l (Site 2 (2 + one) mark)
+    pub site_is_formed : IsSite (fields l) → (mark : ℕ) → mark ≤ 1 → Formed most l (Ok (Site 2 (2 + one) mark))
     site_is_formed e mark h =
         let k = site_parts (fields l) e in
         let short = one_letter (fields l) k in
         let n : 1 < length (fields l) = omega (arith, k.count) in
         (omega arith, omega (arith, (field_lies 1 l 0 n).within, second-end n short), rw (part_of_field_1 n short) k.name, h)
 
-    pub link_is_formed : (z : Sizing) → IsLink z (fields l) → (size : ℕ) → size ≤ most → Formed most l (Link 2 (2 + one) (3 + one) (3 + one + two) size)
+    pub link_is_formed : (z : Sizing) → IsLink z (fields l) → (size : ℕ) → size ≤ most → Formed most l (Ok (Link 2 (2 + one) (3 + one) (3 + one + two) size))
     link_is_formed z e size h =
         let k = link_parts z (fields l) e in
         let n : 2 < length (fields l) = omega (arith, k.enough) in
@@ -83,7 +82,7 @@ module _ (l : List ℕ) where
     as-link = judged_cases (Formed ed.size l) (checked (link_form ed.sizing) (fields l)) _ sized-is-formed (λ d. tt)
 
 -- the ends of the names, as the code holds them, and that they lie within the line
-pub site-end : (l : List ℕ) (found : Fields) → found ≡ split l → (letter : ℕ) → checked (site_form letter) (fields l) ≡ check.Formed
+pub site-end : (l : List ℕ) (found : Fields) → found ≡ split l → (letter : ℕ) → checked (site_form letter) (fields l) ≡ Ok tt
     → get_or found.end 1 0 ≡ 2 + length (field (fields l) 1)
 site-end l found e letter h =
     let k = parts_of_a_site letter (fields l) h in

@@ -1,6 +1,6 @@
 -- What a line of each kind is: the kind of a line is a site or a link just where its fields have that form; and its names are its
 -- fields 1 and 2. By the first field, as the kind of a line is found.
-use Rattle.std.specs.Prelude.{Bool, cond, List, ◌≡◌, ℕ, ◌+◌, ◌-◌, ◌≤◌, length, take, drop}
+use Rattle.std.specs.Prelude.{Bool, cond, List, ◌≡◌, ℕ, ◌+◌, ◌-◌, ◌≤◌, length, take, drop, Result, Ok, Err}
 use Rattle.std.proofs.Math.Bool.{true, false}
 use Rattle.std.proofs.Common.{inl, inr, ap, ◌∙◌, arith}
 use Rattle.std.proofs.Math.Path.{refl}
@@ -14,7 +14,7 @@ use Rattle.sheet_kinds.specs.LineKindLaws.{judged_cases, site_parts, one_letter,
 use Rattle.sheet_kinds.specs.FormedLines.{part_of_field_1, part_of_field_2}
 use Rattle.sheet_kinds.specs.FaultyLines.{kind_of_N, kind_of_T, kind_of_L}
 use Rattle.sheet_kinds.specs.declared.Line.{Line}
-use Rattle.sheet_kinds.specs.declared.Line.TheVariants.{Site, Link, Fault}
+use Rattle.sheet_kinds.specs.declared.Line.TheVariants.{Site, Link}
 
 -- the line is a link whose numbers are within the limit and give a capacity: its reserve is not above its size, or its low size is not above its high one
 pub record LinkWithin (ed : Edition) (l : List ℕ) : Type 0 where
@@ -43,13 +43,13 @@ module _ (l : List ℕ) where
 
 module _ (ed : Edition) (l : List ℕ) where
   -- what a kind tells of the line: its form, the places of its names, the mark of a site, and the capacity of a link
-  abbrev pub Tells : Line → Type 0
-  Tells (Site a e m) = IsSite (fields l) × (Site a e m ≡ Site 2 (2 + length (field (fields l) 1)) (mark (fields l)))
-  Tells (Link a e b f c) =
+  abbrev pub Tells : Result Line ℕ → Type 0
+  Tells (Ok (Site a e m)) = IsSite (fields l) × (Site a e m ≡ Site 2 (2 + length (field (fields l) 1)) (mark (fields l)))
+  Tells (Ok (Link a e b f c)) =
       let one = length (field (fields l) 1) in
       let two = length (field (fields l) 2) in
       LinkWithin ed l × (Link a e b f c ≡ Link 2 (2 + one) (3 + one) (3 + one + two) (capacity ed.sizing (fields l)))
-  Tells (Fault n) = Unit {0}
+  Tells (Err n) = Unit {0}
 
   sized_tells : IsLink ed.sizing (fields l) → Tells (sized_link ed (fields l))
   unfolding sized_link
@@ -80,13 +80,13 @@ module _ (ed : Edition) (l : List ℕ) where
       by false false f = site-tells f
 
   -- and the form its kind
-  pub a_site_by_its_form : IsSite (fields l) → kind ed l ≡ Site 2 (2 + length (field (fields l) 1)) (mark (fields l))
+  pub a_site_by_its_form : IsSite (fields l) → kind ed l ≡ Ok (Site 2 (2 + length (field (fields l) 1)) (mark (fields l)))
   unfolding site_line judged fault_of mark same
   a_site_by_its_form (inl e) = let n = (rule.a_formed_line_keeps_the_rules plain_form (fields l) e).counted.letter in kind_of_N ed l n ∙ rw (e, n)
   a_site_by_its_form (inr e) = let t = (rule.a_formed_line_keeps_the_rules marked_form (fields l) e).counted.letter in kind_of_T ed l t ∙ rw (e, t)
 
   pub a_link_by_its_form : LinkWithin ed l → let a = length (field (fields l) 1) in let b = length (field (fields l) 2) in
-      kind ed l ≡ Link 2 (2 + a) (3 + a) (3 + a + b) (capacity ed.sizing (fields l))
+      kind ed l ≡ Ok (Link 2 (2 + a) (3 + a) (3 + a + b) (capacity ed.sizing (fields l)))
   unfolding link_line judged fault_of sized_link
   a_link_by_its_form h =
       kind_of_L ed l (link_parts ed.sizing (fields l) h.link).letter

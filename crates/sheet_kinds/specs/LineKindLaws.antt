@@ -1,29 +1,24 @@
 -- What a site and a link are made of: a line has the form just if it has these parts. And lines by the number of their fault and by their capacity.
-use Rattle.std.specs.Prelude.{Bool, cond, List, [], ◌∷◌, ◌⊎◌, ◌↔◌, ◌≢◌, ◌≡◌, ℕ, ◌+◌, ◌-◌, ◌≤◌, ◌<◌, length}
+use Rattle.std.specs.Prelude.{Bool, cond, List, [], ◌∷◌, ◌⊎◌, ◌↔◌, ◌≢◌, ◌≡◌, ℕ, ◌+◌, ◌-◌, ◌≤◌, ◌<◌, length, Ok, Some, None, Result, Err, MatchResult, IsErrAnd}
 use Rattle.std.proofs.Math.Bool.{true, false}
-use Rattle.std.proofs.lemmas.Bool.{false≢true}
-use Rattle.std.proofs.Common.{inl, inr, ⊎_elim, sym, ap, ◌∙◌, arith, eq-eqb, ne_eqb, leb-true, leb-false, le-leb}
+use Rattle.std.proofs.Common.{inl, inr, ⊎_elim, ap, arith, leb-true, leb-false, le-leb}
 use Rattle.std.proofs.Math.Path.{refl}
 use Rattle.std.proofs.Math.Dec.{leb}
 use Rattle.std.proofs.Math.ListN.{get_or-eq_default}
 use Rattle.model.specs.Text.{bytes}
 use Rattle.model.specs.declared.Sizing.{Sizing}
 use Rattle.model.specs.declared.Sizing.TheVariants.{Reserved, Low, High}
-use Rattle.text_grammar.specs.declared.Check.{Check}
-use Rattle.text_grammar.specs.declared.Check.TheVariants as check
-use Rattle.text_grammar.specs.declared.Size.TheVariants.{Within, Above}
+use Rattle.lists.specs.Sums.{contradiction}
+use Rattle.text_grammar.specs.Grammar.{Check, number_of}
+use Rattle.text_grammar.specs.declared.Broken.TheVariants.{Letter, Count, Name, Digits, Number}
 use Rattle.text_grammar.specs.FormLaws.{formed_or_faulty}
 use Rattle.text_grammar.specs.RuleLaws as rule
 pub use Rattle.text_fields.specs.FieldLaws.{both, same_are_equal, equal_are_same, name-length}
 use Rattle.sheet_kinds.specs.LineKinds.{same, field, all, digits_alone, is_name, is_number, value, checked_fields, checked, fault_of, site_form, link_form}
 use Rattle.sheet_kinds.specs.LineKinds.{IsSite, IsLink, judged, mark, reserve, value_from, size_of, least_numbers, taken, paired, capacity_of}
-use Rattle.sheet_kinds.specs.declared.Line.{Line}
-use Rattle.sheet_kinds.specs.declared.Line.TheVariants.{Fault}
-use Rattle.sheet_sizes.specs.declared.Capacity.{Capacity}
-use Rattle.sheet_sizes.specs.declared.Capacity.TheVariants.{Usable, Faulty}
 
 -- what holds of a line, formed or not
-pub judged_cases : (P : Line → Type 0) (c : Check) (w : Line) → (c ≡ check.Formed → P w) → (c ≢ check.Formed → P (Fault (fault_of c))) → P (judged c w)
+pub judged_cases : {A : Type 0} (P : Result A ℕ → Type 0) (c : Check) (w : Result A ℕ) → (c ≡ Ok tt → P w) → (c ≢ Ok tt → P (Err (fault_of c))) → P (judged c w)
 unfolding judged fault_of
 judged_cases P c w f g = ⊎_elim (λ e. rw e (f e)) (λ h. rw h.1 (g h.0)) (formed_or_faulty c)
 
@@ -48,7 +43,7 @@ pub record LinkParts (z : Sizing) (fs : List (List ℕ)) : Type 0 where
   pub reserve : length fs ≡ 5 → is_number (field fs 4) ≡ true
 
 -- by the letter
-pub parts_of_a_site : (letter : ℕ) (fs : List (List ℕ)) → checked (site_form letter) fs ≡ check.Formed
+pub parts_of_a_site : (letter : ℕ) (fs : List (List ℕ)) → checked (site_form letter) fs ≡ Ok tt
     → (length fs ≡ 2) × (field fs 0 ≡ letter ∷ []) × (is_name (field fs 1) ≡ true) × (digits_alone (field fs 1) ≡ false)
 parts_of_a_site letter fs e =
     let k = rule.a_formed_line_keeps_the_rules (site_form letter) fs e in
@@ -105,7 +100,7 @@ link_parts z fs e =
 
 -- and these parts make the form
 made_of : (letter : ℕ) (fs : List (List ℕ)) → length fs ≡ 2 → field fs 0 ≡ letter ∷ [] → is_name (field fs 1) ≡ true → digits_alone (field fs 1) ≡ false
-    → checked (site_form letter) fs ≡ check.Formed
+    → checked (site_form letter) fs ≡ Ok tt
 unfolding checked checked_fields all
 made_of letter [] n e h l = absurd (omega arith)
 made_of letter (a ∷ []) n e h l = absurd (omega arith)
@@ -135,24 +130,25 @@ link_is_its_parts z fs = (link_parts z fs, link_made z fs)
 
 -- ---- as the code finds it
 
--- by the number of the fault
-pub judged_wrong : (c : Check) (w : Line) (n : ℕ) → n ≡ fault_of c → n ≢ 0 → judged c w ≡ Fault n
-unfolding judged
-judged_wrong c w n e d = rw (← e, ne_eqb n 0 d)
-
-pub judged_right : (c : Check) (w : Line) (n : ℕ) → n ≡ fault_of c → n ≡ 0 → (c ≡ check.Formed) × (judged c w ≡ w)
-unfolding judged
-judged_right c w n e z = (
-  ⊎_elim (λ f. f) (λ h. absurd (false≢true (sym h.1 ∙ eq-eqb (fault_of c) 0 (sym e ∙ z)))) (formed_or_faulty c),
-  rw (← e, z),
-)
+-- by what `map_err` makes of the check: the number of the fault; a line that is formed is what it would be
+pub numbered : {A : Type 0} (c : Check) (r : Result (Unit {0}) ℕ) → MatchResult c (λ x. r ≡ Ok x) (λ b. IsErrAnd r (λ n. n ≡ number_of b)) → (w : Result A ℕ)
+    → MatchResult r (λ _. (c ≡ Ok tt) × (judged c w ≡ w)) (λ n. judged c w ≡ Err n)
+unfolding judged fault_of
+numbered (Ok u) (Ok x) h w = (refl, refl)
+numbered (Ok u) (Err n) h w = contradiction cc
+numbered (Err b) (Ok x) h w = absurd h
+numbered (Err Letter) (Err n) h w = rw h
+numbered (Err Count) (Err n) h w = rw h
+numbered (Err Name) (Err n) h w = rw h
+numbered (Err Digits) (Err n) h w = rw h
+numbered (Err Number) (Err n) h w = rw h
 
 -- a line without a fifth field has no reserve
 pub no_fifth : (fs : List (List ℕ)) → length fs < 5 → reserve fs ≡ 0
 unfolding value_from
 no_fifth fs h = rw (get_or-eq_default fs [] {n = 4} (omega arith)) refl
 
-pub no_reserve : (most : ℕ) (fs : List (List ℕ)) → length fs < 5 → size_of most (field fs 4) ≡ Within 0
+pub no_reserve : (most : ℕ) (fs : List (List ℕ)) → length fs < 5 → size_of most (field fs 4) ≡ Some 0
 unfolding size_of
 no_reserve most fs h = rw (no_fifth fs h, le-leb 0 most (omega arith))
 
@@ -185,50 +181,50 @@ not-both Reserved a b h k = omega arith
 not-both Low a b h k = omega arith
 not-both High a b h k = omega arith
 
-paired_cases : (P : Capacity → Type 0) (z : Sizing) (a b : ℕ) → (Apart z a b → P (Faulty (apart_is z))) → (Together z a b → P (Usable (taken z a b)))
+paired_cases : (P : Result ℕ ℕ → Type 0) (z : Sizing) (a b : ℕ) → (Apart z a b → P (Err (apart_is z))) → (Together z a b → P (Ok (taken z a b)))
     → P (paired z a b)
 paired_cases P Reserved a b apart together = by (leb b a) refl
   where
-    by : (t : Bool) → leb b a ≡ t → P (cond t (Usable (a - b)) (Faulty 13))
+    by : (t : Bool) → leb b a ≡ t → P (cond t (Ok (a - b)) (Err 13))
     by true e = together (leb-true _ _ e)
     by false e = apart (leb-false _ _ e)
 paired_cases P Low a b apart together = by (leb a b) refl
   where
-    by : (t : Bool) → leb a b ≡ t → P (cond t (Usable a) (Faulty 19))
+    by : (t : Bool) → leb a b ≡ t → P (cond t (Ok a) (Err 19))
     by true e = together (leb-true _ _ e)
     by false e = apart (leb-false _ _ e)
 paired_cases P High a b apart together = by (leb a b) refl
   where
-    by : (t : Bool) → leb a b ≡ t → P (cond t (Usable b) (Faulty 19))
+    by : (t : Bool) → leb a b ≡ t → P (cond t (Ok b) (Err 19))
     by true e = together (leb-true _ _ e)
     by false e = apart (leb-false _ _ e)
 
-module _ (P : Capacity → Type 0) (z : Sizing) (most : ℕ) (f g : List ℕ) where
+module _ (P : Result ℕ ℕ → Type 0) (z : Sizing) (most : ℕ) (f g : List ℕ) where
   -- what holds of a capacity: either is above the limit; or neither, and the two give no capacity; or they do
-  pub capacity_cases : ((most < value f) ⊎ (most < value g) → P (Faulty 3))
-      → (value f ≤ most → value g ≤ most → Apart z (value f) (value g) → P (Faulty (apart_is z)))
-      → (value f ≤ most → value g ≤ most → Together z (value f) (value g) → P (Usable (taken z (value f) (value g))))
+  pub capacity_cases : ((most < value f) ⊎ (most < value g) → P (Err 3))
+      → (value f ≤ most → value g ≤ most → Apart z (value f) (value g) → P (Err (apart_is z)))
+      → (value f ≤ most → value g ≤ most → Together z (value f) (value g) → P (Ok (taken z (value f) (value g))))
       → P (capacity_of z (size_of most f) (size_of most g))
   unfolding capacity_of size_of
   capacity_cases large apart together = by (leb (value f) most) refl (leb (value g) most) refl
     where
       by : (t : Bool) → leb (value f) most ≡ t → (u : Bool) → leb (value g) most ≡ u
-          → P (capacity_of z (cond t (Within (value f)) Above) (cond u (Within (value g)) Above))
+          → P (capacity_of z (cond t (Some (value f)) None) (cond u (Some (value g)) None))
       by false a u b = large (inl (leb-false _ _ a))
       by true a false b = large (inr (leb-false _ _ b))
       by true a true b = paired_cases P z (value f) (value g) (apart (leb-true _ _ a) (leb-true _ _ b)) (together (leb-true _ _ a) (leb-true _ _ b))
 
 module _ (z : Sizing) (most : ℕ) (f g : List ℕ) where
   -- and each of these makes it
-  pub above_is_3 : (most < value f) ⊎ (most < value g) → capacity_of z (size_of most f) (size_of most g) ≡ Faulty 3
-  above_is_3 o = capacity_cases (λ c. c ≡ Faulty 3) z most f g (λ p. refl) (λ a b l. absurd (⊎_elim (λ p. omega arith) (λ p. omega arith) o))
+  pub above_is_3 : (most < value f) ⊎ (most < value g) → capacity_of z (size_of most f) (size_of most g) ≡ Err 3
+  above_is_3 o = capacity_cases (λ c. c ≡ Err 3) z most f g (λ p. refl) (λ a b l. absurd (⊎_elim (λ p. omega arith) (λ p. omega arith) o))
       (λ a b l. absurd (⊎_elim (λ p. omega arith) (λ p. omega arith) o))
 
-  pub apart_is_its_number : value f ≤ most → value g ≤ most → Apart z (value f) (value g) → capacity_of z (size_of most f) (size_of most g) ≡ Faulty (apart_is z)
-  apart_is_its_number a b l = capacity_cases (λ c. c ≡ Faulty (apart_is z)) z most f g (λ o. absurd (⊎_elim (λ p. omega arith) (λ p. omega arith) o))
+  pub apart_is_its_number : value f ≤ most → value g ≤ most → Apart z (value f) (value g) → capacity_of z (size_of most f) (size_of most g) ≡ Err (apart_is z)
+  apart_is_its_number a b l = capacity_cases (λ c. c ≡ Err (apart_is z)) z most f g (λ o. absurd (⊎_elim (λ p. omega arith) (λ p. omega arith) o))
       (λ p q r. refl) (λ p q r. absurd (not-both z (value f) (value g) r l))
 
   pub else_is_usable : value f ≤ most → value g ≤ most → Together z (value f) (value g)
-      → capacity_of z (size_of most f) (size_of most g) ≡ Usable (taken z (value f) (value g))
-  else_is_usable a b l = capacity_cases (λ c. c ≡ Usable (taken z (value f) (value g))) z most f g
+      → capacity_of z (size_of most f) (size_of most g) ≡ Ok (taken z (value f) (value g))
+  else_is_usable a b l = capacity_cases (λ c. c ≡ Ok (taken z (value f) (value g))) z most f g
       (λ o. absurd (⊎_elim (λ p. omega arith) (λ p. omega arith) o)) (λ p q r. absurd (not-both z (value f) (value g) l r)) (λ p q r. refl)

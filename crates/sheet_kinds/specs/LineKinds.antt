@@ -1,20 +1,15 @@
 -- What a line of a network sheet is: the heading of an edition, and below it a site, a link or a fault, by its fields held against the forms.
 -- Document 01, "The network sheet"; 02, Card 5 (the reserve of a link), Card 7 (the mark of a site), Card 8 (editions), Card 9 (no bare numbers as names),
 -- Card 11 (the low and the high size of a link).
-use Rattle.std.specs.Prelude.{Bool, cond, ◌&&◌, List, [], ◌∷◌, ◌⊎◌, ◌≡◌, ℕ, ◌+◌, ◌-◌, eqb, leb, length}
+use Rattle.std.specs.Prelude.{Bool, cond, ◌&&◌, List, [], ◌∷◌, ◌⊎◌, ◌≡◌, ℕ, ◌+◌, eqb, length, Ok, Result, Err}
 use Rattle.sheet_kinds.specs.declared.Line.{Line}
-use Rattle.sheet_kinds.specs.declared.Line.TheVariants.{Site, Link, Fault}
-use Rattle.sheet_sizes.specs.declared.Capacity.{Capacity}
-use Rattle.sheet_sizes.specs.declared.Capacity.TheVariants.{Usable, Faulty}
+use Rattle.sheet_kinds.specs.declared.Line.TheVariants.{Site, Link}
 use Rattle.model.specs.Text.{bytes}
 use Rattle.model.specs.declared.Edition.{Edition}
 use Rattle.model.specs.declared.Sizing.{Sizing}
 use Rattle.model.specs.declared.Sizing.TheVariants.{Reserved, Low, High}
 use Rattle.text_grammar.specs.declared.Form.{Form}
-use Rattle.text_grammar.specs.declared.Check.{Check}
-use Rattle.text_grammar.specs.declared.Check.TheVariants as check
-use Rattle.text_grammar.specs.declared.Size.{Size}
-use Rattle.text_grammar.specs.declared.Size.TheVariants.{Within, Above}
+use Rattle.text_grammar.specs.Grammar.{Check}
 unfoldable pub use Rattle.text_fields.specs.Fields.{same, push, fields, all, is_name, is_number, value_from}
 pub use Rattle.text_fields.specs.Fields.{field, is_digit, digits_alone, is_letter_or_digit, value}
 unfoldable pub use Rattle.text_grammar.specs.Grammar.{checked_fields, checked, fault_of, size_of}
@@ -54,18 +49,18 @@ link_form z = record { letter = 76; names = 2; least = least_numbers z; most = 2
 
 -- the fields have the form of a site, marked or not, and of a link
 abbrev pub IsSite : List (List ℕ) → Type 0
-IsSite fs = (checked plain_form fs ≡ check.Formed) ⊎ (checked marked_form fs ≡ check.Formed)
+IsSite fs = (checked plain_form fs ≡ Ok tt) ⊎ (checked marked_form fs ≡ Ok tt)
 
 abbrev pub IsLink : Sizing → List (List ℕ) → Type 0
-IsLink z fs = checked (link_form z) fs ≡ check.Formed
+IsLink z fs = checked (link_form z) fs ≡ Ok tt
 
 -- a line that is formed, or its fault
-unfoldable pub judged : Check → Line → Line
-judged c line = cond (eqb (fault_of c) 0) line (Fault (fault_of c))
+unfoldable pub judged : {A : Type 0} → Check → Result A ℕ → Result A ℕ
+judged c line = cond (eqb (fault_of c) 0) line (Err (fault_of c))
 
 -- a line as a site with a letter and a mark
-unfoldable pub site_line : ℕ → ℕ → List (List ℕ) → Line
-site_line letter mark fs = judged (checked (site_form letter) fs) (Site 2 (2 + length (field fs 1)) mark)
+unfoldable pub site_line : ℕ → ℕ → List (List ℕ) → Result Line ℕ
+site_line letter mark fs = judged (checked (site_form letter) fs) (Ok (Site 2 (2 + length (field fs 1)) mark))
 
 -- the mark of a site line (02, Card 7: letter `T`): 1 marked, 0 not
 unfoldable pub mark : List (List ℕ) → ℕ
@@ -90,25 +85,25 @@ abbrev pub capacity : Sizing → List (List ℕ) → ℕ
 capacity z fs = taken z (value (field fs 3)) (value (field fs 4))
 
 -- the line of a link whose names have a and b bytes, by its capacity
-abbrev pub link_of : ℕ → ℕ → Capacity → Line
-link_of a b (Usable c) = Link 2 (2 + a) (3 + a) (3 + a + b) c
-link_of a b (Faulty n) = Fault n
+abbrev pub link_of : ℕ → ℕ → Result ℕ ℕ → Result Line ℕ
+link_of a b (Ok c) = Ok (Link 2 (2 + a) (3 + a) (3 + a + b) c)
+link_of a b (Err n) = Err n
 
 -- a line of the form of a link, with its capacity, or its fault
-unfoldable pub sized_link : Edition → List (List ℕ) → Line
+unfoldable pub sized_link : Edition → List (List ℕ) → Result Line ℕ
 sized_link ed fs =
     link_of (length (field fs 1)) (length (field fs 2)) (capacity_of ed.sizing (size_of ed.size (field fs 3)) (size_of ed.size (field fs 4)))
 
 -- a line as a link
-unfoldable pub link_line : Edition → List (List ℕ) → Line
+unfoldable pub link_line : Edition → List (List ℕ) → Result Line ℕ
 link_line ed fs = judged (checked (link_form ed.sizing) fs) (sized_link ed fs)
 
 -- what a line below the heading is, by its fields: a link where the first is `L`, a marked site where it is `T`, else a site
-unfoldable pub kind_of : Edition → List (List ℕ) → Line
+unfoldable pub kind_of : Edition → List (List ℕ) → Result Line ℕ
 kind_of ed fs =
     cond (same (field fs 0) (bytes "L")) (link_line ed fs)
     (cond (same (field fs 0) (bytes "T")) (site_line 84 1 fs) (site_line 78 0 fs))
 
 -- what a line of a sheet of an edition is, below the heading (01: a site, a link or a fault)
-unfoldable pub kind : Edition → List ℕ → Line
+unfoldable pub kind : Edition → List ℕ → Result Line ℕ
 kind ed l = kind_of ed (fields l)

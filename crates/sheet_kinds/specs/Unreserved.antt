@@ -1,6 +1,6 @@
 -- Lines from before Card 5: a link line has four fields, its capacity is its size, and a site line has the letter `N`. Document 02, Card 5 ("may carry a
 -- fifth field"). A line that is no link line of five fields was the same up to Card 7: by the count of its fields, and since no digits have the value 0.
-use Rattle.std.specs.Prelude.{Bool, true, false, cond, List, ◌≢◌, ◌≡◌, refl, ℕ, ◌+◌, ◌<◌, leb, length}
+use Rattle.std.specs.Prelude.{Bool, true, false, cond, List, ◌≢◌, ◌≡◌, refl, ℕ, ◌+◌, ◌<◌, leb, length, Ok, Err, Result}
 use Rattle.std.proofs.Common.{⊎_elim, sym, ◌∙◌, arith}
 use Rattle.std.proofs.Math.Decide.{dec_le}
 use Rattle.std.proofs.Math.Nat.{sub-zero}
@@ -10,14 +10,14 @@ use Rattle.model.specs.Text.{bytes}
 use Rattle.model.specs.declared.Edition.{Edition}
 use Rattle.model.specs.declared.Sizing.TheVariants.{Reserved}
 use Rattle.text_grammar.specs.declared.Form.{Form}
-use Rattle.text_grammar.specs.declared.Check.{Check}
-use Rattle.text_grammar.specs.declared.Check.TheVariants as check
+use Rattle.text_grammar.specs.Grammar.{Check}
+use Rattle.text_grammar.specs.declared.Broken.TheVariants as check
 use Rattle.sheet_kinds.specs.LineKinds.{same, fields, field, fault_of, link_form, judged, size, link_of, sized_link}
 use Rattle.sheet_kinds.specs.LineKindLaws.{same_are_equal, no_fifth, capacity_cases}
 use Rattle.sheet_kinds.specs.BareNames.{checked_bare, site_bare, link_bare, formed_are_counted}
 use Rattle.sheet_kinds.specs.Unmarked.{kind_unmarked}
 use Rattle.sheet_kinds.specs.declared.Line.{Line}
-use Rattle.sheet_kinds.specs.declared.Line.TheVariants.{Link, Fault}
+use Rattle.sheet_kinds.specs.declared.Line.TheVariants.{Link}
 
 -- ---- the definitions
 
@@ -26,14 +26,14 @@ abbrev pub link_form_before : Form
 link_form_before = record { letter = 76; names = 2; least = 1; most = 1 }
 
 -- a line of that form, or fault 3 where its size is above the limit
-unfoldable pub sized_before : Edition → List (List ℕ) → Line
+unfoldable pub sized_before : Edition → List (List ℕ) → Result Line ℕ
 sized_before ed fs =
     let a = length (field fs 1) in
     let b = length (field fs 2) in
-    cond (leb (size fs) ed.size) (Link 2 (2 + a) (3 + a) (3 + a + b) (size fs)) (Fault 3)
+    cond (leb (size fs) ed.size) (Ok (Link 2 (2 + a) (3 + a) (3 + a + b) (size fs))) (Err 3)
 
 -- what a line was
-unfoldable pub kind_unreserved : Edition → List ℕ → Line
+unfoldable pub kind_unreserved : Edition → List ℕ → Result Line ℕ
 kind_unreserved ed l =
     let fs = fields l in
     cond (same (field fs 0) (bytes "L")) (judged (checked_bare link_form_before fs) (sized_before ed fs)) (site_bare 78 0 fs)
@@ -41,14 +41,14 @@ kind_unreserved ed l =
 -- ---- the laws
 
 -- a line that is not formed is its fault, whatever it would be
-judged-alike : (c : Check) (v w : Line) → (c ≡ check.Formed → v ≡ w) → judged c v ≡ judged c w
+judged-alike : (c : Check) (v w : Result Line ℕ) → (c ≡ Ok tt → v ≡ w) → judged c v ≡ judged c w
 unfolding judged fault_of
-judged-alike check.Formed v w h = h refl
-judged-alike check.Letter v w h = refl
-judged-alike check.Count v w h = refl
-judged-alike check.Name v w h = refl
-judged-alike check.Digits v w h = refl
-judged-alike check.Number v w h = refl
+judged-alike (Ok tt) v w h = h refl
+judged-alike (Err check.Letter) v w h = refl
+judged-alike (Err check.Count) v w h = refl
+judged-alike (Err check.Name) v w h = refl
+judged-alike (Err check.Digits) v w h = refl
+judged-alike (Err check.Number) v w h = refl
 
 -- of network sheets alone: a link line of a range sheet came with Card 11
 module _ (ed : Edition) (network : ed.sizing ≡ Reserved) (fs : List (List ℕ)) where

@@ -9,13 +9,13 @@ ghost use Rattle.sheet_kinds.specs.LineKinds.{heading_word, is_heading, site_for
 ghost use Rattle.sheet_kinds.specs.LineKinds.{link_line, kind};
 
 use model::{Edition, Sizing};
-use sheet_sizes::Capacity;
-use text_grammar::{Fields, Form, Size};
+use text_grammar::{Broken, Fields, Form};
 
-// What a line below the heading is (01: a site, a link or a fault). Names are ranges of places in the line.
-#[derive(Clone, Copy)]
+// What a line below the heading is that is no fault (01: a site or a link). Names are ranges of places in the line.
+#[derive(Clone, Copy, PartialEq, Eq, Debug)]
 pub enum Line {
     // 1 marked (02, Card 7: letter `T`), 0 not
+    // Stays: a network's marks are a list of these numbers, in `Lists` and in the definition `mark`, which may not change.
     Site {
         start: usize,
         end: usize,
@@ -28,8 +28,6 @@ pub enum Line {
         end2: usize,
         size: u64,
     },
-    // the refusal's number
-    Fault(u64),
 }
 
 // The form of a site line, by its letter.
@@ -93,36 +91,33 @@ pub fn is_heading(line: &[u8], edition: Edition) -> bool
     text_fields::is_byte(text_grammar::field(line, found, 1), edition.digit)
 }
 
-// What a line is as a site with a letter and a mark.
-fn site(line: &[u8], found: Fields, letter: u8, mark: u8) -> Line
+// What a line is as a site with a letter and a mark, or the number of the refusal.
+fn site(line: &[u8], found: Fields, letter: u8, mark: u8) -> Result<Line, u64>
     requires { found ≡ split line.now }
     ensures { result ≡ site_line letter mark (fields line.now) }
 {
     let form = site_form(letter);
-    let fault = text_grammar::fault(text_grammar::check_line(line, found, form));
-    if fault != 0 {
-        return Line::Fault(fault);
-    }
-    Line::Site {
+    text_grammar::check_line(line, found, form).map_err(Broken::number)?;
+    Ok(Line::Site {
         start: 2,
         end: found.end[1],
         mark,
-    }
+    })
 }
 
 // The second number of a link line, where it is within the limit; a line without a fifth field has none, and 0 stands for it.
-fn second(line: &[u8], found: Fields, most: u64) -> Size
+fn second(line: &[u8], found: Fields, most: u64) -> Option<u64>
     requires { found ≡ split line.now }
     ensures { result ≡ size_of most (field (fields line.now) 4) }
 {
     if found.count < 5 {
-        return Size::Within(0);
+        return Some(0);
     }
     text_grammar::size_of(text_grammar::field(line, found, 4), most)
 }
 
-// The capacity of a link line.
-fn usable(line: &[u8], found: Fields, edition: Edition) -> Capacity
+// The capacity of a link line, or the number of the refusal.
+fn usable(line: &[u8], found: Fields, edition: Edition) -> Result<u64, u64>
     requires { (found ≡ split line.now) × IsLink edition.sizing (fields line.now) }
     ensures { result ≡ capacity_of edition.sizing (size_of edition.size (field (fields line.now) 3))
         (size_of edition.size (field (fields line.now) 4)) }
@@ -132,34 +127,26 @@ fn usable(line: &[u8], found: Fields, edition: Edition) -> Capacity
     sheet_sizes::capacity_of(sizing, first, second(line, found, edition.size))
 }
 
-// What a line is as a link.
-fn link(line: &[u8], found: Fields, edition: Edition) -> Line
+// What a line is as a link, or the number of the refusal.
+fn link(line: &[u8], found: Fields, edition: Edition) -> Result<Line, u64>
     requires { found ≡ split line.now }
     ensures { result ≡ link_line edition (fields line.now) }
 {
     let sizing = edition.sizing;
-    let fault = text_grammar::fault(text_grammar::check_line(line, found, link_form(sizing)));
-    if fault != 0 {
-        return Line::Fault(fault);
-    }
-    let capacity = usable(line, found, edition);
-    match capacity {
-        Capacity::Faulty(number) => Line::Fault(number),
-        Capacity::Usable(size) => {
-            let end = found.end[1];
-            Line::Link {
-                start: 2,
-                end,
-                start2: end + 1,
-                end2: found.end[2],
-                size,
-            }
-        }
-    }
+    text_grammar::check_line(line, found, link_form(sizing)).map_err(Broken::number)?;
+    let size = usable(line, found, edition)?;
+    let end = found.end[1];
+    Ok(Line::Link {
+        start: 2,
+        end,
+        start2: end + 1,
+        end2: found.end[2],
+        size,
+    })
 }
 
-// What a line below the heading is.
-pub fn classify(line: &[u8], edition: Edition) -> Line
+// What a line below the heading is, or the number of the refusal.
+pub fn classify(line: &[u8], edition: Edition) -> Result<Line, u64>
     ensures { result ≡ kind edition line.now }
 {
     let found = text_grammar::split(line);

@@ -1,5 +1,5 @@
 -- The look-up of a name: what is found has the same name, and where nothing is found no site has it. By induction over the names.
-use Rattle.std.specs.Prelude.{Bool, true, false, cond, ◌≡◌, length, get_or}
+use Rattle.std.specs.Prelude.{Option, Some, None, Bool, true, false, cond, ◌≡◌, length, get_or}
 use Rattle.std.proofs.Common.{true≢false, sym, ◌∙◌, arith, zero-add}
 use mathlib.Core.List.{List, [], ◌∷◌, ◌++◌}
 use Rattle.std.proofs.Math.Path.{refl, ap}
@@ -8,25 +8,23 @@ use Rattle.lists.specs.Numbers.{look}
 use Rattle.text_fields.specs.Fields.{same, capitals, SameName, same_name}
 use Rattle.text_fields.specs.FieldLaws.{same_are_equal, equal_are_same, not_same}
 use Rattle.sheet_names.specs.Names.{part, lookup_from, ranges, name_at}
-use Rattle.sheet_names.specs.declared.Found.{Found}
-use Rattle.sheet_names.specs.declared.Found.TheVariants.{At, Absent}
 
 -- what a look-up says of a name, the names given being those of the sites from k up: the number of a site of that name, or that none has it
-abbrev pub Says : List ℕ → List (ℕ × ℕ) → ℕ → List ℕ → Found → Type 0
-Says s rs k f (At v) = (i : ℕ) × (v ≡ k + i) × (i < length rs) × SameName (name_at s rs i) f
-Says s rs k f Absent = (i : ℕ) → i < length rs → ¬ (SameName (name_at s rs i) f)
+abbrev pub Says : List ℕ → List (ℕ × ℕ) → ℕ → List ℕ → Option ℕ → Type 0
+Says s rs k f (Some v) = (i : ℕ) × (v ≡ k + i) × (i < length rs) × SameName (name_at s rs i) f
+Says s rs k f None = (i : ℕ) → i < length rs → ¬ (SameName (name_at s rs i) f)
 
 module _ (s f : List ℕ) where
-  says_more : (r : ℕ × ℕ) (rs : List (ℕ × ℕ)) (k : ℕ) (w : Found) → (¬ (SameName (part s r) f)) → Says s rs (suc k) f w → Says s (r ∷ rs) k f w
-  says_more r rs k (At v) d h = (suc h.0, omega arith, omega arith, h.3)
-  says_more r rs k Absent d h = next
+  says_more : (r : ℕ × ℕ) (rs : List (ℕ × ℕ)) (k : ℕ) (w : Option ℕ) → (¬ (SameName (part s r) f)) → Says s rs (suc k) f w → Says s (r ∷ rs) k f w
+  says_more r rs k (Some v) d h = (suc h.0, omega arith, omega arith, h.3)
+  says_more r rs k None d h = next
     where
       next : (i : ℕ) → i < length (r ∷ rs) → ¬ (SameName (name_at s (r ∷ rs) i) f)
       next zero l = d
       next (suc i) l = h i (omega arith)
 
-  says_by : (r : ℕ × ℕ) (rs : List (ℕ × ℕ)) (k : ℕ) (w : Found) (t : Bool) → same_name (part s r) f ≡ t → Says s rs (suc k) f w
-      → Says s (r ∷ rs) k f (cond t (At k) w)
+  says_by : (r : ℕ × ℕ) (rs : List (ℕ × ℕ)) (k : ℕ) (w : Option ℕ) (t : Bool) → same_name (part s r) f ≡ t → Says s rs (suc k) f w
+      → Says s (r ∷ rs) k f (cond t (Some k) w)
   says_by r rs k w true e h = (0, omega arith, omega arith, same_are_equal (capitals (part s r)) (capitals f) e)
   says_by r rs k w false e h = says_more r rs k w (λ z. true≢false (sym (equal_are_same (capitals (part s r))) ∙ ap (same (capitals (part s r))) z ∙ e)) h
 
@@ -38,13 +36,13 @@ module _ (s f : List ℕ) where
 
   -- the first site of a name is found
   pub first_is_found : (rs : List (ℕ × ℕ)) (k i : ℕ) → i < length rs → SameName (name_at s rs i) f → ((j : ℕ) → j < i → ¬ (SameName (name_at s rs j) f))
-      → lookup_from s rs k f ≡ At (k + i)
+      → lookup_from s rs k f ≡ Some (k + i)
   unfolding lookup_from
   first_is_found [] k i l e d = absurd (omega arith)
-  first_is_found (r ∷ rs) k zero l e d = rw (e, equal_are_same (capitals f)) (ap At (omega arith))
+  first_is_found (r ∷ rs) k zero l e d = rw (e, equal_are_same (capitals f)) (ap Some (omega arith))
   first_is_found (r ∷ rs) k (suc i) l e d =
       rw (not_same (capitals (part s r)) (capitals f) (d 0 (omega arith)))
-      (first_is_found rs (suc k) i (omega arith) e (λ j b. d (suc j) (omega arith)) ∙ ap At (omega arith))
+      (first_is_found rs (suc k) i (omega arith) e (λ j b. d (suc j) (omega arith)) ∙ ap Some (omega arith))
 
 -- ---- names in two lists
 

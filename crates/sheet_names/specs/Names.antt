@@ -1,12 +1,10 @@
 -- The names of sites as ranges of the sheet, the look-up of a name, and the table of hashes by which the code looks it up.
 -- Document 01, "The network sheet" (a name given above), and 02, Card 4 (names in either case).
-use Rattle.std.specs.Prelude.{cond, List, [], ◌∷◌, ◌≢◌, ◌≡◌, ℕ, zero, suc, ◌+◌, ◌-◌, ◌*◌, ◌%◌, ◌≤◌, ◌<◌, min, ltb, length, get_or, take, drop, set}
+use Rattle.std.specs.Prelude.{Option, Some, None, cond, List, [], ◌∷◌, ◌≢◌, ◌≡◌, ℕ, zero, suc, ◌+◌, ◌-◌, ◌*◌, ◌%◌, ◌≤◌, ◌<◌, min, ltb, length, get_or, take, drop, set}
 use Rattle.std.specs.Borrow.{Bor}
 use Rattle.lists.specs.Numbers.{look}
 use Rattle.model.specs.Limits.{PLACES, SITES}
 use Rattle.text_fields.specs.Fields.{SameName, same_name, caseless, last_word}
-use Rattle.sheet_names.specs.declared.Found.{Found}
-use Rattle.sheet_names.specs.declared.Found.TheVariants.{At, Absent}
 
 -- the part of the sheet from start to end
 abbrev pub part : List ℕ → ℕ × ℕ → List ℕ
@@ -23,11 +21,11 @@ pub record IsPart (sheet : Bor (List ℕ)) (r : ℕ × ℕ) (q : Bor (List ℕ))
   pub place : q.ref_ptr ≡ (sheet.ref_ptr.0, sheet.ref_ptr.1 + part_start sheet.now r)
 
 -- the number of the first site whose name is the same as f, the names given being those of the sites from k up
-unfoldable pub lookup_from : List ℕ → List (ℕ × ℕ) → ℕ → List ℕ → Found
-lookup_from s [] k f = Absent
-lookup_from s (r ∷ rs) k f = cond (same_name (part s r) f) (At k) (lookup_from s rs (suc k) f)
+unfoldable pub lookup_from : List ℕ → List (ℕ × ℕ) → ℕ → List ℕ → Option ℕ
+lookup_from s [] k f = None
+lookup_from s (r ∷ rs) k f = cond (same_name (part s r) f) (Some k) (lookup_from s rs (suc k) f)
 
-abbrev pub lookup : List ℕ → List (ℕ × ℕ) → List ℕ → Found
+abbrev pub lookup : List ℕ → List (ℕ × ℕ) → List ℕ → Option ℕ
 lookup s names f = lookup_from s names 1 f
 
 -- the ranges whose starts and ends stand in two lists, n of them from place i on

@@ -1,6 +1,6 @@
 -- The table of hashes tells the look-up, and entering a site keeps it. From the newest site with a name's hash back to the oldest, every site
 -- with that hash is met, so a site of the name is met before the chain ends.
-use Rattle.std.specs.Prelude.{Bool, true, false, cond, List, [], ◌∷◌, ◌++◌, ◌≢◌, ◌≡◌, refl, ℕ, ◌+◌, ◌-◌, ◌*◌, ◌%◌, ◌≤◌, ◌<◌, ltb, drop, set, replicate}
+use Rattle.std.specs.Prelude.{Option, Some, None, Bool, true, false, cond, List, [], ◌∷◌, ◌++◌, ◌≢◌, ◌≡◌, refl, ℕ, ◌+◌, ◌-◌, ◌*◌, ◌%◌, ◌≤◌, ◌<◌, ltb, drop, set, replicate}
 use Rattle.std.proofs.Common.{sym, ap, ◌∙◌, mod-lt, zero-add, add-one, drop_of_length-le, drop-cons}
 use Rattle.std.proofs.Math.Decide.{dec_lt}
 use native.Mathlib.Omega.{arith}
@@ -16,8 +16,6 @@ use Rattle.text_fields.specs.Fields.{SameName, caseless, last_word}
 use Rattle.text_fields.specs.Capitals.{length-caseless, caseless-at, same_length, same_names_are_caseless_alike}
 use Rattle.sheet_names.specs.Names.{HASHES, TABLE, part, lookup, ranges, name_at, hash_from, hash, entered, Newest, Distinct, Indexes}
 use Rattle.sheet_names.specs.LookupLaws.{Says, lookup_says, first_is_found, length-ranges, range_at, ranges_more}
-use Rattle.sheet_names.specs.declared.Found.{Found}
-use Rattle.sheet_names.specs.declared.Found.TheVariants.{At, Absent}
 
 -- ---- hashes
 
@@ -85,16 +83,16 @@ module _ {s : List ℕ} {names : List (ℕ × ℕ)} {table : List ℕ} (t : Inde
       omega (arith, n.within)
 
   -- at the end of the chain
-  pub none-there : Back s names f 0 → lookup s names f ≡ Absent
+  pub none-there : Back s names f 0 → lookup s names f ≡ None
   none-there b = by (lookup s names f) (lookup_says s f names 1)
     where
-      by : (w : Found) → Says s names 1 f w → w ≡ Absent
-      by (At v) h = absurd (b.after h.0 (omega arith) h.2 h.3)
-      by Absent h = refl
+      by : (w : Option ℕ) → Says s names 1 f w → w ≡ None
+      by (Some v) h = absurd (b.after h.0 (omega arith) h.2 h.3)
+      by None h = refl
 
-  pub site-there : (v : ℕ) → 1 ≤ v → v ≤ length names → SameName (name_at s names (v - 1)) f → lookup s names f ≡ At v
+  pub site-there : (v : ℕ) → 1 ≤ v → v ≤ length names → SameName (name_at s names (v - 1)) f → lookup s names f ≡ Some v
   site-there v l h e =
-      first_is_found s f names 1 (v - 1) (omega arith) e (λ j b z. t.distinct.different (v - 1) (omega arith) j b (z ∙ sym e)) ∙ ap At (omega arith)
+      first_is_found s f names 1 (v - 1) (omega arith) e (λ j b z. t.distinct.different (v - 1) (omega arith) j b (z ∙ sym e)) ∙ ap Some (omega arith)
 
 -- each of distinct names lies on the sheet
 pub lies_there : {s : List ℕ} (starts ends : List ℕ) (n : ℕ) → Distinct s (ranges starts ends 0 n) → (i : ℕ) → i < n

@@ -1,10 +1,10 @@
 // Inner: the names of sites, as ranges of a sheet, and their look-up by a table of hashes. Sites whose names have one hash are chained.
 #![tactic(auto)]
 
-ghost use Rattle.std.specs.Prelude.{◌≡◌, ◌≤◌, min, length};
+ghost use Rattle.std.specs.Prelude.{◌≡◌, ◌<◌, ◌≤◌, length};
 ghost use Rattle.model.specs.Limits.{SITES};
 ghost use Rattle.text_fields.specs.Fields.{caseless};
-ghost use Rattle.sheet_names.specs.Names.{part, IsPart, lookup, ranges, hash_from, hash, entered, Distinct, Indexes};
+ghost use Rattle.sheet_names.specs.Names.{HASHES, part, IsPart, lookup, ranges, hash_from, hash, entered, Distinct, Indexes};
 
 use model::{PLACES, SITES};
 
@@ -14,25 +14,11 @@ pub const HASHES: usize = 4 * SITES;
 // The places of the table: for each hash the newest site with it, and behind those, for each site the newest site before it with the same hash.
 pub const TABLE: usize = HASHES + PLACES;
 
-// What the look-up of a name finds: the number of the site, or that no site above has the name.
-#[derive(Clone, Copy)]
-pub enum Found {
-    At(usize),
-    Absent,
-}
-
-// The lesser of two numbers.
-fn lesser(a: usize, b: usize) -> usize
-    ensures { result ≡ min a b }
-{
-    if a < b { a } else { b }
-}
-
 // The part of a sheet from a start to an end, that very part.
 pub fn part(sheet: &[u8], start: usize, end: usize) -> &[u8]
     ensures { IsPart sheet.entry (start, end) result }
 {
-    let stop = lesser(end, sheet.len());
+    let stop = end.min(sheet.len());
     if stop <= start {
         return &sheet[stop..stop];
     }
@@ -44,17 +30,16 @@ fn hash_bytes(name: &[u8]) -> usize
     ensures { result ≡ hash_from 0 (caseless name.now) }
 {
     let mut value = 0;
-    let mut i = 0;
-    while i < name.len() {
-        value = (value * 31 + (name[i] & 223) as usize) % HASHES;
-        i += 1;
+    for &byte in name {
+        value = (value * 31 + usize::from(byte & 223)) % HASHES;
     }
     value
 }
 
-// The hash of a name: that of its last eight bytes, or of all of fewer. Names that are the same have one.
+// The hash of a name, a place of the table: that of its last eight bytes, or of all of fewer. Names that are the same have one.
 fn hash(name: &[u8]) -> usize
-    ensures { result ≡ hash name.now }
+    ensures value { result ≡ hash name.now }
+    ensures below { result < HASHES }
 {
     if name.len() < 8 {
         return hash_bytes(name);
@@ -73,8 +58,8 @@ pub fn enter(table: &mut [u16; TABLE], sheet: &[u8], start: usize, end: usize, s
     table[place] = site as u16;
 }
 
-// The number of the site whose name is the same as a name, the names of the sites being ranges of the sheet, by the table: from the newest site with the
-// name's hash back to the oldest. Only the planner's own crates call it.
+// The number of the site whose name is the same as a name, if there is one, the names of the sites being ranges of the sheet, by the table: from the newest
+// site with the name's hash back to the oldest. Only the planner's own crates call it.
 pub fn find(
     sheet: &[u8],
     starts: &[usize; SITES],
@@ -82,21 +67,22 @@ pub fn find(
     sites: usize,
     table: &[u16; TABLE],
     name: &[u8],
-) -> Found
+) -> Option<usize>
     requires { (sites ≤ SITES) × Indexes sheet.now (ranges starts.now ends.now 0 sites) table.now }
     ensures { result ≡ lookup sheet.now (ranges starts.now ends.now 0 sites) name.now }
 {
-    let mut site = table[hash(name)] as usize;
+    let mut site = usize::from(table[hash(name)]);
+    // Stays: the place goes on by links of the chain, not by one, so there is no range or iterator to go over.
     while 0 < site {
         let i = site - 1;
         let start = starts[i];
         let end = ends[i];
         if text_fields::same_name(&sheet[start..end], name) {
-            return Found::At(site);
+            return Some(site);
         }
-        site = table[HASHES + site] as usize;
+        site = usize::from(table[HASHES + site]);
     }
-    Found::Absent
+    None
 }
 
 // The table of the sites whose names, all different, are ranges that lie on the sheet. Only the planner's own crates call it.
@@ -110,10 +96,8 @@ pub fn index(
     ensures { Indexes sheet.now (ranges starts.now ends.now 0 sites) result }
 {
     let mut table = [0u16; TABLE];
-    let mut i = 0;
-    while i < sites {
+    for i in 0..sites {
         enter(&mut table, sheet, starts[i], ends[i], i + 1);
-        i += 1;
     }
     table
 }

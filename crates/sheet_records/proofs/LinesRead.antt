@@ -1,5 +1,5 @@
 -- The lines of a sheet that are read, and their records: each is held by the network as a site or a link of its own, each link stands below its two sites.
-use Rattle.std.specs.Prelude.{Bool, cond, ◌≢◌, ◌≡◌, get_or, drop}
+use Rattle.std.specs.Prelude.{Ok, Err, Bool, cond, ◌≢◌, ◌≡◌, get_or, drop}
 use Rattle.std.proofs.Math.Bool.{true, false}
 use mathlib.Core.List.{List, [], ◌∷◌, ◌++◌, append_assoc, append-nil, reverse, reverse_aux-append}
 use Rattle.std.proofs.Math.Logic.{inl, inr}
@@ -21,15 +21,14 @@ use Rattle.text_lines.specs.Lines.{line_at, after_line}
 use Rattle.text_lines.specs.LineLaws.{line_holds_no_ten, ended_lines_cover_the_sheet}
 use Rattle.text_fields.specs.Fields.{push, capitals}
 use Rattle.text_records.specs.Records.{lines_of, Record, records}
-use Rattle.sheet_kinds.specs.LineKinds.{same, field, is_heading, mark, IsSite, IsLink}
-use Rattle.sheet.specs.Sheet.{Network, empty, refused, accepted, with_site, with_link, heading_step, step_of, added, read_line, read_as}
+use Rattle.sheet_kinds.specs.LineKinds.{field, is_heading, mark, IsSite, IsLink}
+use Rattle.sheet.specs.Sheet.{Stepped, refusal, Network, empty, refused, accepted, with_site, with_link, heading_step, step_of, added, read_line, read_as}
 use Rattle.sheet.specs.Causes.{Named, Ended, fields_at, Reached, start, next}
 use Rattle.sheet.specs.CauseLaws.{first_name}
 use Rattle.sheet.specs.StepCases.{unended_step, first_step}
 use Rattle.sheet.specs.Sound.{Sound, Accepts, none_is_sound, a_line_keeps_sound, after-within}
 use Rattle.sheet.specs.OwnLines.{IsLinkLine, Adds, step_adds}
 use Rattle.sheet.specs.RefusalLaws.{an_accepted_sheet_is_read_to_its_end}
-use Rattle.sheet.specs.declared.stepping.Step.{Step}
 use Rattle.sheet.specs.declared.stepping.Step.TheVariants as step
 use Rattle.sheet_records.specs.SameRecords.{records_of, SameRecord, same-site, same-link, GivenAmong, LinksBelow}
 use Rattle.sheet_records.specs.RecordLaws.{a_site_is_no_link}
@@ -149,15 +148,15 @@ module _ (ed : Edition) (s : List ℕ) where
       on = R.rest ∙ ap (λ y. above ++ y) (records_step s at (an_accepted_line_is_ended net k at after e))
           ∙ sym (append_assoc above (fields_at s at ∷ []) (records (drop (after_line s at) s)))
 
-      by : (w : Step) → Adds ed s net k at w → added net w ≡ accepted after → Kept ed s (above ++ (fields_at s at ∷ [])) after
-      by step.Nothing h e = absurd (d h)
-      by (step.Site a b m) h e =
+      by : (w : Stepped) → Adds ed s net k at w → added net w ≡ accepted after → Kept ed s (above ++ (fields_at s at ∷ [])) after
+      by (Ok step.Nothing) h e = absurd (d h)
+      by (Ok (step.Site a b m)) h e =
           let same : with_site net (first_name s at) (mark (fields_at s at)) ≡ after = rw (← h.1, ← h.2) cc in
           subst (Kept ed s (above ++ (fields_at s at ∷ []))) same (site-kept above net R.kept at h.0 (subst (Sound ed s) (sym same) sound'))
-      by (step.Link a b c) h e =
+      by (Ok (step.Link a b c)) h e =
           let same : with_link net (a, b) c ≡ after = cc in
           subst (Kept ed s (above ++ (fields_at s at ∷ []))) same (link-kept above net R.kept at network a b c h sound (subst (Sound ed s) (sym same) sound'))
-      by (step.Refused n m) h e = contradiction cc
+      by (Err r) h e = contradiction cc
 
   nothing-is-kept : Kept ed s [] empty
   unfolding tally
@@ -180,7 +179,7 @@ module _ (ed : Edition) (s : List ℕ) where
   heading_read net after e = by (is_heading ed (fields_at s 0))
       (sym (ap (added net) (first_step ed s net 1 0 (an_accepted_line_is_ended net 1 0 after e) refl)) ∙ e)
     where
-      by : (t : Bool) → added net (cond t step.Nothing (step.Refused 2 1)) ≡ accepted after → (after ≡ net) × (t ≡ true)
+      by : (t : Bool) → added net (cond t (Ok step.Nothing) (Err (refusal 2 1))) ≡ accepted after → (after ≡ net) × (t ≡ true)
       by true q = (cc, refl)
       by false q = contradiction cc
 

@@ -1,5 +1,5 @@
 -- A network that holds a site for each site record and a link for each link record among some, and no other: with one more line it holds one more.
-use Rattle.std.specs.Prelude.{List, [], ◌⊎◌, ◌≡◌, ℕ, ◌-◌, ◌≤◌, ◌<◌, length}
+use Rattle.std.specs.Prelude.{List, ◌⊎◌, ◌≡◌, ℕ, ◌-◌, ◌≤◌, ◌<◌, length}
 use Rattle.lists.specs.Numbers.{look}
 use Rattle.model.specs.Flows.{Site, one, two}
 use Rattle.model.specs.declared.Edition.{Edition}

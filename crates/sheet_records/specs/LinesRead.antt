@@ -6,7 +6,7 @@ use mathlib.Core.List.{List, [], ◌++◌}
 use Rattle.std.proofs.Math.Logic.{inl, inr}
 use Rattle.std.proofs.Math.Path.{sym}
 use Rattle.std.proofs.Common.{◌∙◌, drop_of_length-le}
-use Prim.Native.Nat.{ℕ, ◌+◌, ◌-◌, ◌≤◌}
+use Prim.Native.Nat.{ℕ, ◌-◌, ◌≤◌}
 use native.Mathlib.Omega.{arith}
 use Rattle.std.proofs.Math.Decide.{dec_lt}
 use Rattle.std.proofs.Math.ListN.{length}
@@ -23,7 +23,6 @@ use Rattle.sheet_kinds.specs.LineKindLaws.{site_parts, link_parts}
 use Rattle.sheet_names.specs.Names.{Different}
 use Rattle.sheet.specs.Sheet.{Network, empty}
 use Rattle.sheet.specs.Causes.{Named, fields_at}
-use Rattle.sheet.specs.declared.stepping.Step.TheVariants as step
 use Rattle.sheet_records.specs.SameRecords.{records_of, SameNames, LinksBelow}
 use Rattle.sheet_records.specs.Held.{Holds}
 

@@ -1,5 +1,5 @@
 -- What a line is in which a scan found a letter, a name or two and numbers: its fields are these, and they have the form of a site or of a link.
-use Rattle.std.specs.Prelude.{true, false, List, [], ◌∷◌, ◌≡◌, refl, length, get_or}
+use Rattle.std.specs.Prelude.{true, false, List, [], ◌∷◌, ◌≡◌, refl, length, get_or, Result, Ok}
 use Rattle.std.proofs.Math.Logic.{inl, inr}
 use Rattle.std.proofs.Common.{sym, ◌∙◌, add-one, arith}
 use Prim.Native.Nat.{ℕ, zero, suc, ◌+◌, ◌-◌, ◌≤◌, ◌<◌}
@@ -18,7 +18,6 @@ use Rattle.sheet_kinds.specs.FaultyLines.{kind_of_L}
 use Rattle.sheet_kinds.specs.KindForms.{a_site_by_its_form}
 use Rattle.sheet_kinds.specs.declared.Line.{Line}
 use Rattle.sheet_kinds.specs.declared.Line.TheVariants.{Site, Link}
-use Rattle.sheet_sizes.specs.declared.Capacity.TheVariants.{Usable}
 use Rattle.sheet_scan.specs.Scan.{scanned, NameAt, NumberAt, NumbersAt, LetterTab, letter_of, LineIs, one_number, NumbersFound}
 use Rattle.sheet_scan.specs.ScanLaws.{Plain, field_and_more, field-and-end, digits_are_plain, name-is-plain}
 
@@ -26,7 +25,7 @@ use Rattle.sheet_scan.specs.ScanLaws.{Plain, field_and_more, field-and-end, digi
 
 module _ (ed : Edition) (l : List ℕ) where
   site_by_its_fields : (name : List ℕ) (m : ℕ) → m ≤ 1 → fields l ≡ (letter_of m ∷ []) ∷ name ∷ [] → is_name name ≡ true → digits_alone name ≡ false
-      → kind ed l ≡ Site 2 (2 + length name) m
+      → kind ed l ≡ Ok (Site 2 (2 + length name) m)
   unfolding mark same
   site_by_its_fields name zero h e is lettered =
       a_site_by_its_form ed l ((site_is_its_parts (fields l)).1 (rw e (record { count = refl; letter = inl refl; name = is; lettered = lettered }))) ∙ rw e
@@ -55,8 +54,8 @@ module _ (ed : Edition) (l : List ℕ) where
         }))
 
     link-by-its-fields : (c : ℕ) → value (field ns 0) ≤ ed.size → value (field ns 1) ≤ ed.size
-        → paired ed.sizing (value (field ns 0)) (value (field ns 1)) ≡ Usable c
-        → kind ed l ≡ Link 2 (2 + length a) (3 + length a) (3 + length a + length b) c
+        → paired ed.sizing (value (field ns 0)) (value (field ns 1)) ≡ Ok c
+        → kind ed l ≡ Ok (Link 2 (2 + length a) (3 + length a) (3 + length a + length b) c)
     unfolding link_line judged fault_of sized_link capacity_of
     link-by-its-fields c v w p =
         kind_of_L ed l (rw e) ∙ rw (is-link, e, size-within ed.size (field ns 0) v, size-within ed.size (field ns 1) w, p)
@@ -94,7 +93,7 @@ module _ (ed : Edition) (s : List ℕ) where
 
   -- a letter, two names and numbers
   pub a_link_is_found : (at one two to v w c : ℕ) → LetterTab s at 76 → at + 2 < one → NameAt s (at + 2) one 9 → one + 1 < two → NameAt s (one + 1) two 9
-      → NumbersAt ed s (two + 1) to v w → paired ed.sizing v w ≡ Usable c → LineIs ed s at (Link 2 (one - at) (one + 1 - at) (two - at) c) to
+      → NumbersAt ed s (two + 1) to v w → paired ed.sizing v w ≡ Ok c → LineIs ed s at (Link 2 (one - at) (one + 1 - at) (two - at) c) to
   a_link_is_found at one two to v w c h o n o2 n2 ns p =
       let f = letter_and_more s at 76 h (omega arith) in
       let g = field_and_more s (at + 2) one (omega arith) n.on_sheet (name-is-plain s (at + 2) one n.run) n.followed in
@@ -158,13 +157,13 @@ module _ (ed : Edition) (s : List ℕ) where
 -- ---- the line as it is scanned
 
 module _ (ed : Edition) (s : List ℕ) (at : ℕ) where
-  pub a_found_line_is_scanned : (w : Line) (to : ℕ) → LineIs ed s at w to → record { line = w; end = to; next = to + 1 } ≡ scanned ed s at
+  pub a_found_line_is_scanned : (w : Line) (to : ℕ) → LineIs ed s at w to → record { line = Ok w; end = to; next = to + 1 } ≡ scanned ed s at
   unfolding scanned
   a_found_line_is_scanned w to h =
       let next = after_ended_line s at (omega (arith, h.ends, h.on_sheet)) in
       rw (h.kind-is, next, h.ends)
 
-  pub parts_are_scanned : (line : List ℕ) (w : Line) (next : ℕ) → at ≤ length s → line ≡ line_at s at → w ≡ kind ed line → next ≡ after_line s (at + length line)
+  pub parts_are_scanned : (line : List ℕ) (w : Result Line ℕ) (next : ℕ) → at ≤ length s → line ≡ line_at s at → w ≡ kind ed line → next ≡ after_line s (at + length line)
       → record { line = w; end = at + length line; next = next } ≡ scanned ed s at
   unfolding scanned
   parts_are_scanned line w next h l k n = rw (n, k, l, after_the_end_of_a_line s at h)

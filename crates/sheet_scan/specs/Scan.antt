@@ -1,6 +1,6 @@
 -- What a scan of a sheet finds: the line at an offset, and the names and numbers that stand on it.
 -- Document 01, "The network sheet". Offsets are of the sheet; bytes are numbers: 9 tab, 10 the end of a line.
-use Rattle.std.specs.Prelude.{Bool, true, false, List, ◌≡◌, ℕ, zero, suc, ◌+◌, ◌≤◌, ◌<◌, length, get_or}
+use Rattle.std.specs.Prelude.{Bool, true, false, List, ◌≡◌, ℕ, zero, suc, ◌+◌, ◌≤◌, ◌<◌, length, get_or, Option, Some, None, Ok}
 use Rattle.std.proofs.Math.Seq.{slice}
 use Rattle.model.specs.declared.Edition.{Edition}
 use Rattle.model.specs.declared.Sizing.{Sizing}
@@ -11,11 +11,8 @@ use Rattle.sheet_kinds.specs.LineKinds.{least_numbers, kind}
 use Rattle.sheet_kinds.specs.declared.Line.{Line}
 use Rattle.sheet_scan.specs.declared.Scanned.{Scanned}
 use Rattle.sheet_scan.specs.declared.Number.{Number}
-use Rattle.sheet_scan.specs.declared.Number.TheVariants as number
 use Rattle.sheet_scan.specs.declared.Numbers.{Numbers}
-use Rattle.sheet_scan.specs.declared.Numbers.TheVariants as numbers
 use Rattle.sheet_scan.specs.declared.Quick.{Quick}
-use Rattle.sheet_scan.specs.declared.Quick.TheVariants as quick
 
 -- the line at an offset: what it is, where it ends, and where the next one starts
 unfoldable pub scanned : Edition → List ℕ → ℕ → Scanned
@@ -39,6 +36,11 @@ pub record NameAt (s : List ℕ) (from to stop : ℕ) : Type 0 where
   pub lettered : digits_alone (slice from to s) ≡ false
   pub followed : get_or s to 0 ≡ stop
 
+-- what is found is so
+abbrev pub NameFound : List ℕ → ℕ → ℕ → Option ℕ → Type 0
+NameFound s from stop None = Unit {0}
+NameFound s from stop (Some to) = (from < to) × NameAt s from to stop
+
 -- ---- numbers
 
 -- digits that make a value, from one offset on, before another
@@ -55,19 +57,19 @@ pub record NumberAt (s : List ℕ) (from to v most : ℕ) : Type 0 where
   pub within : v ≤ most
 
 -- what is found is so
-abbrev pub DigitsFound : List ℕ → ℕ → Number → Type 0
-DigitsFound s from number.Doubt = Unit {0}
-DigitsFound s from (number.Till to v) = DigitsAt s from to v
+abbrev pub DigitsFound : List ℕ → ℕ → Option Number → Type 0
+DigitsFound s from None = Unit {0}
+DigitsFound s from (Some n) = DigitsAt s from n.end n.value
 
-abbrev pub NumberFound : List ℕ → ℕ → ℕ → Number → Type 0
-NumberFound s from most number.Doubt = Unit {0}
-NumberFound s from most (number.Till to v) = NumberAt s from to v most
+abbrev pub NumberFound : List ℕ → ℕ → ℕ → Option Number → Type 0
+NumberFound s from most None = Unit {0}
+NumberFound s from most (Some n) = NumberAt s from n.end n.value most
 
 -- the numbers of a link line that has one, by what its sheet gives
-abbrev pub one_number : Sizing → ℕ → ℕ → Numbers
-one_number Reserved to v = numbers.Till to v 0
-one_number Low to v = numbers.Doubt
-one_number High to v = numbers.Doubt
+abbrev pub one_number : Sizing → ℕ → ℕ → Option Numbers
+one_number Reserved to v = Some (record { end = to; first = v; second = 0 })
+one_number Low to v = None
+one_number High to v = None
 
 -- the fields from an offset on are numbers, as many as a link line has, of these values, within the limit, and the line ends before an offset, at byte 10
 pub record NumbersAt (ed : Edition) (s : List ℕ) (from to v w : ℕ) : Type 0 where
@@ -81,9 +83,9 @@ pub record NumbersAt (ed : Edition) (s : List ℕ) (from to v w : ℕ) : Type 0 
   pub ends : from + length (line_at s from) ≡ to
   pub on_sheet : to < length s
 
-abbrev pub NumbersFound : Edition → List ℕ → ℕ → Numbers → Type 0
-NumbersFound ed s from numbers.Doubt = Unit {0}
-NumbersFound ed s from (numbers.Till to v w) = NumbersAt ed s from to v w
+abbrev pub NumbersFound : Edition → List ℕ → ℕ → Option Numbers → Type 0
+NumbersFound ed s from None = Unit {0}
+NumbersFound ed s from (Some n) = NumbersAt ed s from n.end n.first n.second
 
 -- ---- lines
 
@@ -100,10 +102,10 @@ letter_of (suc m) = 84
 
 -- what the line at an offset is, and where it ends, at byte 10
 pub record LineIs (ed : Edition) (s : List ℕ) (at : ℕ) (line : Line) (to : ℕ) : Type 0 where
-  pub kind-is : line ≡ kind ed (line_at s at)
+  pub kind-is : Ok line ≡ kind ed (line_at s at)
   pub ends : at + length (line_at s at) ≡ to
   pub on_sheet : to < length s
 
-abbrev pub QuickFound : Edition → List ℕ → ℕ → Quick → Type 0
-QuickFound ed s at quick.Doubt = Unit {0}
-QuickFound ed s at (quick.Sure line to) = LineIs ed s at line to
+abbrev pub QuickFound : Edition → List ℕ → ℕ → Option Quick → Type 0
+QuickFound ed s at None = Unit {0}
+QuickFound ed s at (Some q) = LineIs ed s at q.line q.end

@@ -4,7 +4,6 @@
 
 ghost use Rattle.std.specs.Prelude.{◌≤◌, length};
 
-use sheet::Answer;
 use std::io;
 use std::io::Write;
 
@@ -13,14 +12,12 @@ fn part_end(text: &[u8], from: usize) -> usize
     requires { from ≤ length text.now }
     ensures { (from ≤ result) × (result ≤ length text.now) }
 {
-    let mut end = from;
-    while end < text.len() {
+    for end in from..text.len() {
         if text[end] == 12 {
             return end;
         }
-        end += 1;
     }
-    end
+    text.len()
 }
 
 // Writes a tab and a number.
@@ -30,23 +27,18 @@ fn number<W: Write>(out: &mut W, n: u64) -> io::Result<()> {
 
 // Writes the numbers of the marked sites.
 fn marks<W: Write>(out: &mut W, mark: &[u8]) -> io::Result<()> {
-    let mut i = 0;
-    while i < mark.len() {
+    for i in 0..mark.len() {
         if mark[i] != 0 {
             number(out, (i + 1) as u64)?;
         }
-        i += 1;
     }
     Ok(())
 }
 
 // Writes the answer to a sheet.
 fn answer<W: Write>(out: &mut W, text: &[u8]) -> io::Result<()> {
-    let reading = sheet::read(text);
-    let answer = reading.answer;
-    match answer {
-        Answer::Accepted => {
-            let network = reading.network;
+    match sheet::read(text) {
+        Ok(network) => {
             out.write_all(b"\taccepted")?;
             number(out, network.sites as u64)?;
             number(out, network.links as u64)?;
@@ -54,10 +46,10 @@ fn answer<W: Write>(out: &mut W, text: &[u8]) -> io::Result<()> {
             out.write_all(sheet::name(text, network.sites))?;
             marks(out, &network.mark)?;
         }
-        Answer::Refused { number: n, line } => {
+        Err(refusal) => {
             out.write_all(b"\trefused")?;
-            number(out, n)?;
-            number(out, line as u64)?;
+            number(out, refusal.number)?;
+            number(out, refusal.line as u64)?;
         }
     }
     out.write_all(b"\n")
@@ -77,6 +69,7 @@ fn trial<W: Write>(out: &mut W, text: &[u8]) -> io::Result<()> {
 // Writes the titles and answers of all parts.
 fn trials<W: Write>(out: &mut W, text: &[u8]) -> io::Result<()> {
     let mut from = 0;
+    // Stays: the next part begins where this one is found to end, so there is no range or iterator to go over.
     while from < text.len() {
         let end = part_end(text, from);
         trial(out, &text[from..end])?;

@@ -4,7 +4,6 @@
 
 ghost use Rattle.std.specs.Prelude.{◌≤◌, length, IfOk};
 
-use planner::Outcome;
 use std::io;
 use std::io::Write;
 
@@ -13,14 +12,12 @@ fn sheet_end(text: &[u8], from: usize) -> usize
     requires { from ≤ length text.now }
     ensures { (from ≤ result) × (result ≤ length text.now) }
 {
-    let mut at = from;
-    while at < text.len() {
+    for at in from..text.len() {
         if text[at] == 0 {
             return at;
         }
-        at += 1;
     }
-    at
+    text.len()
 }
 
 // Prints the answer to one sheet, and tells its length.
@@ -42,14 +39,14 @@ fn tell<W: Write>(out: &mut W, n: u64, stop: u8) -> io::Result<()> {
 // Prints the number, line and length of planning a sheet into a buffer.
 fn tell_plan<W: Write>(out: &mut W, sheet: &[u8], buf: &mut [u8]) -> io::Result<()> {
     match planner::plan(sheet, buf) {
-        Outcome::Report { length } => {
+        Ok(length) => {
             tell(out, 0, 9)?;
             tell(out, 0, 9)?;
             tell(out, length as u64, 10)
         }
-        Outcome::Refused { number, line } => {
-            tell(out, number, 9)?;
-            tell(out, line as u64, 9)?;
+        Err(refusal) => {
+            tell(out, refusal.number, 9)?;
+            tell(out, refusal.line as u64, 9)?;
             tell(out, 0, 10)
         }
     }
@@ -66,6 +63,7 @@ fn plan_into<W: Write>(out: &mut W, sheet: &[u8], length: usize) -> io::Result<(
 // Answers the sheets of a text, one after the other.
 fn answer_all<W: Write>(out: &mut W, text: &[u8]) -> io::Result<()> {
     let mut at = 0;
+    // Stays: the next sheet begins where this one is found to end, so there is no range or iterator to go over.
     while at < text.len() {
         let end = sheet_end(text, at);
         answer(out, &text[at..end])?;

@@ -1,0 +1,49 @@
+-- `name_range`: a number is outside the limits, or the sheet is refused, or the number's place in the lists has the range of the name.
+use Rattle.std.proofs.Common.{◌≡◌, List, ℕ, suc, ◌-◌, ◌≤◌, sym, ap, ◌∙◌, arith}
+use Rattle.model.specs.Limits.{SITES}
+use Rattle.model.specs.Edition.{editions}
+use Rattle.model.specs.declared.Edition.{Edition}
+use Rattle.sheet.specs.Sheet.{edition_of, name_range}
+use Rattle.sheet.specs.NameLaws.{no_site_zero, no_site_above, refused_has_no_range, range_by_lists}
+use Rattle.sheet.proofs.Editions.{a_known_edition_is_within_the_limits}
+use Rattle.sheet.proofs.name_range.Goals as goal
+
+within : (s : List ℕ) (k : ℕ) {ed : Edition} → ed ≡ edition_of editions s → k ≤ ed.sites → k ≤ SITES
+within s k e h = omega (arith, rw (← e) at (a_known_edition_is_within_the_limits s))
+
+pub read_as-requires : goal.read_as-requires
+read_as-requires c = rw c.edition_of-edition.ensures (a_known_edition_is_within_the_limits _)
+
+pub returns-then-site-lt1 : goal.returns-then-site-lt1
+returns-then-site-lt1 c = let none : c.args.site ≡ 0 = omega arith in
+    sym (ap (name_range editions c.args.sheet.now) none ∙ no_site_zero editions c.args.sheet.now)
+
+pub returns-then-site-edition : goal.returns-then-site-edition
+returns-then-site-edition c =
+    let most = ap (λ (e : Edition). e.sites) c.edition_of-edition.ensures in
+    sym (no_site_above editions c.args.sheet.now c.args.site (omega (arith, most)))
+
+pub returns-in_default : goal.returns-in_default
+unfolding name_range
+returns-in_default c =
+    let read = rw c.edition_of-edition.ensures at c.read_as.ensures in
+    sym (refused_has_no_range _ c.args.site (sym read ∙ c.in_default.is))
+
+pub offset_bounds-network-i : goal.offset_bounds-network-i
+offset_bounds-network-i c = omega (arith, within _ c.args.site c.edition_of-edition.ensures)
+
+pub bounds-network-i : goal.bounds-network-i
+bounds-network-i c = omega (arith, within _ c.args.site c.edition_of-edition.ensures)
+
+pub offset_bounds-network-i-2 : goal.offset_bounds-network-i-2
+offset_bounds-network-i-2 c = omega (arith, within _ c.args.site c.edition_of-edition.ensures)
+
+pub bounds-network-i-2 : goal.bounds-network-i-2
+bounds-network-i-2 c = omega (arith, within _ c.args.site c.edition_of-edition.ensures)
+
+pub returns : goal.returns
+unfolding name_range
+returns c =
+    let read = rw c.edition_of-edition.ensures at c.read_as.ensures in
+    let number : c.args.site ≡ suc (c.args.site - 1) = omega arith in
+    range_by_lists _ (c.args.site - 1) (sym read ∙ c.in-Ok.is) ∙ ap (name_range editions c.args.sheet.now) (sym number)

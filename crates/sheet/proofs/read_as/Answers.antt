@@ -1,0 +1,17 @@
+-- `read_as`: the length first, then the lines.
+use borrow.Author.Tests.{le-leb, lt-leb}
+use Rattle.sheet.specs.Sheet.{read_as}
+use Rattle.sheet.specs.Reading.{reading}
+use Rattle.sheet.proofs.read_as.Goals as goal
+
+pub returns-then-sheet-lt1 : goal.returns-then-sheet-lt1
+unfolding reading read_as
+returns-then-sheet-lt1 c = rw (lt-leb _ _ c.if-sheet-lt1.true)
+
+pub returns-then-sheet-edition : goal.returns-then-sheet-edition
+unfolding reading read_as
+returns-then-sheet-edition c = rw (le-leb _ _ c.if-sheet-lt1.false, lt-leb _ _ c.if-sheet-edition.true)
+
+pub returns : goal.returns
+unfolding read_as
+returns c = rw (le-leb _ _ c.if-sheet-lt1.false, le-leb _ _ c.if-sheet-edition.false) c.read_lines.ensures
