@@ -71,7 +71,7 @@ module _ (old : List ℕ) (cut : ℕ → ℕ) (a : ℕ) where
       left = λ i h. get_or-set_other owners m i a 0 (λ e. omega arith) ∙ s.left i (omega (arith, f.from));
     }
 
-  pub claiming_end : (p : ℕ) (owners : List ℕ) → Claiming old cut a p owners → ((i : ℕ) → p ≤ i → i < p + (SITES - p) → cut i ≢ 1)
+  pub claiming_end : (p : ℕ) (owners : List ℕ) → Claiming old cut a p owners → ((i : ℕ) → p ≤ i → i < SITES → cut i ≢ 1)
       → owners ≡ map (claim old cut a) (upfrom 0 SITES)
   claiming_end p owners s none = ext_get_or 0 owners (map (claim old cut a) (upfrom 0 SITES))
       (s.long ∙ sym (length-map (upfrom 0 SITES) (claim old cut a) ∙ length-upfrom 0 SITES))

@@ -18,7 +18,7 @@ ghost use Rattle.cuts_groups.specs.Places.{places, of_terminal};
 ghost use Rattle.cuts_groups.specs.Steps.{Blank, owning, members, claim, owners_to, cuts_by, owned, sets_of};
 
 use model::{PLACES, SETS, SITES, WORDS};
-use tree_sets::{Found, Set};
+use tree_sets::Set;
 
 // The owner of a place without one.
 pub const NONE: usize = 0;
@@ -30,9 +30,7 @@ fn join_kept(one: &[usize], two: &[usize], capacity: &[u64], balanced: &[u64], p
     ensures { (length parents.new ≡ PLACES) × Lower parents.new × Tells parents.new
         (group (links one.now two.now) (look capacity.now) (look balanced.now)) }
 {
-    let mut j = one.len();
-    while 0 < j {
-        j -= 1;
+    for j in (0..one.len()).rev() {
         if balanced[j] < capacity[j] {
             tree_parents::join(parents, one[j], two[j]);
         }
@@ -45,8 +43,8 @@ fn add_at_labels(sums: &mut [u64; PLACES], labels: &[u16; PLACES], one: usize, t
     ensures { (length sums.new ≡ PLACES)
         × ((l : ℕ) → look sums.new l ≡ look sums.old l + leaves labels.now one two l * d) }
 {
-    let a = labels[one] as usize;
-    let b = labels[two] as usize;
+    let a = usize::from(labels[one]);
+    let b = usize::from(labels[two]);
     if a != b {
         sums[a] += d;
         sums[b] += d;
@@ -99,7 +97,7 @@ fn sets(n: usize, labels: &[u16; PLACES], words: &mut [u64; SETS])
     ensures { (l i : ℕ) → in_words words.new l i ≡ labelled n labels.now l i }
 {
     for i in 0..n {
-        let w = labels[i + 1] as usize * WORDS + i / 64;
+        let w = usize::from(labels[i + 1]) * WORDS + i / 64;
         words[w] |= 1u64 << i % 64;
     }
 }
@@ -109,11 +107,9 @@ fn cut_of(words: &[u64; SETS], label: u16) -> Set
     requires { label ≤ SITES }
     ensures { (i : ℕ) → member result i ≡ in_words words.now label i }
 {
-    let from = label as usize * WORDS;
+    let from = usize::from(label) * WORDS;
     let mut own = [0u64; WORDS];
-    for q in 0..WORDS {
-        own[q] = words[from + q];
-    }
+    own.copy_from_slice(&words[from..from + WORDS]);
     Set { words: own }
 }
 
@@ -122,15 +118,10 @@ fn put_owner(owner: &mut [usize; SITES], cut: Set, a: usize)
     requires { length owner.old ≡ SITES }
     ensures { owner.new ≡ map (claim owner.old (member cut) a) (upfrom 0 SITES) }
 {
-    let mut p: usize = 0;
-    loop {
-        let Found::At(i) = cut.next(p) else {
-            return;
-        };
+    for i in cut.members() {
         if owner[i] == NONE {
             owner[i] = a;
         }
-        p = i + 1;
     }
 }
 
@@ -185,7 +176,7 @@ fn terminal_sizes(
     for i in 0..n {
         let x = i + 1;
         if ends[x] == 1 {
-            size[i] = leaving[labels[x] as usize];
+            size[i] = leaving[usize::from(labels[x])];
         }
     }
 }

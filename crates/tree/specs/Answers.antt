@@ -1,20 +1,19 @@
 -- What is said of an offer, in both directions: no tree just of no tree, too large just of a tree with a capacity above the limit, accepted just of
 -- a tree within the limits. Document 01, "Pairing" (what is said before anything else). By the tests one by one.
-use Rattle.std.specs.Prelude.{◌≡◌, Bool, ◌&&◌, List, [], ◌∷◌, ◌↔◌, ◌≢◌, ℕ, suc, ◌<◌, eqb, leb, length, replicate}
+use Rattle.std.specs.Prelude.{◌≡◌, Bool, ◌&&◌, List, [], ◌∷◌, ◌↔◌, ◌≢◌, ℕ, suc, ◌<◌, eqb, leb, length, replicate, Ok, Err}
 use Rattle.std.proofs.Math.Path.{refl, sym}
 use Rattle.std.proofs.Common.{◌∙◌, arith}
 use Rattle.std.proofs.Math.Bool.{true, false, cond, true≢false}
-use borrow.Author.Tests.{leb-false, le-leb, eqb-true, eq-eqb}
+use Rattle.std.proofs.lemmas.Bool.{leb-false, le-leb, eqb-true, eq-eqb, and_parts}
 use Rattle.lists.specs.Numbers.{look}
 use Rattle.lists.specs.Sums.{contradiction}
 use Rattle.model.specs.Limits.{SITES}
 use Rattle.model.specs.Edition.{largest}
 use Rattle.model.specs.declared.Edition.{Edition}
-use Rattle.tree.specs.declared.Offer.{Offer}
-use Rattle.tree.specs.declared.Offer.TheVariants.{NoTree, TooLarge, Accepted}
-use Rattle.tree.specs.Offer.{within, is_tree, is_marked_tree, offer_of, offer}
+use Rattle.tree.specs.declared.Unfit.TheVariants.{NoTree, TooLarge}
+use Rattle.tree.specs.Offer.{Offered, within, is_tree, is_marked_tree, offer_of, offer}
 use Rattle.tree.specs.Elimination.{decide, eliminated, eliminated_toward}
-use Rattle.tree.specs.Accepted.{TreeOf, MarkedTree, both_true, within-look, is-tree-is-a-tree, a-tree-is-tree, is_false}
+use Rattle.tree.specs.Accepted.{TreeOf, MarkedTree, within-look, is-tree-is-a-tree, a-tree-is-tree, is_false}
 use Rattle.tree.specs.Accepted.{accepted_is_a_tree_within_the_limits, a_tree_within_the_limits_is_accepted}
 
 -- a tree of two or more sites within the limits, with a mark for each site, and a capacity for each link, however large
@@ -52,8 +51,8 @@ module _ (ed : Edition) (n : ℕ) (a b marks c : List ℕ) where
   sized : tests ≡ true → SizedTree ed n a b marks c
   unfolding is_marked_tree
   sized e =
-      let t = both_true (is_marked_tree ed.sites n a b marks) (eqb (length c) (length a)) e in
-      let m = both_true (is_tree ed.sites n a b) (eqb (length marks) n) t.0 in
+      let t = and_parts (is_marked_tree ed.sites n a b marks) (eqb (length c) (length a)) e in
+      let m = and_parts (is_tree ed.sites n a b) (eqb (length marks) n) t.0 in
       record {
         tree = is-tree-is-a-tree ed.sites n a b m.0;
         marked = sym (eqb-true (length marks) n m.1);
@@ -64,44 +63,43 @@ module _ (ed : Edition) (n : ℕ) (a b marks c : List ℕ) where
   unfolding is_marked_tree
   tested w = rw (a-tree-is-tree ed.sites n a b w.tree, eq-eqb (length marks) n (sym w.marked), eq-eqb (length c) (length a) w.each) refl
 
-  pub no_tree_is_said_just_of_no_tree : (offer ed n a b marks c ≡ NoTree) ↔ (¬ (SizedTree ed n a b marks c))
+  pub no_tree_is_said_just_of_no_tree : (offer ed n a b marks c ≡ Err NoTree) ↔ (¬ (SizedTree ed n a b marks c))
   unfolding offer offer_of
   no_tree_is_said_just_of_no_tree = (
     λ e w. let t = said tests (within 0 ed.size c) e in true≢false (sym (tested w) ∙ t),
     λ d. rw (is_false tests (λ e. d (sized e))) refl,
   )
     where
-      said : (t u : Bool) → cond t (cond u Accepted TooLarge) NoTree ≡ NoTree → t ≡ false
+      said : (t u : Bool) → cond t (cond u (Ok (tt {0})) (Err TooLarge)) (Err NoTree) ≡ Err NoTree → t ≡ false
       said true true e = contradiction cc
       said true false e = contradiction cc
       said false u e = refl
 
-  pub too_large_is_said_just_of_a_capacity_above_the_limit : (offer ed n a b marks c ≡ TooLarge) ↔ (SizedTree ed n a b marks c × Above ed.size c)
+  pub too_large_is_said_just_of_a_capacity_above_the_limit : (offer ed n a b marks c ≡ Err TooLarge) ↔ (SizedTree ed n a b marks c × Above ed.size c)
   unfolding offer offer_of
   too_large_is_said_just_of_a_capacity_above_the_limit = (
     λ e. let t = said tests (within 0 ed.size c) e in (sized t.0, not-within-is-above ed.size c t.1),
     λ w. rw (tested w.0, above-is-not-within ed.size c w.1) refl,
   )
     where
-      said : (t u : Bool) → cond t (cond u Accepted TooLarge) NoTree ≡ TooLarge → (t ≡ true) × (u ≡ false)
+      said : (t u : Bool) → cond t (cond u (Ok (tt {0})) (Err TooLarge)) (Err NoTree) ≡ Err TooLarge → (t ≡ true) × (u ≡ false)
       said true true e = contradiction cc
       said true false e = (refl, refl)
       said false u e = contradiction cc
 
-  pub accepted_is_said_just_of_a_tree_within_the_limits : (offer ed n a b marks c ≡ Accepted) ↔ MarkedTree ed n a b marks c
+  pub accepted_is_said_just_of_a_tree_within_the_limits : (offer ed n a b marks c ≡ Ok tt) ↔ MarkedTree ed n a b marks c
   accepted_is_said_just_of_a_tree_within_the_limits =
       (accepted_is_a_tree_within_the_limits ed n a b marks c, a_tree_within_the_limits_is_accepted ed n a b marks c)
 
 -- ---- the order that goes with an answer
 
-no_order_but_of_an_accepted : (o : Offer) (order : List ℕ) → o ≢ Accepted → (decide o order).sites ≡ replicate SITES 0
+no_order_but_of_an_accepted : (o : Offered) (order : List ℕ) → o ≢ Ok tt → (decide o order).sites ≡ replicate SITES 0
 unfolding decide
-no_order_but_of_an_accepted NoTree order d = refl
-no_order_but_of_an_accepted TooLarge order d = refl
-no_order_but_of_an_accepted Accepted order d = absurd (d refl)
+no_order_but_of_an_accepted (Err why) order d = refl
+no_order_but_of_an_accepted (Ok tt) order d = absurd (d refl)
 
 -- an offer that is not accepted is answered without an order: 0 in every place
-pub a_refused_offer_gets_no_order : (n : ℕ) (a b marks c : List ℕ) → offer largest n a b marks c ≢ Accepted → (root : ℕ)
+pub a_refused_offer_gets_no_order : (n : ℕ) (a b marks c : List ℕ) → offer largest n a b marks c ≢ Ok tt → (root : ℕ)
     → ((eliminated n a b marks c).sites ≡ replicate SITES 0) × ((eliminated_toward n a b marks c root).sites ≡ replicate SITES 0)
 unfolding eliminated eliminated_toward
 a_refused_offer_gets_no_order n a b marks c d root =

@@ -1,11 +1,15 @@
 -- A tree that is offered as lists: the number of sites, the two sites of each link, the marks of the sites, and the capacities.
 -- Document 01, "Pairing": what every public function that is offered a tree with sizes says before anything else; 02, Card 7 (marks).
-use Rattle.std.specs.Prelude.{Bool, true, cond, ◌&&◌, List, [], ◌∷◌, ℕ, suc, eqb, leb, length}
+use Rattle.std.specs.Prelude.{Bool, true, cond, ◌&&◌, List, [], ◌∷◌, ℕ, suc, eqb, leb, length, Result, Ok, Err}
 use Rattle.model.specs.Flows.{Links, sites, label}
 use Rattle.model.specs.declared.Edition.{Edition}
 unfoldable pub use Rattle.tree_order.specs.Links.{links}
-use Rattle.tree.specs.declared.Offer.{Offer}
-use Rattle.tree.specs.declared.Offer.TheVariants.{NoTree, TooLarge, Accepted}
+use Rattle.tree.specs.declared.Unfit.{Unfit}
+use Rattle.tree.specs.declared.Unfit.TheVariants.{NoTree, TooLarge}
+
+-- what is said of an offer: that it is accepted, or why it is not
+abbrev pub Offered : Type 0
+Offered = Result (Unit {0}) Unfit
 
 -- every number of a list lies between low and high
 unfoldable pub within : ℕ → ℕ → List ℕ → Bool
@@ -29,24 +33,24 @@ is_marked_tree most n one two marks = is_tree most n one two && eqb (length mark
 
 -- what is said by whether a tree is offered, how many its links are, and the capacities:
 -- no tree, or a list of capacities of another length than the links; then a capacity above the limit
-unfoldable pub offer_of : Edition → Bool → ℕ → List ℕ → Offer
+unfoldable pub offer_of : Edition → Bool → ℕ → List ℕ → Offered
 offer_of ed tree k c =
     cond (tree && eqb (length c) k)
-    (cond (within 0 ed.size c) Accepted TooLarge)
-    NoTree
+    (cond (within 0 ed.size c) (Ok tt) (Err TooLarge))
+    (Err NoTree)
 
 -- what is said of an offer
-unfoldable pub offer : Edition → ℕ → List ℕ → List ℕ → List ℕ → List ℕ → Offer
+unfoldable pub offer : Edition → ℕ → List ℕ → List ℕ → List ℕ → List ℕ → Offered
 offer ed n one two marks c = offer_of ed (is_marked_tree ed.sites n one two marks) (length one) c
 
 -- ---- document 01's numbers
 
 -- 01 has no number for an offer that is no tree or too large, where numbers are 0 and lent places keep their values; an accepted one is no refusal
-unfoldable pub number : Offer → ℕ
-number NoTree = 0
-number TooLarge = 0
-number Accepted = 0
+unfoldable pub number : Offered → ℕ
+number (Ok tt) = 0
+number (Err NoTree) = 0
+number (Err TooLarge) = 0
 
 -- no line is at fault
-unfoldable pub line : Offer → ℕ
+unfoldable pub line : Offered → ℕ
 line o = 0

@@ -1,17 +1,15 @@
--- Lists worked place by place: a list filled from the front, and a test of all places that the places from i on decide.
+-- Lists worked place by place: a list filled from the front.
 -- What a loop over the places of a list leaves to show.
-use Rattle.std.specs.Prelude.{◌≡◌, true, false, ◌&&◌, leb, length, drop, set, take}
+use Rattle.std.specs.Prelude.{◌≡◌, length, drop, set, take}
 use Rattle.std.proofs.Math.Path.{refl}
-use Rattle.std.proofs.Common.{sym, ap, ap₂, ◌∙◌, arith, add-one, add-zero, zero-add, add-suc, suc-add, le-leb, drop-cons, get_or-take, length-take-le, ext_get_or, take-append-drop, drop_of_length-le}
+use Rattle.std.proofs.Common.{sym, ap, ap₂, ◌∙◌, arith, add-one, add-zero, zero-add, add-suc, suc-add, get_or-take, length-take-le, ext_get_or, take-append-drop}
 use mathlib.Core.List.{List, [], ◌∷◌, ◌++◌, map}
 use Prim.Native.Nat.{ℕ, zero, suc, ◌+◌, ◌≤◌, ◌<◌}
-use Rattle.std.proofs.lemmas.Bool.{lt-leb}
 use Rattle.std.proofs.lemmas.List.{length-map}
 use Rattle.std.proofs.Math.ListN.{length-append, length-drop}
 use Rattle.lists.specs.Numbers.{look, upfrom}
 use Rattle.lists.specs.Places.{length-upfrom, look_values}
 pub use Rattle.tree_order.specs.Links.{sum-next}
-use Rattle.tree.specs.Offer.{within}
 
 -- the list l with f i at every place i below k
 unfoldable pub filled : (ℕ → ℕ) → ℕ → List ℕ → List ℕ
@@ -62,21 +60,3 @@ map-from f (x ∷ l) g b h =
 
 pub map_table : (f : ℕ → ℕ) (l : List ℕ) (n : ℕ) → length l ≡ n → map (λ i. f (look l i)) (upfrom 0 n) ≡ map f l
 map_table f l n e = rw (← e) (map-from f l (λ i. f (look l i)) 0 (λ i h. rw zero-add refl))
-
--- ---- a test of all places
-
-module _ (low high : ℕ) (l : List ℕ) (i : ℕ) (h : i < length l) where
-  within-at : within low high (drop i l) ≡ (leb low (look l i) && leb (look l i) high && within low high (drop (suc i) l))
-  unfolding within
-  within-at = rw (drop-cons l i 0) refl
-
-  -- a place within the limits leaves it to the places behind, any other decides
-  pub within-next : low ≤ look l i → look l i ≤ high → within low high (drop i l) ≡ within low high (drop (i + 1) l)
-  within-next p q = within-at ∙ rw (le-leb low (look l i) p, le-leb (look l i) high q, add-one) refl
-
-  pub within-high : low ≤ look l i → high < look l i → within low high (drop i l) ≡ false
-  within-high p q = within-at ∙ rw (le-leb low (look l i) p, lt-leb (look l i) high q) refl
-
-pub within_end : (low high : ℕ) (l : List ℕ) (i : ℕ) → length l ≤ i → within low high (drop i l) ≡ true
-unfolding within
-within_end low high l i h = rw (drop_of_length-le l h) refl

@@ -1,9 +1,8 @@
 -- What the helper functions of the test give.
-use Rattle.std.specs.Prelude.{◌≡◌, Bool, true, false, List, ℕ}
+use Rattle.std.specs.Prelude.{◌≡◌, Bool, true, false, List, ℕ, Option, None, Some}
 use Rattle.lists.specs.Sums.{contradiction}
 use Rattle.model.specs.Limits.{SITES}
 use Rattle.tree_order.specs.Toward.{elimination_toward, order_in}
-use Rattle.tree_order.specs.declared.Order.{Order}
 use Rattle.tree.specs.Offer.{links, is_tree}
 
 -- an answer tells whether P holds
@@ -23,7 +22,7 @@ pub tells_of : (b : Bool) {P Q : Type 0} → (P → Q) → (Q → P) → Tells b
 tells_of true f g t = f t
 tells_of false f g t = λ q. t (g q)
 
--- r tells whether the links make a tree of at most SITES sites, and then has their order toward the root
-pub record Ordered (n : ℕ) (one two : List ℕ) (root : ℕ) (r : Order) : Type 0 where
-  pub tree : r.all ≡ is_tree SITES n one two
-  pub order : r.all ≡ true → r.sites ≡ order_in n (elimination_toward (links one two) n root)
+-- the order toward the root where the links make a tree of at most SITES sites, and none where they do not
+abbrev pub Ordered : ℕ → List ℕ → List ℕ → ℕ → Option (List ℕ) → Type 0
+Ordered n one two root None = is_tree SITES n one two ≡ false
+Ordered n one two root (Some order) = (is_tree SITES n one two ≡ true) × (order ≡ order_in n (elimination_toward (links one two) n root))

@@ -1,7 +1,7 @@
 // A tree that is offered as lists: whether it is one within the limits of the edition, and the elimination order of its sites.
 #![tactic(auto)]
 
-ghost use Rattle.std.specs.Prelude.{◌&&◌, ◌≡◌, ℕ, ◌<◌, eqb, length};
+ghost use Rattle.std.specs.Prelude.{◌≡◌, ℕ, ◌<◌, length};
 ghost use Rattle.lists.specs.Numbers.{look};
 ghost use Rattle.model.specs.Edition.{largest};
 ghost use Rattle.tree_order.specs.Steps.{Link, Proper};
@@ -9,52 +9,32 @@ ghost use Rattle.tree.specs.Offer.{within, offer_of, offer};
 ghost use Rattle.tree.specs.Elimination.{decide, eliminated, eliminated_toward};
 ghost use Rattle.tree.specs.Steps.{Tells, Ordered};
 
-use model::{SITES, SIZE};
-use tree_order::Order;
+mod accepted;
 
-// What a function that is offered a tree with capacities says of the offer.
-#[derive(Clone, Copy)]
-pub enum Offer {
+pub use accepted::AcceptedTree;
+use model::{SITES, SIZE};
+
+// Why an offered tree with capacities is not accepted.
+#[derive(Clone, Copy, PartialEq, Eq, Debug)]
+pub enum Unfit {
     // no tree of two or more sites within the limits
     NoTree,
     // a capacity above the limit
     TooLarge,
-    // a tree whose capacities are within the limit
-    Accepted,
 }
 
 // Whether every capacity of a list is within a limit.
 pub fn capacities_within(most: u64, list: &[u64]) -> bool
     ensures { result ≡ within 0 most list.now }
 {
-    for i in 0..list.len() {
-        if most < list[i] {
-            return false;
-        }
-    }
-    true
+    list.iter().all(|size| *size <= most)
 }
 
 // Whether a and b are two different sites from 1 to n.
 fn is_link(n: usize, a: usize, b: usize) -> bool
     ensures { Tells result (Link n a b) }
 {
-    if a < 1 {
-        return false;
-    }
-    if n < a {
-        return false;
-    }
-    if b < 1 {
-        return false;
-    }
-    if n < b {
-        return false;
-    }
-    if a == b {
-        return false;
-    }
-    true
+    1 <= a && a <= n && 1 <= b && b <= n && a != b
 }
 
 // Whether every link joins two different sites from 1 to n.
@@ -90,14 +70,11 @@ fn is_proper(n: usize, one: &[usize], two: &[usize]) -> bool
 }
 
 // Whether n sites and their links are a tree of 2 to SITES sites, and then the order of its sites toward a root.
-fn order_of(n: usize, one: &[usize], two: &[usize], root: usize) -> Order
+fn order_of(n: usize, one: &[usize], two: &[usize], root: usize) -> Option<[usize; SITES]>
     ensures { Ordered n one.now two.now root result }
 {
     if !is_proper(n, one, two) {
-        return Order {
-            sites: [0usize; SITES],
-            all: false,
-        };
+        return None;
     }
     if n < root {
         return tree_order::order_of(n, one, two, 0);
@@ -105,47 +82,34 @@ fn order_of(n: usize, one: &[usize], two: &[usize], root: usize) -> Order
     tree_order::order_of(n, one, two, root)
 }
 
-// Whether a tree of n sites comes with a mark for each site.
-fn is_marked(tree: bool, n: usize, marks: &[u8]) -> bool
-    ensures { result ≡ (tree && eqb (length marks.now) n) }
-{
-    if !tree {
-        return false;
-    }
-    marks.len() == n
-}
-
-// What is said of an offer, by whether it is a tree, how many its links are, and the capacities.
-fn offer_of(tree: bool, links: usize, capacity: &[u64]) -> Offer
+// What is said of an offer, by whether it is a tree with a mark for each site, how many its links are, and the capacities.
+fn offer_of(tree: bool, links: usize, capacity: &[u64]) -> Result<(), Unfit>
     ensures { result ≡ offer_of largest tree links capacity.now }
 {
-    if !tree {
-        return Offer::NoTree;
-    }
-    if capacity.len() != links {
-        return Offer::NoTree;
+    if !tree || capacity.len() != links {
+        return Err(Unfit::NoTree);
     }
     if !capacities_within(SIZE, capacity) {
-        return Offer::TooLarge;
+        return Err(Unfit::TooLarge);
     }
-    Offer::Accepted
+    Ok(())
 }
 
 // What is said of an offered tree, and the elimination order of its sites: 0 past the last site, and everywhere if it is refused.
+// Stays: callers that have shown that their tree is accepted take the order as it is, with no Result of all SITES places to unwrap.
 #[derive(Clone, Copy)]
 pub struct Elimination {
-    pub offer: Offer,
+    pub offer: Result<(), Unfit>,
     pub sites: [usize; SITES],
 }
 
 // The order if the offer is accepted, else 0 everywhere.
-fn kept(offer: Offer, order: [usize; SITES]) -> [usize; SITES]
+fn kept(offer: Result<(), Unfit>, order: [usize; SITES]) -> [usize; SITES]
     ensures { result ≡ (decide offer order).sites }
 {
     match offer {
-        Offer::NoTree => [0usize; SITES],
-        Offer::TooLarge => [0usize; SITES],
-        Offer::Accepted => order,
+        Ok(()) => order,
+        Err(_) => [0usize; SITES],
     }
 }
 
@@ -161,11 +125,14 @@ pub fn eliminate_toward(
 ) -> Elimination
     ensures { result ≡ eliminated_toward n one.now two.now marks.now capacity.now root }
 {
-    let order = order_of(n, one, two, root);
-    let taken = order.sites;
-    let whole = is_marked(order.all, n, marks);
-    let offer = offer_of(whole, one.len(), capacity);
-    let sites = kept(offer, taken);
+    let Some(order) = order_of(n, one, two, root) else {
+        return Elimination {
+            offer: Err(Unfit::NoTree),
+            sites: [0usize; SITES],
+        };
+    };
+    let offer = offer_of(marks.len() == n, one.len(), capacity);
+    let sites = kept(offer, order);
     Elimination { offer, sites }
 }
 
@@ -183,9 +150,14 @@ pub fn eliminate(
 }
 
 // What is said of an offer of n sites, the two sites of each link, the marks and the capacities.
-pub fn test(n: usize, one: &[usize], two: &[usize], marks: &[u8], capacity: &[u64]) -> Offer
+pub fn test(
+    n: usize,
+    one: &[usize],
+    two: &[usize],
+    marks: &[u8],
+    capacity: &[u64],
+) -> Result<(), Unfit>
     ensures { result ≡ offer largest n one.now two.now marks.now capacity.now }
 {
-    let answer = eliminate(n, one, two, marks, capacity);
-    answer.offer
+    eliminate(n, one, two, marks, capacity).offer
 }

@@ -1,7 +1,9 @@
 -- The labels worked place by place: what the loops over them leave to show, and what they come to where every site has a place.
-use Rattle.std.specs.Prelude.{true, ◌&&◌, List, [], ◌∷◌, ◌++◌, map, ◌≡◌, ℕ, suc, ◌+◌, ◌-◌, ◌≤◌, ◌<◌, eqb, leb, length, take, drop, set}
+use Rattle.std.specs.Prelude.{Bool, true, false, IsTrue, ◌&&◌, ◌↔◌, List, [], ◌∷◌, ◌++◌, map, ◌≡◌, ℕ, zero, suc, ◌+◌, ◌≤◌, ◌<◌, EachIndex, leb, length, take, drop, set}
+use Rattle.std.proofs.Math.Path.{refl}
+use Rattle.std.proofs.lemmas.Bool.{eqb-true, eq-eqb, le-leb, and_parts}
 use Rattle.std.proofs.lemmas.List.{map-append, length-map, set_at, get_or_at}
-use Rattle.std.proofs.Common.{append_assoc, append-nil, sym, ◌∙◌, add-one, arith, length-append, length-take, length-drop, drop_of_length-le, drop-cons, take-suc, take_all, length-take-le, ext_get_or, get_or-set_same, get_or-set_other, below_more, lt-ltb}
+use Rattle.std.proofs.Common.{append_assoc, append-nil, sym, ◌∙◌, add-one, add-zero, add-suc, suc-add, arith, get_or-take, get_or-drop, length-append, length-take, length-drop, drop_of_length-le, drop-cons, take-suc, take_all, length-take-le, ext_get_or, get_or-set_same, get_or-set_other, below_more, lt-ltb}
 use Rattle.lists.specs.Numbers.{look, upfrom}
 use Rattle.model.specs.Flows.{relabel}
 use Rattle.lists.specs.Places.{length-upfrom, look-upfrom}
@@ -56,11 +58,35 @@ length-partly f l x = length-append (map f (take x l)) (drop x l) ∙ omega (ari
 
 -- ---- sites compared with site 1
 
--- the sites from x on are alike, by site x
-pub alike_step : (l : List ℕ) (n x : ℕ) → x ≤ n → alike l (upfrom x (n + 1 - x)) ≡ (eqb (look l 1) (look l x) && alike l (upfrom (x + 1) (n + 1 - (x + 1))))
+-- n sites from x on that have the label of site 1 are alike
+all-alike : (l : List ℕ) (n x : ℕ) → ((k : ℕ) → k < n → look l (x + k) ≡ look l 1) → alike l (upfrom x n) ≡ true
 unfolding alike upfrom
-alike_step l n x h = let more : n + 1 - x ≡ suc (n + 1 - suc x) = omega arith in rw (more, add-one x)
+all-alike l zero x h = refl
+all-alike l (suc n) x h = rw (eq-eqb (look l 1) (look l x) (sym (rw add-zero at (h 0 (omega arith)))))
+    (all-alike l n (suc x) (λ k b. rw (suc-add, ← (add-suc x k)) (h (suc k) (omega arith))))
 
-pub alike_end : (l : List ℕ) (n x : ℕ) → n < x → alike l (upfrom x (n + 1 - x)) ≡ true
+-- and sites that are alike have its label
+each-alike : (l : List ℕ) (n x : ℕ) → alike l (upfrom x n) ≡ true → (k : ℕ) → k < n → look l (x + k) ≡ look l 1
 unfolding alike upfrom
-alike_end l n x h = let none : n + 1 - x ≡ 0 = omega arith in rw none
+each-alike l zero x e k b = absurd (omega arith)
+each-alike l (suc n) x e zero b = rw add-zero (sym (eqb-true (look l 1) (look l x) (and_parts _ _ e).0))
+each-alike l (suc n) x e (suc k) b = rw (add-suc, ← (suc-add x k)) (each-alike l n (suc x) (and_parts _ _ e).1 k (omega arith))
+
+module _ (l : List ℕ) (n : ℕ) where
+  place : (k : ℕ) → k < n → look (take n (drop 1 l)) k ≡ look l (1 + k)
+  place k b = get_or-take n (drop 1 l) k 0 b ∙ get_or-drop 1 l k 0
+
+  -- a test of the places of the sites alone decides
+  pub all_tested : (all : Bool) → 2 ≤ n → n < length l
+      → (IsTrue all ↔ EachIndex (take n (drop 1 l)) (λ k. look (take n (drop 1 l)) k ≡ look l 1)) → all ≡ whole l n
+  all_tested all p q t = by all (alike l (upfrom 1 n)) refl t ∙ sym (rw (whole-sites l n q, le-leb 2 n p) refl)
+    where
+      long : length (take n (drop 1 l)) ≡ n
+      long = length-take-le n (drop 1 l) (omega (arith, length-drop 1 l))
+
+      by : (all is : Bool) → alike l (upfrom 1 n) ≡ is
+          → (IsTrue all ↔ EachIndex (take n (drop 1 l)) (λ k. look (take n (drop 1 l)) k ≡ look l 1)) → all ≡ is
+      by true true e t = refl
+      by false false e t = refl
+      by true false e t = sym (all-alike l n 1 (λ k b. sym (place k b) ∙ t.0 refl k (omega (arith, long)))) ∙ e
+      by false true e t = t.1 (λ k b. place k (omega (arith, long)) ∙ each-alike l n 1 e k (omega (arith, long)))

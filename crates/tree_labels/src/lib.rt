@@ -31,16 +31,13 @@ fn relabel(p: u16, q: u16, label: u16) -> u16
 pub fn join(labels: &mut [u16], one: usize, two: usize)
     ensures { labels.new ≡ linked labels.old one two }
 {
-    if one >= labels.len() {
-        return;
-    }
-    if two >= labels.len() {
+    if labels.len() <= one || labels.len() <= two {
         return;
     }
     let p = labels[one];
     let q = labels[two];
-    for x in 0..labels.len() {
-        labels[x] = relabel(p, q, labels[x]);
+    for label in labels.iter_mut() {
+        *label = relabel(p, q, *label);
     }
 }
 
@@ -48,19 +45,9 @@ pub fn join(labels: &mut [u16], one: usize, two: usize)
 pub fn is_whole(labels: &[u16], sites: usize) -> bool
     ensures { result ≡ whole labels.now sites }
 {
-    if sites < 2 {
-        return false;
-    }
-    if sites >= labels.len() {
+    if sites < 2 || labels.len() <= sites {
         return false;
     }
     let label = labels[1];
-    let mut x = 1;
-    while x <= sites {
-        if label != labels[x] {
-            return false;
-        }
-        x += 1;
-    }
-    true
+    labels[1..=sites].iter().all(|other| *other == label)
 }

@@ -1,5 +1,5 @@
 -- What the functions of the elimination are given and give.
-use Rattle.std.specs.Prelude.{◌≡◌, ◌≢◌, Bool, true, false, List, ℕ, suc, ◌+◌, ◌-◌, ◌*◌, ◌≤◌, ◌<◌, max, length, set}
+use Rattle.std.specs.Prelude.{◌≡◌, ◌≢◌, Bool, true, false, List, ℕ, suc, ◌+◌, ◌-◌, ◌*◌, ◌≤◌, ◌<◌, max, length, set, Option, None, Some}
 use Rattle.model.specs.Limits.{PLACES, SITES}
 use Rattle.lists.specs.Numbers.{is, look}
 use Rattle.model.specs.Flows.{Site, Tree, sum_at}
@@ -82,3 +82,8 @@ pub record Eliminated (n : ℕ) (one two : List ℕ) (root : ℕ) (taken : List 
   pub tree : all ≡ true → Tree (links one two) n
   pub order : all ≡ true → taken ≡ order_in n (elimination_toward (links one two) n root)
   pub none : all ≡ false → Tree (links one two) n → ⊥
+
+-- the order toward the root where the links make a tree, and none where they do not
+abbrev pub OrderToward : ℕ → List ℕ → List ℕ → ℕ → Option (List ℕ) → Type 0
+OrderToward n one two root None = Tree (links one two) n → ⊥
+OrderToward n one two root (Some order) = Tree (links one two) n × (order ≡ order_in n (elimination_toward (links one two) n root))

@@ -3,11 +3,11 @@
 // with at most one such link it is below 131072, and with just one it is that link's share. A taken site has the key 131072.
 #![tactic(auto)]
 
-ghost use Rattle.std.specs.Prelude.{◌≡◌, ◌≢◌, ℕ, suc, ◌+◌, ◌-◌, ◌*◌, ◌≤◌, ◌<◌, max, length, set, replicate};
+ghost use Rattle.std.specs.Prelude.{◌≡◌, ◌≢◌, ℕ, suc, ◌+◌, ◌-◌, ◌*◌, ◌≤◌, ◌<◌, length, set, replicate};
 ghost use Rattle.model.specs.Limits.{PLACES, SITES};
 ghost use Rattle.lists.specs.Numbers.{pick, is, count, look};
 ghost use Rattle.model.specs.Flows.{sites};
-ghost use Rattle.tree_order.specs.Steps.{Proper, Counted, Lowest, Behind, Back, Onward, Ready, Took, Eliminated};
+ghost use Rattle.tree_order.specs.Steps.{Proper, Counted, Lowest, Behind, Back, Onward, Ready, Took, Eliminated, OrderToward};
 
 use model::{PLACES, SITES};
 
@@ -64,13 +64,6 @@ fn lowest(search: Search, n: usize, keys: &[usize; PLACES]) -> usize
     lowest_from(search.from, n, keys)
 }
 
-// The greater of two numbers.
-fn greater(a: usize, b: usize) -> usize
-    ensures { result ≡ max a b }
-{
-    if a < b { b } else { a }
-}
-
 // Site w if it stands behind `from` and its key is below 131072, else 0.
 fn behind(w: usize, key: usize, from: usize) -> usize
     ensures { Back w key from result }
@@ -85,7 +78,7 @@ fn behind(w: usize, key: usize, from: usize) -> usize
 fn onward(search: Search, v: usize, w: usize, key: usize) -> Search
     ensures { Onward search v w key result }
 {
-    let from = greater(search.from, v);
+    let from = search.from.max(v);
     Search {
         from,
         back: behind(w, key, from),
@@ -140,20 +133,15 @@ fn take_all(
     true
 }
 
-// Sites in the order taken, and whether all could be taken.
-#[derive(Clone, Copy)]
-pub struct Order {
-    pub sites: [usize; SITES],
-    pub all: bool,
-}
-
-// The elimination order toward a root, which comes last; 0 stands for no root.
-pub fn order_of(n: usize, one: &[usize], two: &[usize], root: usize) -> Order
+// The elimination order toward a root, which comes last, where the links make a tree; 0 stands for no root.
+pub fn order_of(n: usize, one: &[usize], two: &[usize], root: usize) -> Option<[usize; SITES]>
     requires { Proper n one.now two.now × (root ≤ n) }
-    ensures { Eliminated n one.now two.now root result.sites result.all }
+    ensures { OrderToward n one.now two.now root result }
 {
     let mut sites = [0usize; SITES];
     sites[n - 1] = root;
-    let all = take_all(n, one, two, root, keys_of(one, two, root), &mut sites);
-    Order { sites, all }
+    if !take_all(n, one, two, root, keys_of(one, two, root), &mut sites) {
+        return None;
+    }
+    Some(sites)
 }

@@ -11,8 +11,9 @@ pub fn root(parents: &[u16], site: usize) -> usize
     ensures { Lower parents.now → Root parents.now site result }
 {
     let mut x = site;
-    while (parents[x] as usize) < x {
-        x = parents[x] as usize;
+    // Stays: the way goes up by parents, not by one, so there is no range or iterator to go over.
+    while usize::from(parents[x]) < x {
+        x = usize::from(parents[x]);
     }
     x
 }
@@ -23,10 +24,11 @@ fn root_by_halves(parents: &mut [u16], site: usize) -> usize
     ensures { Root parents.old site result × Shorter parents.old parents.new }
 {
     let mut x = site;
-    while (parents[x] as usize) < x {
-        let up = parents[parents[x] as usize];
+    // Stays: the way goes up by parents, not by one, so there is no range or iterator to go over.
+    while usize::from(parents[x]) < x {
+        let up = parents[usize::from(parents[x])];
         parents[x] = up;
-        x = up as usize;
+        x = usize::from(up);
     }
     x
 }
@@ -51,6 +53,6 @@ pub fn settle(parents: &mut [u16])
     ensures { Settled parents.old parents.new }
 {
     for x in 0..parents.len() {
-        parents[x] = parents[parents[x] as usize];
+        parents[x] = parents[usize::from(parents[x])];
     }
 }

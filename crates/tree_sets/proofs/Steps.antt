@@ -1,120 +1,105 @@
--- The steps of a walk: to the lowest member that is left of a word, and on from a member, in its word or in a later one.
-use mathlib.Core.Path.{◌≡◌, sym, ap, ◌∙◌}
-use mathlib.Core.Logic.{◌≢◌}
-use mathlib.Core.List.{List}
-use Prim.Native.Nat.{ℕ, ◌+◌, ◌-◌, ◌*◌, ◌/◌, ◌%◌, ◌^◌, ◌≤◌, ◌<◌}
-use native.Mathlib.Decide.{dec_lt}
-use native.Mathlib.Nat.{zero-div}
-use native.Mathlib.Omega.{arith}
-use lib.Bits.{bit_and, and_le_l}
+-- The steps of a walk: to the lowest member that is left of a word, and on to the next word where none is.
+use Rattle.std.specs.Prelude.{◌≡◌, ◌≢◌, List, [], ◌∷◌, get_or}
+use Rattle.std.proofs.Common.{sym, refl, ◌∙◌, arith, bit_and}
 use lib.Count.{count_trailing_zeros}
-use lib.ListN.{get_or}
-use Rattle.model.specs.Limits.{WORDS}
+use Rattle.std.proofs.Math.Path.{ap}
+use Prim.Native.Nat.{ℕ, suc, ◌+◌, ◌-◌, ◌*◌, ◌/◌, ◌%◌, ◌^◌, ◌≤◌, ◌<◌}
+use native.Mathlib.Nat.{zero-div}
+use native.Mathlib.Decide.{dec_lt}
+use Rattle.model.specs.Limits.{SITES, WORDS}
 use Rattle.lists.specs.Sums.{pick_same, pick_other, same?, cases}
-use Rattle.tree_sets.specs.Members.{bit}
-use Rattle.tree_sets.specs.Laws.{member-bit}
-use Rattle.tree_sets.specs.Walks.{within, lowest, Standing, Walked}
-use Rattle.tree_sets.specs.declared.Walk.{Walk}
-use Rattle.tree_sets.proofs.Bits.{Lowest, lowest as lowest-bit, in_word, without-lowest}
+use Rattle.tree_sets.specs.Members.{bit, member, members_from}
+use Rattle.tree_sets.specs.Laws.{members_skip, members_hit, members-eq}
+use Rattle.tree_sets.specs.Walks.{within, kept, still}
+use Rattle.tree_sets.proofs.Bits.{Lowest, lowest, in_word, without-lowest}
 
--- where no member stands from p to p', the first from p' up is the first from p up
-pub walked_skip : (f : ℕ → ℕ) {p p' : ℕ} {r : Walk} → p ≤ p' → ((j : ℕ) → p ≤ j → j < p' → f j ≢ 1) → Walked f p' r → Walked f p r
-walked_skip f {p} {p'} {r} up none n = record {
-  from = omega (arith, n.from);
-  miss = λ j a l. cases (dec_lt j p') (λ m. none j a m) (λ m. n.miss j (omega arith) l);
-  stands = n.stands;
-  ended = n.ended;
-}
+module _ (ws : List ℕ) (q left : ℕ) where
+  -- the members of word q are those of what is left of it
+  pub here : (k : ℕ) → k < 64 → kept ws q left (q * 64 + k) ≡ bit left k
+  unfolding kept
+  here k l =
+      let a : (q * 64 + k) / 64 ≡ q = omega arith in
+      let b : (q * 64 + k) % 64 ≡ k = omega arith in
+      rw (pick_same a, b) refl
 
--- ---- the lowest member of those that are left
+  -- those of the words behind it are as they were
+  pub behind : (j : ℕ) → (q + 1) * 64 ≤ j → kept ws q left j ≡ within ws j
+  unfolding kept
+  behind j l = pick_other {u = j / 64} {v = q} (λ e. omega arith) _ _
 
-module _ (f : ℕ → ℕ) (q b left : ℕ) (in_words_lem : q < WORDS) (fits : left < 2 ^ 64) (some : left ≢ 0)
-    (gone : (k : ℕ) → k < b → bit left k ≡ 0) (kept : (k : ℕ) → b ≤ k → k < 64 → bit left k ≡ f (q * 64 + k)) where
-  pub walked_lowest : Walked f (q * 64 + b) (lowest q left)
-  unfolding lowest
-  walked_lowest =
-      let t = count_trailing_zeros 64 left in
-      let low = lowest-bit 64 left some fits in
-      let below : t < 64 = in_word left t fits low.set in
-      let from : b ≤ t = cases (dec_lt t b) (λ l. absurd (omega (arith, gone t l, low.set))) (λ l. omega arith) in
-      let word : (q * 64 + t) / 64 ≡ q = omega arith in
-      let rest : (q * 64 + t) % 64 ≡ t = omega arith in
-      record {
-        from = omega arith;
-        miss = λ j a l e.
-            let k = j - q * 64 in
-            let there : q * 64 + k ≡ j = omega arith in
-            omega (arith, kept k (omega arith) (omega arith) ∙ ap f there ∙ e, low.clear k (omega arith));
-        stands = λ n. record {
-          inside = omega arith;
-          here = sym (kept t from below) ∙ low.set;
-          gone = λ k l. low.clear k (omega arith);
-          kept = λ k l m. rw word (kept k (omega arith) m);
-        };
-        ended = λ z. absurd (some z);
-      }
+  -- where nothing is left of word q, none of its numbers is a member
+  none_left : left ≡ 0 → (k : ℕ) → k < 64 → kept ws q left (q * 64 + k) ≢ 1
+  none_left z k l e = let n : bit left k ≡ 0 = rw (z, zero-div) in omega (arith, here k l, e, n)
 
--- ---- on from a member
+-- the words as they stand
+whole : (ws : List ℕ) (q j : ℕ) → kept ws q (get_or ws q 0) j ≡ within ws j
+unfolding kept member
+whole ws q j = same? (j / 64) q (λ e. rw (pick_same e, e) refl) (λ d. pick_other d _ _)
 
-module _ (f : ℕ → ℕ) (w : Walk) (s : Standing f w) where
-  at-lowest : Lowest w.left (w.place % 64)
-  at-lowest = record { set = at_place; clear = s.gone }
-    where
-      at_place : bit w.left (w.place % 64) ≡ 1
-      at_place =
-          let whole : w.place / 64 * 64 + w.place % 64 ≡ w.place = omega arith in
-          s.kept (w.place % 64) (omega arith) (omega arith) ∙ ap f whole ∙ s.here
+pub still_whole : (ws : List ℕ) → still ws 0 (get_or ws 0 0) ≡ members_from (within ws) 0 SITES
+unfolding still
+still_whole ws = members-eq (kept ws 0 (get_or ws 0 0)) (within ws) 0 SITES (λ j a b. whole ws 0 j)
 
-  pub some_left : w.left ≢ 0
-  some_left z = omega (arith, rw (z, zero-div) at at-lowest.set)
+module _ (ws : List ℕ) (q left : ℕ) where
+  -- where nothing is left of word q, the members are those of the words behind it
+  pub still_later : left ≡ 0 → q + 1 < WORDS → still ws q left ≡ still ws (q + 1) (get_or ws (q + 1) 0)
+  unfolding still
+  still_later z i =
+      let k = SITES - (q + 1) * 64 in
+      let e : SITES - q * 64 ≡ 64 + k = omega arith in
+      let there : q * 64 + 64 ≡ (q + 1) * 64 = omega arith in
+      ap (members_from (kept ws q left) (q * 64)) e
+      ∙ members_skip (kept ws q left) (q * 64) 64 k (λ j l. none_left ws q left z j l)
+      ∙ ap (λ p. members_from (kept ws q left) p k) there
+      ∙ members-eq (kept ws q left) (kept ws (q + 1) (get_or ws (q + 1) 0)) ((q + 1) * 64) k (λ j a b. behind ws q left j a ∙ sym (whole ws (q + 1) j))
 
-  abbrev rest : ℕ → ℕ
-  rest k = bit (bit_and w.left (w.left - 1)) k
+  -- behind the last word there is none
+  pub still_end : left ≡ 0 → q + 1 ≡ WORDS → still ws q left ≡ []
+  unfolding still members_from
+  still_end z i =
+      let e : SITES - q * 64 ≡ 64 + 0 = omega arith in
+      ap (members_from (kept ws q left) (q * 64)) e ∙ members_skip (kept ws q left) (q * 64) 64 0 (λ j l. none_left ws q left z j l)
 
-  rest-low : (k : ℕ) → k < w.place % 64 + 1 → rest k ≡ 0
-  rest-low k l = without-lowest (w.place % 64) w.left at-lowest k ∙ same? k (w.place % 64)
-      (λ e. pick_same e 0 (bit w.left k))
-      (λ d. pick_other d 0 (bit w.left k) ∙ s.gone k (omega arith))
+  module _ (some : left ≢ 0) (fits : left < 2 ^ 64) where
+    abbrev t : ℕ
+    t = count_trailing_zeros 64 left
 
-  rest-high : (k : ℕ) → w.place % 64 + 1 ≤ k → k < 64 → rest k ≡ f (w.place / 64 * 64 + k)
-  rest-high k l m =
-      without-lowest (w.place % 64) w.left at-lowest k ∙ pick_other {u = k} {v = w.place % 64} (λ e. omega arith) 0 (bit w.left k)
-      ∙ s.kept k (omega arith) m
+    low : Lowest left t
+    low = lowest 64 left some fits
 
-  -- the next member is in the same word
-  pub onward-here : w.left < 2 ^ 64 → bit_and w.left (w.left - 1) ≢ 0 → Walked f (w.place + 1) (lowest (w.place / 64) (bit_and w.left (w.left - 1)))
-  onward-here fits some =
-      let next : w.place / 64 * 64 + (w.place % 64 + 1) ≡ w.place + 1 = omega arith in
-      rw next at (walked_lowest f (w.place / 64) (w.place % 64 + 1) (bit_and w.left (w.left - 1)) (omega (arith, s.inside))
-      (omega (arith, and_le_l w.left (w.left - 1))) some rest-low rest-high)
+    pub below : t < 64
+    below = in_word left t fits low.set
 
-  -- it is in a later one
-  pub onward-later : {r : Walk} → bit_and w.left (w.left - 1) ≡ 0 → Walked f ((w.place / 64 + 1) * 64) r → Walked f (w.place + 1) r
-  onward-later none = walked_skip f (omega arith) (λ j a l e.
-      let k = j - w.place / 64 * 64 in
-      let there : w.place / 64 * 64 + k ≡ j = omega arith in
-      let none_here : rest k ≡ 0 = rw (none, zero-div) in
-      omega (arith, rest-high k (omega arith) (omega arith) ∙ ap f there ∙ e, none_here))
+    -- what is left of the word when its lowest bit is taken out
+    abbrev others : ℕ
+    others = bit_and left (left - 1)
 
--- ---- from word to word
+    gone : (k : ℕ) → k < suc t → bit others k ≡ 0
+    gone k l = without-lowest t left low k ∙ same? k t
+        (λ e. pick_same e 0 (bit left k))
+        (λ d. pick_other d 0 (bit left k) ∙ low.clear k (omega arith))
 
-module _ (ws : List ℕ) (from q left : ℕ) (word : left ≡ get_or ws q 0) (up : from ≤ q) (none : (j : ℕ) → from * 64 ≤ j → j < q * 64 → within ws j ≢ 1) where
-  here : (k : ℕ) → k < 64 → bit left k ≡ within ws (q * 64 + k)
-  here k l = rw word (sym (member-bit (record { words = ws }) q k l))
+    stays : (j : ℕ) → q * 64 + t < j → kept ws q left j ≡ kept ws q others j
+    stays j l = cases (dec_lt j ((q + 1) * 64))
+        (λ i. let k = j - q * 64 in
+        let there : q * 64 + k ≡ j = omega arith in
+        let same : bit left k ≡ bit others k = sym (without-lowest t left low k ∙ pick_other {u = k} {v = t} (λ e. omega arith) 0 (bit left k)) in
+        ap (kept ws q left) (sym there) ∙ here ws q left k (omega arith) ∙ same ∙ sym (here ws q others k (omega arith)) ∙ ap (kept ws q others) there)
+        (λ i. behind ws q left j (omega arith) ∙ sym (behind ws q others j (omega arith)))
 
-  -- where word q has members, the lowest is the first
-  pub later-here : q < WORDS → left < 2 ^ 64 → left ≢ 0 → Walked (within ws) (from * 64) (lowest q left)
-  later-here l fits some =
-      let start : q * 64 + 0 ≡ q * 64 = omega arith in
-      walked_skip (within ws) (omega arith) none
-      (rw start at (walked_lowest (within ws) q 0 left l fits some (λ k m. absurd (omega arith)) (λ k m n. here k n)))
-
-  -- where it has none, the next word is to be looked at
-  pub later-again : left ≡ 0 → (j : ℕ) → from * 64 ≤ j → j < (q + 1) * 64 → within ws j ≢ 1
-  later-again z j a l = cases (dec_lt j (q * 64))
-      (λ m. none j a m)
-      (λ m e.
-      let k = j - q * 64 in
-      let there : q * 64 + k ≡ j = omega arith in
-      let none_here : bit left k ≡ 0 = rw (z, zero-div) in
-      omega (arith, here k (omega arith) ∙ ap (within ws) there ∙ e, none_here))
+    -- the lowest of what is left is the next member
+    pub still_next : q < WORDS → still ws q left ≡ (q * 64 + t) ∷ still ws q others
+    unfolding still
+    still_next i =
+        let p = q * 64 in
+        let k = SITES - p - t - 1 in
+        let e : SITES - p ≡ t + suc k = omega (arith, below) in
+        let e' : SITES - p ≡ suc t + k = omega (arith, below) in
+        let there : suc (p + t) ≡ p + suc t = omega arith in
+        ap (members_from (kept ws q left) p) e
+        ∙ members_skip (kept ws q left) p t (suc k) (λ j l o. omega (arith, here ws q left j (omega (arith, below)), low.clear j l))
+        ∙ members_hit (kept ws q left) (p + t) k (here ws q left t below ∙ low.set)
+        ∙ ap (λ z. (p + t) ∷ z) (members-eq (kept ws q left) (kept ws q others) (suc (p + t)) k (λ j a b. stays j (omega arith))
+        ∙ ap (λ z. members_from (kept ws q others) z k) there
+        ∙ sym (members_skip (kept ws q others) p (suc t) k (λ j l o. omega (arith, here ws q others j (omega (arith, below)), gone j l)))
+        ∙ sym (ap (members_from (kept ws q others) p) e'))

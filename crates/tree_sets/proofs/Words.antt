@@ -14,8 +14,7 @@ use Rattle.lists.specs.Places.{look-zeros}
 use Rattle.lists.specs.Sums.{pick_same, pick_other, same?, less_one, less_none, sum-eq}
 use Rattle.tree_sets.specs.Members.{bit, member, adding, first_from}
 use Rattle.tree_sets.specs.declared.Set.{Set}
-use Rattle.tree_sets.specs.declared.Found.{Found}
-use Rattle.tree_sets.specs.declared.Found.TheVariants.{At, Absent}
+use Rattle.std.specs.Prelude.{Option, Some, None}
 use Rattle.lists.specs.Parts.{sum-split}
 use Rattle.tree_sets.specs.Laws.{member-bit, first_skip, first_hit}
 use Rattle.tree_sets.proofs.Bits.{ones-sum, next_bit, no_bit, or-bit}
@@ -63,10 +62,10 @@ count_word s q h = omega (
 -- ---- the next member, from bit k of the word q up
 
 -- the first member from p up
-abbrev pub rest : Set → ℕ → Found
+abbrev pub rest : Set → ℕ → Option ℕ
 rest s p = first_from (member s) p (SITES - p)
 
-pub rest-none : (s : Set) (p : ℕ) → SITES ≤ p → rest s p ≡ Absent
+pub rest-none : (s : Set) (p : ℕ) → SITES ≤ p → rest s p ≡ None
 unfolding first_from
 rest-none s p h = let z : SITES - p ≡ 0 = omega arith in rw z
 
@@ -77,7 +76,7 @@ module _ (s : Set) (q k : ℕ) (in_words_lem : q < WORDS) (in_word : k < 64) whe
   -- where a bit from k up is set, the trailing zeros lead to it
   pub next_here : get_or s.words q 0 < 2 ^ 64 → get_or s.words q 0 / 2 ^ k ≢ 0 →
       let t = count_trailing_zeros 64 (get_or s.words q 0 / 2 ^ k) in
-      (k + t < 64) × (rest s (q * 64 + k) ≡ At (q * 64 + k + t))
+      (k + t < 64) × (rest s (q * 64 + k) ≡ Some (q * 64 + k + t))
   next_here h n =
       let p = q * 64 + k in
       let t = count_trailing_zeros 64 (get_or s.words q 0 / 2 ^ k) in

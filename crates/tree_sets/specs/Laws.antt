@@ -1,13 +1,12 @@
--- Laws for callers of a set: a member is 0 or 1, a set is told by its members, and what the first member from p up says of those before it.
-use Rattle.std.specs.Prelude.{◌≡◌, ◌≢◌, length, get_or}
+-- Laws for callers of a set: a member is 0 or 1, a set is told by its members, and what the first member from p up, and the list of the members from p up, say of those before it.
+use Rattle.std.specs.Prelude.{◌≡◌, ◌≢◌, refl, List, [], ◌∷◌, Some, None, length, get_or}
 use Rattle.std.proofs.Common.{sym, ◌∙◌, zero-add, add-zero, suc-add, add-suc, add-one, one-add, arith, shr-shr, shr_lt, ext_get_or}
 use Rattle.std.proofs.Math.Path.{ap}
-use Prim.Native.Nat.{ℕ, zero, suc, ◌+◌, ◌*◌, ◌/◌, ◌%◌, ◌^◌, ◌≤◌, ◌<◌}
-use Rattle.model.specs.Limits.{WORDS}
+use Prim.Native.Nat.{ℕ, zero, suc, ◌+◌, ◌-◌, ◌*◌, ◌/◌, ◌%◌, ◌^◌, ◌≤◌, ◌<◌}
+use Rattle.model.specs.Limits.{SITES, WORDS}
 use Rattle.lists.specs.Sums.{pick_same, pick_other, same?, contradiction}
-use Rattle.tree_sets.specs.Members.{bit, member, first_from}
+use Rattle.tree_sets.specs.Members.{bit, member, first_from, members_from}
 use Rattle.tree_sets.specs.declared.Set.{Set}
-use Rattle.tree_sets.specs.declared.Found.TheVariants.{At, Absent}
 
 pub member-le : (s : Set) (m : ℕ) → member s m ≤ 1
 unfolding member
@@ -58,7 +57,7 @@ module _ (f : ℕ → ℕ) where
       ∙ first_skip (suc p) d k (λ j l e. h (suc j) (omega arith) (ap f (omega arith) ∙ e))
       ∙ ap (λ q. first_from f q k) (suc-add p d))
 
-  pub first_hit : (p k : ℕ) → f p ≡ 1 → first_from f p (suc k) ≡ At p
+  pub first_hit : (p k : ℕ) → f p ≡ 1 → first_from f p (suc k) ≡ Some p
   unfolding first_from
   first_hit p k e = pick_same e _ _
 
@@ -69,11 +68,11 @@ module _ (f : ℕ → ℕ) where
     pub hit : f m ≡ 1
     pub miss : (j : ℕ) → p ≤ j → j < m → f j ≢ 1
 
-  pub first-at : (p k m : ℕ) → first_from f p k ≡ At m → First p k m
+  pub first-at : (p k m : ℕ) → first_from f p k ≡ Some m → First p k m
   unfolding first_from
   first-at p zero m e = contradiction cc
   first-at p (suc k) m e = same? (f p) 1
-      (λ h. let q : p ≡ m = (let g = pick_same h (At p) (first_from f (suc p) k) in cc) in
+      (λ h. let q : p ≡ m = (let g = pick_same h (Some p) (first_from f (suc p) k) in cc) in
       record { from = omega arith; to = omega arith; hit = ap f (omega arith) ∙ h; miss = λ j a b. absurd (omega arith) })
       (λ d. let r = first-at (suc p) k m (rw (pick_other d) at e) in
       record {
@@ -83,9 +82,91 @@ module _ (f : ℕ → ℕ) where
         miss = λ j a b. same? j p (λ g h. d (ap f (omega arith) ∙ h)) (λ g. r.miss j (omega arith) b);
       })
 
-  pub first_absent : (p k : ℕ) → first_from f p k ≡ Absent → (j : ℕ) → p ≤ j → j < p + k → f j ≢ 1
+  pub first_absent : (p k : ℕ) → first_from f p k ≡ None → (j : ℕ) → p ≤ j → j < p + k → f j ≢ 1
   unfolding first_from
   first_absent p zero e j a b = absurd (omega arith)
   first_absent p (suc k) e j a b = same? (f p) 1
-      (λ h. contradiction (let g = pick_same h (At p) (first_from f (suc p) k) in cc))
+      (λ h. contradiction (let g = pick_same h (Some p) (first_from f (suc p) k) in cc))
       (λ d. same? j p (λ g h. d (ap f (omega arith) ∙ h)) (λ g. first_absent (suc p) k (rw (pick_other d) at e) j (omega arith) (omega arith)))
+
+  -- ---- the list of the members from p up
+
+  -- numbers that are none are passed over
+  pub members_skip : (p d k : ℕ) → ((j : ℕ) → j < d → f (p + j) ≢ 1) → members_from f p (d + k) ≡ members_from f (p + d) k
+  unfolding members_from
+  members_skip p zero k h = rw (zero-add, add-zero)
+  members_skip p (suc d) k h = rw (suc-add, add-suc) (
+      pick_other (λ e. h 0 (omega arith) (ap f (add-zero p) ∙ e)) _ _
+      ∙ members_skip (suc p) d k (λ j l e. h (suc j) (omega arith) (ap f (omega arith) ∙ e))
+      ∙ ap (λ q. members_from f q k) (suc-add p d))
+
+  pub members_hit : (p k : ℕ) → f p ≡ 1 → members_from f p (suc k) ≡ p ∷ members_from f (suc p) k
+  unfolding members_from
+  members_hit p k e = pick_same e _ _
+
+  -- the first of them is the first member, and the others are those behind it
+  pub members_next : (p k m : ℕ) (ms : List ℕ) → members_from f p k ≡ m ∷ ms → First p k m × (ms ≡ members_from f (m + 1) (p + k - (m + 1)))
+  unfolding members_from
+  members_next p zero m ms e = contradiction cc
+  members_next p (suc k) m ms e = same? (f p) 1
+      (λ h. let g = pick_same h (p ∷ members_from f (suc p) k) (members_from f (suc p) k) in
+      let q : p ≡ m = cc in
+      let t : ms ≡ members_from f (suc p) k = cc in
+      let a : suc p ≡ m + 1 = omega arith in
+      let b : k ≡ p + suc k - (m + 1) = omega arith in (
+        record { from = omega arith; to = omega arith; hit = ap f (sym q) ∙ h; miss = λ j a b. absurd (omega arith) },
+        t ∙ ap (λ z. members_from f z k) a ∙ ap (λ z. members_from f (m + 1) z) b,
+      ))
+      (λ d. let r = members_next (suc p) k m ms (rw (pick_other d) at e) in
+      let b : suc p + k - (m + 1) ≡ p + suc k - (m + 1) = omega arith in (
+        record {
+          from = omega (arith, r.0.from);
+          to = omega (arith, r.0.to);
+          hit = r.0.hit;
+          miss = λ j a b. same? j p (λ g h. d (ap f (sym g) ∙ h)) (λ g. r.0.miss j (omega arith) b);
+        },
+        r.1 ∙ ap (λ z. members_from f (m + 1) z) b,
+      ))
+
+  pub members_end : (p k : ℕ) → members_from f p k ≡ [] → (j : ℕ) → p ≤ j → j < p + k → f j ≢ 1
+  unfolding members_from
+  members_end p zero e j a b = absurd (omega arith)
+  members_end p (suc k) e j a b = same? (f p) 1
+      (λ h. contradiction (let g = pick_same h (p ∷ members_from f (suc p) k) (members_from f (suc p) k) in cc))
+      (λ d. same? j p (λ g h. d (ap f (sym g) ∙ h)) (λ g. members_end (suc p) k (rw (pick_other d) at e) j (omega arith) (omega arith)))
+
+-- they are told by what f is there
+pub members-eq : (f g : ℕ → ℕ) (p k : ℕ) → ((j : ℕ) → p ≤ j → j < p + k → f j ≡ g j) → members_from f p k ≡ members_from g p k
+unfolding members_from
+members-eq f g p zero h = refl
+members-eq f g p (suc k) h =
+    let rest = members-eq f g (suc p) k (λ j a b. h j (omega arith) (omega arith)) in
+    let e = h p (omega arith) (omega arith) in
+    rw (e, rest)
+
+-- ---- a walk over the members, from the lowest up
+
+-- ms are those from p up
+pub record Coming (f : ℕ → ℕ) (p : ℕ) (ms : List ℕ) : Type 0 where
+  pub within : p ≤ SITES
+  pub all : ms ≡ members_from f p (SITES - p)
+
+module _ (f : ℕ → ℕ) where
+  pub coming_start : {ms : List ℕ} → ms ≡ members_from f 0 SITES → Coming f 0 ms
+  coming_start e = record { within = omega arith; all = e }
+
+  module _ {p : ℕ} {ms : List ℕ} (c : Coming f p ms) where
+    pub coming_first : {m : ℕ} {others : List ℕ} → ms ≡ m ∷ others → First f p (SITES - p) m
+    coming_first {m} {others} e = (members_next f p (SITES - p) m others (sym c.all ∙ e)).0
+
+    pub coming_below : {m : ℕ} {others : List ℕ} → ms ≡ m ∷ others → m < SITES
+    coming_below e = omega (arith, c.within, (coming_first e).to)
+
+    pub coming_others : {m : ℕ} {others : List ℕ} → ms ≡ m ∷ others → Coming f (m + 1) others
+    coming_others {m} {others} e =
+        let r = members_next f p (SITES - p) m others (sym c.all ∙ e) in
+        let b : p + (SITES - p) - (m + 1) ≡ SITES - (m + 1) = omega (arith, c.within) in
+        record { within = omega (arith, c.within, r.0.to); all = r.1 ∙ ap (members_from f (m + 1)) b }
+
+    pub coming_end : ms ≡ [] → (j : ℕ) → p ≤ j → j < SITES → f j ≢ 1
+    coming_end e j a b = members_end f p (SITES - p) (sym c.all ∙ e) j a (omega (arith, c.within))

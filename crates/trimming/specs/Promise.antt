@@ -1,6 +1,6 @@
 -- The promise of trimming, all that a user of its answer relies on: a whole number for each link of a tree, the greatest that leave no
 -- inner site with a heavy link. By the theory of balanced capacities, over the definitions that `trim` is equated with.
-use Rattle.std.specs.Prelude.{◌≡◌, ℕ, length, take, drop}
+use Rattle.std.specs.Prelude.{◌≡◌, ℕ, length, take, drop, Ok, Err}
 use Rattle.std.proofs.Math.Path.{refl}
 use Rattle.std.proofs.Common.{ap, ◌∙◌, arith, take_at, drop_at}
 use mathlib.Core.List.{List, ◌++◌}
@@ -13,10 +13,7 @@ use Rattle.theory_trees.proofs.Greatest.{balanced_is_greatest, balanced_has_each
 use Rattle.tree.specs.Offer.{links, offer}
 use Rattle.tree.specs.Links.{length-links}
 use Rattle.tree.specs.Accepted.{MarkedTree, a_tree_within_the_limits_is_accepted}
-use Rattle.tree.specs.declared.Offer.TheVariants as offered
-use Rattle.trimming.specs.declared.Trimming.{Trimming}
-use Rattle.trimming.specs.declared.Trimming.TheVariants.{NoTree, TooLarge, Short, Balanced}
-use Rattle.trimming.specs.Outcome.{answer, capacities, after, trimmed, written}
+use Rattle.trimming.specs.Outcome.{Trimming, answer, capacities, after, trimmed, written}
 use Rattle.trimming.specs.Answers.{success_is_told_just_of_a_tree_with_enough_places}
 
 -- t are the balanced capacities of a tree with the marks and the capacities c
@@ -56,7 +53,7 @@ module _ {n : ℕ} {one two marks c : List ℕ} (w : MarkedTree largest n one tw
   again-within : MarkedTree largest n one two marks (capacities n one two marks c)
   again-within = promised_within (capacities n one two marks c) capacities_keep_the_promise
 
-module _ (n : ℕ) (one two marks c lent : List ℕ) (e : answer n one two marks c lent ≡ Balanced) where
+module _ (n : ℕ) (one two marks c lent : List ℕ) (e : answer n one two marks c lent ≡ Ok tt) where
   offered_tree : MarkedTree largest n one two marks c
   offered_tree = ((success_is_told_just_of_a_tree_with_enough_places n one two marks c lent).0 e).0
 
@@ -77,7 +74,7 @@ module _ (n : ℕ) (one two marks c lent : List ℕ) (e : answer n one two marks
       ∙ drop_at (capacities n one two marks c) (drop (length one) lent) (length one) (capacities_keep_the_promise offered_tree).each
 
   -- handed its own answer as capacities, trimming gives that answer back
-  pub its_answer_is_accepted : offer largest n one two marks (take (length one) (trimmed n one two marks c lent)) ≡ offered.Accepted
+  pub its_answer_is_accepted : offer largest n one two marks (take (length one) (trimmed n one two marks c lent)) ≡ Ok tt
   its_answer_is_accepted = rw first-places
       (a_tree_within_the_limits_is_accepted largest n one two marks (capacities n one two marks c) (again-within offered_tree))
 
@@ -87,12 +84,10 @@ module _ (n : ℕ) (one two marks c lent : List ℕ) (e : answer n one two marks
 
 -- ---- what is written, whatever is told
 
-after-written : (a : Trimming) (t lent : List ℕ) (m : ℕ) → (a ≡ Balanced → length t ≡ m) → after a t lent ≡ take (written a m) t ++ drop (written a m) lent
+after-written : (a : Trimming) (t lent : List ℕ) (m : ℕ) → (a ≡ Ok tt → length t ≡ m) → after a t lent ≡ take (written a m) t ++ drop (written a m) lent
 unfolding after written
-after-written NoTree t lent m e = refl
-after-written TooLarge t lent m e = refl
-after-written Short t lent m e = refl
-after-written Balanced t lent m e = rw (← (e refl), take-length) refl
+after-written (Err why) t lent m e = refl
+after-written (Ok tt) t lent m e = rw (← (e refl), take-length) refl
 
 module _ (n : ℕ) (one two marks c lent : List ℕ) where
   -- the balanced capacities stand in as many places as are told to be written; the others stay as they were, all of them where there is no success
@@ -102,12 +97,10 @@ module _ (n : ℕ) (one two marks c lent : List ℕ) where
   what_is_told_is_written = after-written (answer n one two marks c lent) (capacities n one two marks c) lent (length one)
       (λ e. (capacities_keep_the_promise (offered_tree n one two marks c lent e)).each)
 
-  pub what_is_lent_stays : (answer n one two marks c lent ≡ Balanced → ⊥) → trimmed n one two marks c lent ≡ lent
+  pub what_is_lent_stays : (answer n one two marks c lent ≡ Ok tt → ⊥) → trimmed n one two marks c lent ≡ lent
   unfolding trimmed after
   what_is_lent_stays d = stays (answer n one two marks c lent) (capacities n one two marks c) d
     where
-      stays : (a : Trimming) (t : List ℕ) → (a ≡ Balanced → ⊥) → after a t lent ≡ lent
-      stays NoTree t d = refl
-      stays TooLarge t d = refl
-      stays Short t d = refl
-      stays Balanced t d = absurd (d refl)
+      stays : (a : Trimming) (t : List ℕ) → (a ≡ Ok tt → ⊥) → after a t lent ≡ lent
+      stays (Err why) t d = refl
+      stays (Ok tt) t d = absurd (d refl)

@@ -6,36 +6,29 @@ ghost use Rattle.model.specs.Limits.{SITES};
 ghost use Rattle.lists.specs.Numbers.{look};
 ghost use Rattle.model.specs.Flows.{sum_at};
 ghost use Rattle.model.specs.Edition.{largest};
-ghost use Rattle.model.specs.Trimming.{elimination, balanced};
+ghost use Rattle.model.specs.Trimming.{balanced};
 ghost use Rattle.tree.specs.Accepted.{TreeWithin};
 ghost use Rattle.tree.specs.Offer.{links};
-ghost use Rattle.tree_links.specs.Chains.{Chained};
-ghost use Rattle.trimming_passes.specs.Steps.{InPlaces, Middle, SumsKept, cut_first, balanced_first};
+ghost use Rattle.trimming_passes.specs.Steps.{Middle, SumsKept, cut_first, balanced_first};
 
-use model::{CHAINS, PLACES, SITES};
+use model::PLACES;
+use tree_links::{Chains, Chart};
 
 // The one link at site v that can be heavy, counted from 1: the first of the chain by which half of the sum is passed; 0 if none can be.
-fn middle_at(
-    v: usize,
-    sum: u64,
-    last: &[usize; PLACES],
-    before: &[usize; CHAINS],
-    one: &[usize],
-    two: &[usize],
-    capacity: &[u64],
-) -> usize
-    requires { (v ≤ SITES) × Chained one.now two.now last.now before.now × (length one.now ≤ length capacity.now)
-        × (sum ≡ sum_at (links one.now two.now) v (look capacity.now)) }
-    ensures { Middle (links one.now two.now) v (look capacity.now) result }
+fn middle_at(chains: &Chains, v: usize, sum: u64, capacity: &[u64]) -> usize
+    requires { (v ≤ SITES) × (length chains.now.tree.one.now ≤ length capacity.now)
+        × (sum ≡ sum_at (links chains.now.tree.one.now chains.now.tree.two.now) v (look capacity.now)) }
+    ensures { Middle (links chains.now.tree.one.now chains.now.tree.two.now) v (look capacity.now) result }
 {
     let mut passed: u64 = 0;
-    let mut p = last[v];
+    let mut p = chains.last[v];
+    // Stays: the way along a chain goes from link to link, so there is no range or slice to go over.
     while 0 < p {
         passed += capacity[p - 1];
         if sum - passed < passed {
             return p;
         }
-        p = tree_links::link_before(v, p - 1, one, two, before);
+        p = chains.link_before(v, p - 1);
     }
     0
 }
@@ -61,25 +54,16 @@ fn lower(
 }
 
 // Cuts the capacities at site v, if it is no end: a heavy link keeps no more than the other links there have together.
-fn cut(
-    v: usize,
-    ends: &[u8; PLACES],
-    last: &[usize; PLACES],
-    before: &[usize; CHAINS],
-    one: &[usize],
-    two: &[usize],
-    sums: &mut [u64; PLACES],
-    capacity: &mut [u64],
-)
-    requires { (v ≤ SITES) × Chained one.now two.now last.now before.now × SumsKept one.now two.now capacity.old sums.old }
-    ensures { (capacity.new ≡ cut_first one.now two.now (look ends.now) (v ∷ []) capacity.old)
-        × SumsKept one.now two.now capacity.new sums.new }
+fn cut(chart: &Chart, v: usize, sums: &mut [u64; PLACES], capacity: &mut [u64])
+    requires { (v ≤ SITES) × SumsKept chart.now.chains.tree.one.now chart.now.chains.tree.two.now capacity.old sums.old }
+    ensures { (capacity.new ≡ cut_first chart.now.chains.tree.one.now chart.now.chains.tree.two.now (look chart.now.ends) (v ∷ []) capacity.old)
+        × SumsKept chart.now.chains.tree.one.now chart.now.chains.tree.two.now capacity.new sums.new }
 {
-    if ends[v] == 1 {
+    if chart.ends[v] == 1 {
         return;
     }
     let sum = sums[v];
-    let p = middle_at(v, sum, last, before, one, two, capacity);
+    let p = middle_at(&chart.chains, v, sum, capacity);
     if p == 0 {
         return;
     }
@@ -87,7 +71,8 @@ fn cut(
     if t <= sum - t {
         return;
     }
-    lower(p - 1, t - (sum - t), one, two, sums, capacity);
+    let tree = chart.chains.tree;
+    lower(p - 1, t - (sum - t), tree.one, tree.two, sums, capacity);
 }
 
 // The place that step i of a way along n places and back comes to.
@@ -101,27 +86,17 @@ fn there_and_back(i: usize, n: usize) -> usize
     2 * n - 1 - i
 }
 
-// Cuts the capacities at each site of an order in turn, and back against it.
-fn both_ways(
-    n: usize,
-    order: &[usize; SITES],
-    ends: &[u8; PLACES],
-    last: &[usize; PLACES],
-    before: &[usize; CHAINS],
-    one: &[usize],
-    two: &[usize],
-    sums: &mut [u64; PLACES],
-    capacity: &mut [u64],
-)
-    requires { (n ≤ SITES) × InPlaces n (take n order.now) × Chained one.now two.now last.now before.now
-        × SumsKept one.now two.now capacity.old sums.old }
-    ensures { (capacity.new
-        ≡ balanced_first one.now two.now (look ends.now) (take n order.now) capacity.old)
-        × SumsKept one.now two.now capacity.new sums.new }
+// Cuts the capacities at each site of the elimination order in turn, and back against it.
+fn both_ways(chart: &Chart, sums: &mut [u64; PLACES], capacity: &mut [u64])
+    requires { SumsKept chart.now.chains.tree.one.now chart.now.chains.tree.two.now capacity.old sums.old }
+    ensures { (capacity.new ≡ balanced_first chart.now.chains.tree.one.now chart.now.chains.tree.two.now (look chart.now.ends)
+        (take chart.now.chains.tree.sites chart.now.order) capacity.old)
+        × SumsKept chart.now.chains.tree.one.now chart.now.chains.tree.two.now capacity.new sums.new }
 {
+    let n = chart.chains.tree.sites;
     for i in 0..2 * n {
-        let v = order[there_and_back(i, n)];
-        cut(v, ends, last, before, one, two, sums, capacity);
+        let v = chart.order[there_and_back(i, n)];
+        cut(chart, v, sums, capacity);
     }
 }
 
@@ -130,32 +105,18 @@ fn copy(from: &[u64], to: &mut [u64])
     requires { length from.now ≤ length to.old }
     ensures { to.new ≡ from.now ++ drop (length from.now) to.old }
 {
-    for j in 0..from.len() {
-        to[j] = from[j];
-    }
+    to[..from.len()].copy_from_slice(from);
 }
 
-// The balanced capacities of a tree, at the front of a lent list: its capacities are cut along its elimination order and back, by its chains and ends.
-pub fn balance(
-    n: usize,
-    order: &[usize; SITES],
-    ends: &[u8; PLACES],
-    last: &[usize; PLACES],
-    before: &[usize; CHAINS],
-    one: &[usize],
-    two: &[usize],
-    capacity: &[u64],
-    lent: &mut [u64],
-)
-    requires { TreeWithin largest n one.now two.now capacity.now
-        × (take n order.now ≡ elimination (links one.now two.now) n)
-        × Chained one.now two.now last.now before.now
-        × (length one.now ≤ length lent.old) }
-    ensures { lent.new
-        ≡ balanced (links one.now two.now) n (look ends.now) capacity.now ++ drop (length capacity.now)
-        lent.old }
+// The balanced capacities of a tree, at the front of a lent list: they are cut along its elimination order and back, by its chains and ends.
+pub fn balance(chart: &Chart, capacity: &[u64], lent: &mut [u64])
+    requires { TreeWithin largest chart.now.chains.tree.sites chart.now.chains.tree.one.now chart.now.chains.tree.two.now capacity.now
+        × (length chart.now.chains.tree.one.now ≤ length lent.old) }
+    ensures { lent.new ≡ balanced (links chart.now.chains.tree.one.now chart.now.chains.tree.two.now) chart.now.chains.tree.sites (look chart.now.ends) capacity.now
+        ++ drop (length capacity.now) lent.old }
 {
     copy(capacity, lent);
-    let mut sums = tree_links::sums(one, two, capacity);
-    both_ways(n, order, ends, last, before, one, two, &mut sums, lent);
+    let tree = chart.chains.tree;
+    let mut sums = tree_links::sums(tree.one, tree.two, capacity);
+    both_ways(chart, &mut sums, lent);
 }

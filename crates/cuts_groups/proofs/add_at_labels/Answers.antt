@@ -8,7 +8,7 @@ use Rattle.cuts_groups.proofs.add_at_labels.Goals as goal
 pub returns-then-a-b : goal.returns-then-a-b
 returns-then-a-b c =
     let a = c.args in
-    let apart : look a.labels.now a.one ≢ look a.labels.now a.two = omega arith in (
+    let apart : look a.labels.now a.one ≢ look a.labels.now a.two = omega arith in rw (c.from-a.ensures, c.from-b.ensures) (
       simp length-set c.requires.places,
       raised a.labels.now a.one a.two a.d a.sums.now
           (omega (arith, c.requires.labelled a.one)) (omega (arith, c.requires.labelled a.two)) apart,

@@ -1,5 +1,5 @@
 -- `terminal_sizes` meets its contract: after i sites the terminals among them have their sums.
-use Rattle.std.proofs.Common.{◌≡◌, refl, ◌∙◌, ℕ, arith}
+use Rattle.std.proofs.Common.{◌≡◌, refl, ap, set, ◌∙◌, ℕ, arith}
 use Rattle.lists.specs.Numbers.{look}
 use Rattle.cuts_groups.specs.Places.{of_terminal, places-none, places-terminal, places_inner}
 use Rattle.cuts_groups.proofs.terminal_sizes.Goals as goal
@@ -16,7 +16,7 @@ loop-i-preserved c =
     elim c.if-ends-x-eq1.branch [
       | then-ends-x-eq1 w ↦ (
         omega arith,
-        w.size-is ∙ places-terminal (look a.ends.now) sum-at l.i (omega arith) l.invariant.1 w.if-ends-x-eq1.true refl,
+        w.size-is ∙ ap (λ label. set l.size l.i (look a.leaving.now label)) w.from.ensures ∙ places-terminal (look a.ends.now) sum-at l.i (omega arith) l.invariant.1 w.if-ends-x-eq1.true refl,
       )
       | else-ends-x-eq1 w ↦ (
         omega arith,

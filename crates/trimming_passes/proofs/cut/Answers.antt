@@ -27,57 +27,57 @@ fitting {one} {two} {capacity} {sums} k v p site m some =
       fits = omega (arith, k.summed v site, others-add (links one two) v (p - 1) (look capacity) (omega (arith, m.there.0)) (m.there.1 some));
     }
 
-pub returns-then-ends-v-eq1 : goal.returns-then-ends-v-eq1
-returns-then-ends-v-eq1 c =
+pub returns-then-chart-v-eq1 : goal.returns-then-chart-v-eq1
+returns-then-chart-v-eq1 c =
     let a = c.args in
-    let k = c.requires.2 in
-    let terminal : look a.ends.now a.v ≡ 1 = omega arith in
-    (cut-none a.one.now a.two.now (look a.ends.now) k.placed.seconds a.v a.capacity.now k.each (λ j l at-v inner. absurd (inner terminal)), k)
+    let k = c.requires.1 in
+    let terminal : look a.chart.now.ends a.v ≡ 1 = omega arith in
+    (cut-none a.chart.now.chains.tree.one.now a.chart.now.chains.tree.two.now (look a.chart.now.ends) k.placed.seconds a.v a.capacity.now k.each (λ j l at-v inner. absurd (inner terminal)), k)
 
 pub returns-then-p-eq0 : goal.returns-then-p-eq0
 returns-then-p-eq0 c =
     let a = c.args in
-    let k = c.requires.2 in
+    let k = c.requires.1 in
     let m = c.middle_at-p.ensures in
-    (cut-none a.one.now a.two.now (look a.ends.now) k.placed.seconds a.v a.capacity.now k.each (λ j l at-v inner. m.others j l at-v (λ z. omega arith)), k)
+    (cut-none a.chart.now.chains.tree.one.now a.chart.now.chains.tree.two.now (look a.chart.now.ends) k.placed.seconds a.v a.capacity.now k.each (λ j l at-v inner. m.others j l at-v (λ z. omega arith)), k)
 
 pub offset_bounds-capacity-p : goal.offset_bounds-capacity-p
-offset_bounds-capacity-p c = omega (arith, fitting c.requires.2 c.args.v c.middle_at-p.result c.requires.0 c.middle_at-p.ensures (omega arith), c.requires.2.placed.few)
+offset_bounds-capacity-p c = omega (arith, fitting c.requires.1 c.args.v c.middle_at-p.result c.requires.0 c.middle_at-p.ensures (omega arith), c.requires.1.placed.few)
 
 pub bounds-capacity-p : goal.bounds-capacity-p
-bounds-capacity-p c = omega (arith, fitting c.requires.2 c.args.v c.middle_at-p.result c.requires.0 c.middle_at-p.ensures (omega arith))
+bounds-capacity-p c = omega (arith, fitting c.requires.1 c.args.v c.middle_at-p.result c.requires.0 c.middle_at-p.ensures (omega arith))
 
 pub overflow_sub-sum : goal.overflow_sub-sum
-overflow_sub-sum c = omega (arith, fitting c.requires.2 c.args.v c.middle_at-p.result c.requires.0 c.middle_at-p.ensures (omega arith))
+overflow_sub-sum c = omega (arith, fitting c.requires.1 c.args.v c.middle_at-p.result c.requires.0 c.middle_at-p.ensures (omega arith))
 
 pub returns-then-t-sum : goal.returns-then-t-sum
 returns-then-t-sum c =
     let a = c.args in
-    let k = c.requires.2 in
+    let k = c.requires.1 in
     let m = c.middle_at-p.ensures in
     let p = c.middle_at-p.result in
     let f = fitting k a.v p c.requires.0 m (omega arith) in (
-      cut-none a.one.now a.two.now (look a.ends.now) k.placed.seconds a.v a.capacity.now k.each
+      cut-none a.chart.now.chains.tree.one.now a.chart.now.chains.tree.two.now (look a.chart.now.ends) k.placed.seconds a.v a.capacity.now k.each
           (λ j l at-v inner. same? j (p - 1) (λ z. rw z (omega arith)) (λ z. m.others j l at-v (λ y. z (omega arith)))),
       k,
     )
 
 pub overflow_sub-sum-2 : goal.overflow_sub-sum-2
-overflow_sub-sum-2 c = omega (arith, fitting c.requires.2 c.args.v c.middle_at-p.result c.requires.0 c.middle_at-p.ensures (omega arith))
+overflow_sub-sum-2 c = omega (arith, fitting c.requires.1 c.args.v c.middle_at-p.result c.requires.0 c.middle_at-p.ensures (omega arith))
 
 pub lower-requires : goal.lower-requires
 lower-requires c =
-    let f = fitting c.requires.2 c.args.v c.middle_at-p.result c.requires.0 c.middle_at-p.ensures (omega arith) in
-    (f.link, omega arith, c.requires.2)
+    let f = fitting c.requires.1 c.args.v c.middle_at-p.result c.requires.0 c.middle_at-p.ensures (omega arith) in
+    (f.link, omega arith, c.requires.1)
 
 pub returns : goal.returns
 returns c =
     let a = c.args in
-    let k = c.requires.2 in
+    let k = c.requires.1 in
     let m = c.middle_at-p.ensures in
     let f = fitting k a.v c.middle_at-p.result c.requires.0 m (omega arith) in
-    let inner : look a.ends.now a.v ≢ 1 = omega arith in
+    let inner : look a.chart.now.ends a.v ≢ 1 = omega arith in
     let done = c.lower.ensures in (
-      done.0 ∙ cut-one a.one.now a.two.now (look a.ends.now) k.placed.seconds a.v a.capacity.now c.middle_at-p.result _ k.each inner m (omega arith) (omega arith),
+      done.0 ∙ cut-one a.chart.now.chains.tree.one.now a.chart.now.chains.tree.two.now (look a.chart.now.ends) k.placed.seconds a.v a.capacity.now c.middle_at-p.result _ k.each inner m (omega arith) (omega arith),
       done.1,
     )

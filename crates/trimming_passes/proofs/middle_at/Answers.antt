@@ -60,12 +60,12 @@ module _ (ls : Links) (v m : ℕ) (f : ℕ → ℕ) (total : ℕ) where
 pub loop-p-init : goal.loop-p-init
 loop-p-init c =
     let a = c.args in
-    let ls = links a.one.now a.two.now in
-    let m = length a.one.now in
-    let number = length-links a.one.now a.two.now (sym c.requires.1.placed.seconds) in
-    rw (c.requires.1.lasts a.v c.requires.0) (
+    let ls = links a.chains.now.tree.one.now a.chains.now.tree.two.now in
+    let m = length a.chains.now.tree.one.now in
+    let number = length-links a.chains.now.tree.one.now a.chains.now.tree.two.now (sym c.args.chains.now.chained.placed.seconds) in
+    rw (c.args.chains.now.chained.lasts a.v c.requires.0) (
       on_last ls a.v m m (omega arith),
-      start ls a.v m (look a.capacity.now) a.sum number c.requires.3,
+      start ls a.v m (look a.capacity.now) a.sum number c.requires.2,
       λ i k l at-v. absurd (last_none ls a.v m i k l at-v),
     )
 
@@ -73,41 +73,41 @@ pub overflow_add-passed : goal.overflow_add-passed
 overflow_add-passed c =
     let a = c.args in
     let l = c.loop-p in
-    omega (arith, passing (links a.one.now a.two.now) a.v (length a.one.now) (look a.capacity.now) a.sum l.passed l.p (omega arith) l.invariant.0 l.invariant.1)
+    omega (arith, passing (links a.chains.now.tree.one.now a.chains.now.tree.two.now) a.v (length a.chains.now.tree.one.now) (look a.capacity.now) a.sum l.passed l.p (omega arith) l.invariant.0 l.invariant.1)
 
 pub overflow_sub-sum : goal.overflow_sub-sum
 overflow_sub-sum c =
     let a = c.args in
     let l = c.loop-p in
-    omega (arith, passing (links a.one.now a.two.now) a.v (length a.one.now) (look a.capacity.now) a.sum l.passed l.p (omega arith) l.invariant.0 l.invariant.1)
+    omega (arith, passing (links a.chains.now.tree.one.now a.chains.now.tree.two.now) a.v (length a.chains.now.tree.one.now) (look a.capacity.now) a.sum l.passed l.p (omega arith) l.invariant.0 l.invariant.1)
 
 pub returns-then-sum-passed : goal.returns-then-sum-passed
 returns-then-sum-passed c =
     let a = c.args in
     let l = c.loop-p in
-    let ls = links a.one.now a.two.now in
-    let m = length a.one.now in
+    let ls = links a.chains.now.tree.one.now a.chains.now.tree.two.now in
+    let m = length a.chains.now.tree.one.now in
     let f = look a.capacity.now in
-    let number = length-links a.one.now a.two.now (sym c.requires.1.placed.seconds) in
+    let number = length-links a.chains.now.tree.one.now a.chains.now.tree.two.now (sym c.args.chains.now.chained.placed.seconds) in
     let at-hand = passing ls a.v m f a.sum l.passed l.p (omega arith) l.invariant.0 l.invariant.1 in
-    found ls a.v m f a.sum number c.requires.3 l.p (omega arith) l.invariant.0 l.invariant.2 (omega arith)
+    found ls a.v m f a.sum number c.requires.2 l.p (omega arith) l.invariant.0 l.invariant.2 (omega arith)
 
 pub loop-p-smaller : goal.loop-p-smaller
 loop-p-smaller c =
     let a = c.args in
     let l = c.loop-p in
-    let back = walk_goes_on c.requires.1 a.v (l.p - 1) c.link_before-p.result (omega arith) (l.invariant.0.1 (omega arith)) c.link_before-p.ensures in
-    omega (arith, last_le (links a.one.now a.two.now) a.v (l.p - 1))
+    let back = walk_goes_on c.args.chains.now.chained a.v (l.p - 1) c.link_before-p.result (omega arith) (l.invariant.0.1 (omega arith)) c.link_before-p.ensures in
+    omega (arith, last_le (links a.chains.now.tree.one.now a.chains.now.tree.two.now) a.v (l.p - 1))
 
 pub loop-p-preserved : goal.loop-p-preserved
 loop-p-preserved c =
     let a = c.args in
     let l = c.loop-p in
-    let ls = links a.one.now a.two.now in
-    let m = length a.one.now in
+    let ls = links a.chains.now.tree.one.now a.chains.now.tree.two.now in
+    let m = length a.chains.now.tree.one.now in
     let f = look a.capacity.now in
     let at-hand = passing ls a.v m f a.sum l.passed l.p (omega arith) l.invariant.0 l.invariant.1 in
-    let back = walk_goes_on c.requires.1 a.v (l.p - 1) c.link_before-p.result (omega arith) (l.invariant.0.1 (omega arith)) c.link_before-p.ensures in
+    let back = walk_goes_on c.args.chains.now.chained a.v (l.p - 1) c.link_before-p.result (omega arith) (l.invariant.0.1 (omega arith)) c.link_before-p.ensures in
     rw back (
       on_last ls a.v m (l.p - 1) (omega arith),
       at-hand,
@@ -118,5 +118,5 @@ pub returns : goal.returns
 returns c =
     let a = c.args in
     let l = c.loop-p in
-    let number = length-links a.one.now a.two.now (sym c.requires.1.placed.seconds) in
-    none (links a.one.now a.two.now) a.v (length a.one.now) (look a.capacity.now) a.sum number c.requires.3 (λ i k. l.invariant.2 i (omega arith))
+    let number = length-links a.chains.now.tree.one.now a.chains.now.tree.two.now (sym c.args.chains.now.chained.placed.seconds) in
+    none (links a.chains.now.tree.one.now a.chains.now.tree.two.now) a.v (length a.chains.now.tree.one.now) (look a.capacity.now) a.sum number c.requires.2 (λ i k. l.invariant.2 i (omega arith))
