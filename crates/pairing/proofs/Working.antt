@@ -1,8 +1,8 @@
--- A refusal has nothing to store, a decomposition the pairs of the tree, no more than there are links;
--- and storing them leaves the lent list as the definition says.
+-- A decomposition has the pairs of the tree to store, no more than there are links; storing them leaves the lent list as the definition says, and a refusal
+-- leaves it as it is.
 use mathlib.Core.Path.{◌≡◌, refl, sym, ap, ◌∙◌}
 use mathlib.Core.Logic.{if_pos}
-use mathlib.Core.List.{List, [], ◌++◌}
+use mathlib.Core.List.{List, ◌++◌}
 use Prim.Native.Nat.{ℕ, ◌≤◌, min}
 use native.Mathlib.Omega.{arith}
 use native.Mathlib.Decide.{dec_le}
@@ -21,43 +21,26 @@ use Rattle.tree.specs.Accepted.{MarkedTree}
 use Rattle.theory_walk.specs.PartsTheorem.{pairs_of_parts_are_sound}
 use Rattle.pairing_order.specs.PairList.{stored}
 use Rattle.pairing_order.specs.Laws.{ordering_keeps_length}
-use Rattle.pairing.specs.declared.Pairing.{Pairing}
-use Rattle.pairing.specs.declared.Pairing.TheVariants.{NoTree, TooLarge, Short, Heavy, Pairs}
-use Rattle.pairing.specs.declared.Work.{Work}
-use Rattle.pairing.specs.Outcome.{terminals, answer, pair_count, after, paired}
-use Rattle.pairing.specs.Storing.{to_store, pairs_of, Worked}
+use Rattle.model.specs.declared.Pairs.{Pairs}
+use Rattle.std.specs.Prelude.{Ok, Err}
+use Rattle.pairing.specs.declared.Unpaired.{Unpaired}
+use Rattle.pairing.specs.Outcome.{terminals, answer, after, paired}
+use Rattle.pairing.specs.Storing.{pairs_of, Made}
 use Rattle.pairing.specs.Promise.{balanced_capacities_are_paired}
 
 module _ (n : ℕ) (one two marks c : List ℕ) (places : ℕ) where
-  -- an answer that is no success, and a count of 0
-  pub refusal_works : (w : Work) (a : Pairing) → (w.answer ≡ a) × (w.pairs.count ≡ 0) → answer n one two marks c places ≡ a → pair_count a ≡ 0
-      → ((ps : List Pair) → to_store a ps ≡ [])
-      → Worked n one two marks c places w
-  refusal_works w a r said count none = record {
-    said = r.0 ∙ sym said;
-    counted = r.1 ∙ sym count ∙ ap pair_count (sym r.0);
-    listed = rw (r.0, r.1) (sym (none (pairs_of n one two marks c)));
-    few = omega (arith, r.1);
-    fits = omega (arith, r.1);
-  }
-
   -- the pairs of an accepted tree with balanced capacities
   module _ (t : MarkedTree largest n one two marks c) (B : Balanced (links one two) (terminals n one two marks) (look c)) (enough : length one ≤ places)
-      (w : Work) (made : take w.pairs.count w.pairs.list ≡ pairs_of n one two marks c) (few : w.pairs.count ≤ LINKS)
-      (full : length w.pairs.list ≡ SITES) where
-    number : length (pairs_of n one two marks c) ≡ w.pairs.count
-    number = sym (ap length made) ∙ length-take-le w.pairs.count w.pairs.list (omega arith)
+      (w : Pairs) (made : take w.count w.list ≡ pairs_of n one two marks c) (few : w.count ≤ LINKS)
+      (full : length w.list ≡ SITES) where
+    number : length (pairs_of n one two marks c) ≡ w.count
+    number = sym (ap length made) ∙ length-take-le w.count w.list (omega arith)
 
-    says-pairs : answer n one two marks c places ≡ Pairs w.pairs.count
+    pub decomposition_works : Made n one two marks c places w
     unfolding pair_list_of_parts
-    says-pairs = balanced_capacities_are_paired t B places enough ∙ ap Pairs (ordering_keeps_length (pairs_of n one two marks c) ∙ number)
-
-    pub decomposition_works : w.answer ≡ Pairs w.pairs.count → Worked n one two marks c places w
-    unfolding pair_count to_store
-    decomposition_works e = record {
-      said = e ∙ sym says-pairs;
-      counted = rw e refl;
-      listed = rw e made;
+    decomposition_works = record {
+      said = balanced_capacities_are_paired t B places enough ∙ ap Ok (ordering_keeps_length (pairs_of n one two marks c) ∙ number);
+      listed = made;
       few = omega arith;
       fits = omega (
         arith,
@@ -73,19 +56,15 @@ stored-fits : (list l : List Pair) (count : ℕ) → count ≤ min (length list)
 unfolding stored
 stored-fits list l count h = if_pos (dec_le count (min (length list) (length l))) h _ _
 
-after_storing : (a : Pairing) (ps l : List Pair) → ordered (to_store a ps) ++ drop (pair_count a) l ≡ after a (ordered ps) l
-unfolding to_store pair_count after ordered
-after_storing NoTree ps l = refl
-after_storing TooLarge ps l = refl
-after_storing Short ps l = refl
-after_storing Heavy ps l = refl
-after_storing (Pairs count) ps l = refl
-
 -- stored in a list of so many places, they leave it as the definition says
-pub work_is_stored : (n : ℕ) (one two marks c : List ℕ) (l : List Pair) (w : Work) → Worked n one two marks c (length l) w → length w.pairs.list ≡ SITES
-    → stored w.pairs.list w.pairs.count l ≡ paired n one two marks c l
-unfolding paired pair_list_of_parts
+pub work_is_stored : (n : ℕ) (one two marks c : List ℕ) (l : List Pair) (w : Pairs) → Made n one two marks c (length l) w → length w.list ≡ SITES
+    → stored w.list w.count l ≡ paired n one two marks c l
+unfolding paired after pair_list_of_parts
 work_is_stored n one two marks c l w h full =
-    stored-fits w.pairs.list l w.pairs.count (omega (arith, h.few, h.fits))
-    ∙ rw (h.listed, h.counted) (after_storing w.answer (pairs_of n one two marks c) l)
-    ∙ ap (λ a. after a (ordered (pairs_of n one two marks c)) l) h.said
+    stored-fits w.list l w.count (omega (arith, h.few, h.fits)) ∙ rw (h.said, h.listed) refl
+
+-- a refusal leaves it as it is
+pub refusal_stores_nothing : (n : ℕ) (one two marks c : List ℕ) (l : List Pair) (e : Unpaired) → answer n one two marks c (length l) ≡ Err e
+    → l ≡ paired n one two marks c l
+unfolding paired after
+refusal_stores_nothing n one two marks c l e h = rw h refl

@@ -1,6 +1,6 @@
 -- The promise of pairing, all that a user of its answer relies on: the first places hold the pair list of a tree whose capacities are balanced,
 -- loads of exactly twice the capacities. By the theorems of the walk, over the definitions that `pair_up` is equated with.
-use Rattle.std.specs.Prelude.{◌≡◌, ◌≢◌, List, ◌++◌, ℕ, ◌*◌, ◌≤◌, ◌<◌, length, take, drop}
+use Rattle.std.specs.Prelude.{◌≡◌, ◌≢◌, Ok, Err, List, ◌++◌, ℕ, ◌*◌, ◌≤◌, ◌<◌, length, take, drop}
 use Rattle.std.proofs.Math.Path.{refl}
 use Rattle.std.proofs.Common.{sym, ap, ◌∙◌, take_at, drop_at}
 use Rattle.lists.specs.Numbers.{look, Each}
@@ -16,7 +16,7 @@ use Rattle.theory_walk.specs.Evens.{Even, EvenPair}
 use Rattle.theory_walk.proofs.PartsTheorem.{pair_list_of_parts_is_sound, pair_list_of_parts_ascends, pair_list_of_parts_lower_first}
 use Rattle.theory_walk.specs.PartsTheorem.{pair_list_of_parts_is_even}
 use Rattle.theory_walk.proofs.PartsTheorem.{pair_list_of_parts_is_free, pair_list_of_parts_has_the_greatest_total}
-use Rattle.pairing.specs.declared.Pairing.TheVariants.{Heavy, Pairs}
+use Rattle.pairing.specs.declared.Unpaired.TheVariants.{Heavy}
 use Rattle.pairing.specs.Outcome.{terminals, list_of, answer, after, paired}
 use Rattle.pairing.specs.Weighing.Heavy.{balanced_has_no_heavy_link, a_heavy_link_is_somewhere}
 use Rattle.lists.specs.Sums.{contradiction}
@@ -40,14 +40,14 @@ pub record Promise (n : ℕ) (one two marks c : List ℕ) (count : ℕ) (list : 
 -- balanced capacities of a tree within the limits are paired, wherever there is a place for each link
 pub balanced_capacities_are_paired : {n : ℕ} {one two marks c : List ℕ} → MarkedTree largest n one two marks c
     → Balanced (links one two) (terminals n one two marks) (look c) → (places : ℕ) → length one ≤ places
-    → answer n one two marks c places ≡ Pairs (length (list_of n one two marks c))
+    → answer n one two marks c places ≡ Ok (length (list_of n one two marks c))
 balanced_capacities_are_paired {n} {one} {two} {marks} {c} t B places enough =
     (pairs_are_told_just_of_balanced_sizes n one two marks c places (length (list_of n one two marks c))).1 (t, enough, B, refl)
 
 -- ---- what an answer tells
 
 -- a heavy link is told of no balanced capacities
-pub heavy-is-not-balanced : (n : ℕ) (one two marks c : List ℕ) (places : ℕ) → answer n one two marks c places ≡ Heavy
+pub heavy-is-not-balanced : (n : ℕ) (one two marks c : List ℕ) (places : ℕ) → answer n one two marks c places ≡ Err Heavy
     → Balanced (links one two) (terminals n one two marks) (look c) → ⊥
 heavy-is-not-balanced n one two marks c places e B =
     let heavy = ((heavy_is_told_just_of_a_heavy_link n one two marks c places).0 e).2 in
@@ -55,7 +55,7 @@ heavy-is-not-balanced n one two marks c places e B =
     let none = balanced_has_no_heavy_link (links one two) (terminals n one two marks) (look c) n B in
     contradiction cc
 
-module _ (n : ℕ) (one two marks c : List ℕ) (lent : List Pair) (count : ℕ) (e : answer n one two marks c (length lent) ≡ Pairs count) where
+module _ (n : ℕ) (one two marks c : List ℕ) (lent : List Pair) (count : ℕ) (e : answer n one two marks c (length lent) ≡ Ok count) where
   told : MarkedTree largest n one two marks c × (length one ≤ length lent) × Balanced (links one two) (terminals n one two marks) (look c)
       × (count ≡ length (list_of n one two marks c))
   told = (pairs_are_told_just_of_balanced_sizes n one two marks c (length lent) count).0 e

@@ -3,18 +3,17 @@
 
 mod weighing;
 
-ghost use Rattle.std.specs.Prelude.{◌≡◌, ℕ, ◌≤◌, length};
-ghost use Rattle.model.specs.Edition.{largest};
-ghost use Rattle.tree.specs.Accepted.{MarkedTree};
-ghost use Rattle.pairing.specs.Outcome.{answer, paired};
-ghost use Rattle.pairing.specs.Storing.{Worked};
+ghost use Rattle.std.specs.Prelude.{◌≡◌, ℕ, ◌≤◌, length, Err, MatchResult};
+ghost use Rattle.pairing.specs.Outcome.{unpaired, answer, paired};
+ghost use Rattle.pairing.specs.Storing.{Made};
 
 use model::{Pair, Pairs, SITES};
-use tree::Offer;
+use tree::{AcceptedTree, Unfit};
+use tree_links::Chains;
 
-// What is said of an offered tree whose balanced capacities are to be decomposed into pairs.
-#[derive(Clone, Copy)]
-pub enum Pairing {
+// Why the capacities of an offered tree are not paired.
+#[derive(Clone, Copy, PartialEq, Eq, Debug)]
+pub enum Unpaired {
     // no tree of two or more sites within the limits, with a mark for each site
     NoTree,
     // a capacity above the limit
@@ -23,55 +22,34 @@ pub enum Pairing {
     Short,
     // a link that is larger than all other links of an inner site together
     Heavy,
-    // the first places hold the pairs, this many
-    Pairs { count: usize },
 }
 
-// What there is to say and to store: the pairs in the order in which they are made.
-#[derive(Clone, Copy)]
-struct Work {
-    answer: Pairing,
-    pairs: Pairs,
-}
+impl From<Unfit> for Unpaired {
+    ghost from_gives = { λ why result. result ≡ unpaired why };
 
-// A refusal, with nothing to store.
-fn refused(answer: Pairing) -> Work
-    ensures { (result.answer ≡ answer) × (result.pairs.count ≡ 0) }
-{
-    let none = Pair {
-        first: 0,
-        second: 0,
-        amount: 0,
-    };
-    let pairs = Pairs {
-        list: [none; SITES],
-        count: 0,
-    };
-    Work { answer, pairs }
-}
-
-// What is said of an accepted tree, where there are enough places, and its pairs.
-fn take_apart(n: usize, one: &[usize], two: &[usize], marks: &[u8], capacity: &[u64]) -> Work
-    requires { MarkedTree largest n one.now two.now marks.now capacity.now }
-    ensures { (places : ℕ) → length one.now ≤ places
-        → Worked n one.now two.now marks.now capacity.now places result }
-{
-    let chains = tree_links::chain(one, two);
-    let last = chains.last;
-    let before = chains.before;
-    let ends = tree_links::ends(n, &last, &before, one, two, marks);
-    if weighing::heavy(n, &ends, &last, &before, one, two, capacity) {
-        return refused(Pairing::Heavy);
-    }
-    let pairs = pairing_walk::decompose(n, &ends, &last, &before, one, two, capacity);
-    let count = pairs.count;
-    Work {
-        answer: Pairing::Pairs { count },
-        pairs,
+    fn from(why: Unfit) -> Unpaired {
+        match why {
+            Unfit::NoTree => Unpaired::NoTree,
+            Unfit::TooLarge => Unpaired::TooLarge,
+        }
     }
 }
 
-// What is said of an offer with so many lent places, and the pairs to store there.
+// The pairs of an accepted tree, where there are enough places, in the order in which they are made.
+fn take_apart(tree: AcceptedTree) -> Result<Pairs, Unpaired>
+    ensures { (places : ℕ) → length tree.entry.one.now ≤ places
+        → MatchResult result (Made tree.entry.sites tree.entry.one.now tree.entry.two.now tree.entry.marks.now tree.entry.capacity.now places)
+        (λ e. answer tree.entry.sites tree.entry.one.now tree.entry.two.now tree.entry.marks.now tree.entry.capacity.now places ≡ Err e) }
+{
+    let chains = Chains::of(tree);
+    let ends = chains.ends();
+    if weighing::heavy(&chains, &ends) {
+        return Err(Unpaired::Heavy);
+    }
+    Ok(pairing_walk::decompose(&chains, &ends, tree.capacity))
+}
+
+// The pairs of an offer with so many lent places, in the order in which they are made.
 fn work_out(
     n: usize,
     one: &[usize],
@@ -79,22 +57,24 @@ fn work_out(
     marks: &[u8],
     capacity: &[u64],
     places: usize,
-) -> Work
-    ensures { Worked n one.now two.now marks.now capacity.now places result }
+) -> Result<Pairs, Unpaired>
+    ensures { MatchResult result (Made n one.now two.now marks.now capacity.now places)
+        (λ e. answer n one.now two.now marks.now capacity.now places ≡ Err e) }
 {
-    match tree::test(n, one, two, marks, capacity) {
-        Offer::NoTree => refused(Pairing::NoTree),
-        Offer::TooLarge => refused(Pairing::TooLarge),
-        Offer::Accepted => {
-            if places < one.len() {
-                return refused(Pairing::Short);
-            }
-            take_apart(n, one, two, marks, capacity)
-        }
+    tree::test(n, one, two, marks, capacity)?;
+    if places < one.len() {
+        return Err(Unpaired::Short);
     }
+    take_apart(AcceptedTree {
+        sites: n,
+        one,
+        two,
+        marks,
+        capacity,
+    })
 }
 
-// Decomposes the balanced capacities of an offered tree into pairs, in order, in a lent list.
+// Decomposes the balanced capacities of an offered tree into pairs, in order, in a lent list, and returns how many there are.
 pub fn pair_up(
     n: usize,
     one: &[usize],
@@ -102,11 +82,11 @@ pub fn pair_up(
     marks: &[u8],
     capacity: &[u64],
     pairs: &mut [Pair],
-) -> Pairing
+) -> Result<usize, Unpaired>
     ensures { (result ≡ answer n one.now two.now marks.now capacity.now (length pairs.old))
         × (pairs.new ≡ paired n one.now two.now marks.now capacity.now pairs.old) }
 {
-    let done = work_out(n, one, two, marks, capacity, pairs.len());
-    pairing_order::store(pairs, done.pairs.list, done.pairs.count);
-    done.answer
+    let made = work_out(n, one, two, marks, capacity, pairs.len())?;
+    pairing_order::store(pairs, made.list, made.count);
+    Ok(made.count)
 }

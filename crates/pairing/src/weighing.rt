@@ -3,10 +3,10 @@ ghost use Rattle.std.specs.Prelude.{◌≡◌, ◌-◌, ◌≤◌, ltb};
 ghost use Rattle.model.specs.Limits.{SITES};
 ghost use Rattle.lists.specs.Numbers.{look};
 ghost use Rattle.tree.specs.Offer.{links};
-ghost use Rattle.tree_links.specs.Chains.{Chained, Limited};
 ghost use Rattle.pairing.specs.Weighing.Heavy.{heavy_at, heavy_somewhere};
 
-use model::{CHAINS, PLACES};
+use model::PLACES;
+use tree_links::Chains;
 
 // Whether a link of capacity t is larger than the other links have together at a site whose links have the sum.
 fn is_heavy(t: u64, sum: u64) -> bool
@@ -17,47 +17,32 @@ fn is_heavy(t: u64, sum: u64) -> bool
 }
 
 // Whether v is an inner site with a heavy link.
-fn heavy_at(
-    v: usize,
-    ends: &[u8; PLACES],
-    last: &[usize; PLACES],
-    before: &[usize; CHAINS],
-    one: &[usize],
-    two: &[usize],
-    capacity: &[u64],
-) -> bool
-    requires { (v ≤ SITES) × Chained one.now two.now last.now before.now × Limited one.now capacity.now }
-    ensures { result ≡ heavy_at (links one.now two.now) (look ends.now) (look capacity.now) v }
+fn heavy_at(chains: &Chains, v: usize, ends: &[u8; PLACES]) -> bool
+    requires { v ≤ SITES }
+    ensures { result ≡ heavy_at (links chains.now.tree.one.now chains.now.tree.two.now) (look ends.now) (look chains.now.tree.capacity.now) v }
 {
     if ends[v] == 1 {
         return false;
     }
-    let sum = tree_links::sum_at(v, last, before, one, two, capacity);
-    let mut p = last[v];
+    let capacity = chains.tree.capacity;
+    let sum = chains.sum_at(v, capacity);
+    let mut p = chains.last[v];
+    // Stays: the place goes on by links of the chain, not by one, so there is no range or iterator to go over.
     while 0 < p {
         if is_heavy(capacity[p - 1], sum) {
             return true;
         }
-        p = tree_links::link_before(v, p - 1, one, two, before);
+        p = chains.link_before(v, p - 1);
     }
     false
 }
 
 // Whether some inner site has a heavy link.
-pub fn heavy(
-    n: usize,
-    ends: &[u8; PLACES],
-    last: &[usize; PLACES],
-    before: &[usize; CHAINS],
-    one: &[usize],
-    two: &[usize],
-    capacity: &[u64],
-) -> bool
-    requires { (n ≤ SITES) × Chained one.now two.now last.now before.now × Limited one.now capacity.now }
-    ensures { result ≡ heavy_somewhere (links one.now two.now) n (look ends.now) (look capacity.now) }
+pub fn heavy(chains: &Chains, ends: &[u8; PLACES]) -> bool
+    ensures { result ≡ heavy_somewhere (links chains.now.tree.one.now chains.now.tree.two.now) chains.now.tree.sites (look ends.now) (look chains.now.tree.capacity.now) }
 {
-    for v in 1..n + 1 {
-        if heavy_at(v, ends, last, before, one, two, capacity) {
+    for v in 1..chains.tree.sites + 1 {
+        if heavy_at(chains, v, ends) {
             return true;
         }
     }

@@ -1,15 +1,15 @@
 -- A place in a list that stands in an array: what lies behind it, and the place some halves on.
 use mathlib.Core.Path.{◌≡◌, refl, ap, ◌∙◌}
-use mathlib.Core.List.{List, [], ◌∷◌}
+use mathlib.Core.List.{[], ◌∷◌}
 use Prim.Native.Nat.{ℕ, ◌+◌, ◌-◌, ◌≤◌, ◌<◌}
 use native.Mathlib.Omega.{arith}
-use Rattle.lists.specs.Numbers.{look}
+use lib.Seq.{slice}
 use Rattle.model.specs.Pairing.{Halves, put, halves}
 use native.Mathlib.Decide.{dec_lt}
 use Rattle.lists.specs.Sums.{pick_same, pick_other, pick_cases, same?, cases}
 use Rattle.theory_walk.specs.Halves.{Filled, put-filled}
 use Rattle.pairing_halves.specs.declared.Place.{Place}
-use Rattle.pairing_halves.specs.Arrays.{listed, opened, rest, Stands, Lies, onward}
+use Rattle.pairing_halves.specs.Arrays.{entry, opened, rest, Stands, Lies, onward}
 use Rattle.pairing_halves.proofs.Arrays.{stands_end, front_entry, front_rest, front_positive}
 use Rattle.pairing_halves.specs.Splits.{put_some}
 
@@ -24,18 +24,18 @@ opened-none [] f = refl
 opened-none (h ∷ l) f = let e : h.1 - 0 ≡ h.1 = omega arith in rw e (put_some h.0 h.1 l f.0)
 
 -- the start of a list
-pub lies_start : {a : List ℕ} {b e : ℕ} → Stands a b e → Lies a (record { at = b; gone = 0 }) e
+pub lies_start : {a : Halves} {b e : ℕ} → Stands a b e → Lies a (record { at = b; gone = 0 }) e
 lies_start s = record { stands = s; partly = λ l. front_positive s l }
 
 pub onward-at : (f : Place) (amount m : ℕ) → f.at ≤ (onward f amount m).at
 unfolding onward
 onward-at f amount m =
-    pick_cases (λ (g : Place). f.at ≤ g.at) (f.gone + m) amount (record { at = f.at + 2; gone = 0 }) (record { at = f.at; gone = f.gone + m })
+    pick_cases (λ (g : Place). f.at ≤ g.at) (f.gone + m) amount (record { at = f.at + 1; gone = 0 }) (record { at = f.at; gone = f.gone + m })
     (λ _. omega arith) (λ _. omega arith)
 
-module _ {a : List ℕ} {f : Place} {e : ℕ} (p : Lies a f e) where
+module _ {a : Halves} {f : Place} {e : ℕ} (p : Lies a f e) where
   pub rest-filled : Filled (rest a f e)
-  rest-filled = opened-filled f.gone (listed a f.at e) p.stands.filled
+  rest-filled = opened-filled f.gone (slice f.at e a) p.stands.filled
 
   pub rest_end : e ≤ f.at → rest a f e ≡ []
   unfolding opened
@@ -49,22 +49,22 @@ module _ {a : List ℕ} {f : Place} {e : ℕ} (p : Lies a f e) where
   module _ (l : f.at < e) where
     -- what the entry there still has
     abbrev pub still : ℕ
-    still = look a (f.at + 1) - f.gone
+    still = (entry a f.at).1 - f.gone
 
-    pub rest-front : rest a f e ≡ (look a f.at, still) ∷ listed a (f.at + 2) e
+    pub rest-front : rest a f e ≡ ((entry a f.at).0, still) ∷ slice (f.at + 1) e a
     unfolding opened
-    rest-front = ap (opened f.gone) (front_entry p.stands l) ∙ put_some (look a f.at) still (listed a (f.at + 2) e) (omega (arith, p.partly l))
+    rest-front = ap (opened f.gone) (front_entry p.stands l) ∙ put_some (entry a f.at).0 still (slice (f.at + 1) e a) (omega (arith, p.partly l))
 
-    pub onward_lies : (m : ℕ) → m ≤ still → Lies a (onward f (look a (f.at + 1)) m) e
+    pub onward_lies : (m : ℕ) → m ≤ still → Lies a (onward f (entry a f.at).1 m) e
     unfolding onward
-    onward_lies m h = same? (f.gone + m) (look a (f.at + 1))
+    onward_lies m h = same? (f.gone + m) (entry a f.at).1
         (λ q. rw (pick_same q) (lies_start (front_rest p.stands l)))
         (λ d. rw (pick_other d) (record { stands = p.stands; partly = λ _. omega (arith, p.partly l) }))
 
-    pub onward-rest : (m : ℕ) → m ≤ still → rest a (onward f (look a (f.at + 1)) m) e ≡ put (look a f.at) (still - m) (listed a (f.at + 2) e)
+    pub onward-rest : (m : ℕ) → m ≤ still → rest a (onward f (entry a f.at).1 m) e ≡ put (entry a f.at).0 (still - m) (slice (f.at + 1) e a)
     unfolding onward opened put
-    onward-rest m h = same? (f.gone + m) (look a (f.at + 1))
+    onward-rest m h = same? (f.gone + m) (entry a f.at).1
         (λ q. let none : still - m ≡ 0 = omega arith in
-        rw (pick_same q, none) (opened-none (listed a (f.at + 2) e) (front_rest p.stands l).filled))
-        (λ d. let less : look a (f.at + 1) - (f.gone + m) ≡ still - m = omega arith in
+        rw (pick_same q, none) (opened-none (slice (f.at + 1) e a) (front_rest p.stands l).filled))
+        (λ d. let less : (entry a f.at).1 - (f.gone + m) ≡ still - m = omega arith in
         rw (pick_other d, front_entry p.stands l, less))

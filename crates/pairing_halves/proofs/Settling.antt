@@ -3,15 +3,17 @@ use mathlib.Core.Path.{◌≡◌, sym, ap, ◌∙◌}
 use mathlib.Core.List.{List}
 use Prim.Native.Nat.{ℕ, ◌-◌}
 use native.Mathlib.Omega.{arith}
-use Rattle.model.specs.Pairing.{drop_halves, halves}
+use lib.Seq.{slice}
+use Rattle.model.specs.declared.Pair.{Pair}
+use Rattle.model.specs.Pairing.{Halves, drop_halves, halves}
 use Rattle.theory_walk.specs.Halves.{halves-drop}
 use Rattle.pairing_halves.specs.declared.Place.{Place}
 use Rattle.pairing_halves.specs.declared.Tops.{Tops}
-use Rattle.pairing_halves.specs.Arrays.{listed, rest, Cut, Matchable, Matching, Settling}
+use Rattle.pairing_halves.specs.Arrays.{rest, Cut, Matchable, Matching, Settling}
 
-module _ {u d p : List ℕ} {b e : Tops} {down : ℕ} {f : Place} (s : Settling u d p b e down) (c : Cut d b.downs e.downs down f) where
-  left : halves (rest d f e.downs) ≡ halves (listed d b.downs e.downs) - down
-  left = sym (ap halves c.after) ∙ halves-drop down (listed d b.downs e.downs)
+module _ {u d : Halves} {p : List Pair} {b e : Tops} {down : ℕ} {f : Place} (s : Settling u d p b e down) (c : Cut d b.downs e.downs down f) where
+  left : halves (rest d f e.downs) ≡ halves (slice b.downs e.downs d) - down
+  left = sym (ap halves c.after) ∙ halves-drop down (slice b.downs e.downs d)
 
   pub settling_matches : Matchable u b.ups d f p e
   settling_matches = record {
@@ -21,6 +23,6 @@ module _ {u d p : List ℕ} {b e : Tops} {down : ℕ} {f : Place} (s : Settling 
     room = rw (← c.after) s.room;
   }
 
-  pub settling_kept : {z : List ℕ} {g : Place} {k : ℕ} → Matching u b.ups d f p e z g k
-      → rest u g e.ups ≡ drop_halves (halves (listed d b.downs e.downs) - down) (listed u b.ups e.ups)
-  settling_kept m = m.left ∙ ap (λ x. drop_halves x (listed u b.ups e.ups)) left
+  pub settling_kept : {z : List Pair} {g : Place} {k : ℕ} → Matching u b.ups d f p e z g k
+      → rest u g e.ups ≡ drop_halves (halves (slice b.downs e.downs d) - down) (slice b.ups e.ups u)
+  settling_kept m = m.left ∙ ap (λ x. drop_halves x (slice b.ups e.ups u)) left

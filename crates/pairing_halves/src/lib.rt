@@ -1,12 +1,16 @@
-// Inner: lists of halves and of pairs in arrays of numbers: what the walk of pairing adds to them, and how those of a site are settled.
+// Inner: lists of halves and of pairs in arrays: what the walk of pairing adds to them, and how those of a site are settled.
 // Only the planner's own crates call it.
 #![tactic(auto)]
 
 ghost use Rattle.std.specs.Prelude.{◌≡◌, [], ◌∷◌, ◌+◌, ◌<◌, ◌≤◌, min, length};
 ghost use Rattle.std.proofs.Math.Seq.{slice};
-ghost use Rattle.lists.specs.Numbers.{look};
 ghost use Rattle.model.specs.Pairing.{put};
-ghost use Rattle.pairing_halves.specs.Arrays.{flat, Stands, Added, Kept, rest, Lies, still, onward, Cut, Fronts, Matchable, Matching, Settling, Settled};
+ghost use Rattle.pairing_halves.specs.Arrays.{entry, Stands, Added, Kept, rest, Lies, still, onward, Cut, Fronts, Matchable, Matching, Settling, Settled};
+
+use model::Pair;
+
+// An entry of a list of halves: a site, and how many halves go to it.
+pub type Half = (usize, u64);
 
 // A place in a list of halves: in the entry at `at`, after `gone` of its halves.
 #[derive(Clone, Copy)]
@@ -23,98 +27,93 @@ pub struct Tops {
     pub pairs: usize,
 }
 
-// The lesser of two amounts.
-pub fn lesser(a: u64, b: u64) -> u64
-    ensures { result ≡ min a b }
-{
-    if a < b { a } else { b }
-}
-
 // Adds an entry at the end of a list of halves, none for an amount of 0, and returns the new end.
-fn push(list: &mut [u64], end: usize, site: u64, amount: u64) -> usize
-    requires { end + 2 ≤ length list.old }
-    ensures { Added list.old end list.new result (flat (put site amount [])) }
+fn push(list: &mut [Half], end: usize, site: usize, amount: u64) -> usize
+    requires { end < length list.old }
+    ensures { Added list.old end list.new result (put site amount []) }
 {
     if amount == 0 {
         return end;
     }
-    list[end] = site;
-    list[end + 1] = amount;
-    end + 2
+    list[end] = (site, amount);
+    end + 1
 }
 
 // Adds a pair at the end of a list of pairs, where there is room, and returns the new end.
-pub fn push_pair(list: &mut [u64], end: usize, first: u64, second: u64, amount: u64) -> usize
-    requires { end + 3 ≤ length list.old }
-    ensures { Added list.old end list.new result (first ∷ second ∷ amount ∷ []) }
+pub fn push_pair(list: &mut [Pair], end: usize, pair: Pair) -> usize
+    requires { end < length list.old }
+    ensures { Added list.old end list.new result (pair ∷ []) }
 {
-    list[end] = first;
-    list[end + 1] = second;
-    list[end + 2] = amount;
-    end + 3
+    list[end] = pair;
+    end + 1
 }
 
 // What the entry at a place still has.
-fn left(list: &[u64], f: Place) -> u64
-    requires { (f.at + 2 ≤ length list.now) × (f.gone ≤ look list.now (f.at + 1)) }
+fn left(list: &[Half], f: Place) -> u64
+    requires { (f.at < length list.now) × (f.gone ≤ (entry list.now f.at).1) }
     ensures { result ≡ still list.now f }
 {
-    list[f.at + 1] - f.gone
+    list[f.at].1 - f.gone
 }
 
 // The place m halves on, in the entry at a place.
-fn spend(list: &[u64], f: Place, m: u64) -> Place
-    requires { (f.at + 2 ≤ length list.now) × (f.gone + m ≤ look list.now (f.at + 1)) }
-    ensures { result ≡ onward f (look list.now (f.at + 1)) m }
+fn spend(list: &[Half], f: Place, m: u64) -> Place
+    requires { (f.at < length list.now) × (f.gone + m ≤ (entry list.now f.at).1) }
+    ensures { result ≡ onward f (entry list.now f.at).1 m }
 {
-    if left(list, f) == m {
+    let amount = list[f.at].1;
+    let gone = f.gone + m;
+    if gone == amount {
         return Place {
-            at: f.at + 2,
+            at: f.at + 1,
             gone: 0,
         };
     }
-    Place {
-        at: f.at,
-        gone: f.gone + m,
-    }
+    Place { at: f.at, gone }
 }
 
 // The place k halves on in the list from `from` to `to`.
-fn find(list: &[u64], from: usize, to: usize, k: u64) -> Place
+fn find(list: &[Half], from: usize, to: usize, k: u64) -> Place
     requires { Stands list.now from to }
     ensures { Cut list.now from to k result }
 {
-    let mut at = from;
     let mut left = k;
-    while at < to {
-        let amount = list[at + 1];
+    for at in from..to {
+        let amount = list[at].1;
         if left < amount {
             return Place { at, gone: left };
         }
         left -= amount;
-        at += 2;
     }
-    Place { at, gone: 0 }
+    Place { at: to, gone: 0 }
 }
 
 // Pairs the entries at two places, by the lesser of the amounts that they still have, which is returned.
 fn pair_fronts(
-    ups: &[u64],
+    ups: &[Half],
     up: Place,
-    downs: &[u64],
+    downs: &[Half],
     down: Place,
-    pairs: &mut [u64],
+    pairs: &mut [Pair],
     end: usize,
 ) -> u64
-    requires { Fronts ups.now up downs.now down × (end + 3 ≤ length pairs.old) }
+    requires { Fronts ups.now up downs.now down × (end < length pairs.old) }
     ensures amount { result ≡ min (still ups.now up) (still downs.now down) }
-    ensures pair { Added pairs.old end pairs.new (end + 3)
-        (look ups.now up.at ∷ look downs.now down.at ∷ result ∷ []) }
+    ensures pair { Added pairs.old end pairs.new (end + 1)
+        (record { first = (entry ups.now up.at).0; second = (entry downs.now down.at).0; amount = result } ∷ []) }
 {
-    let amount = lesser(left(ups, up), left(downs, down));
-    let u = up.at;
-    let d = down.at;
-    push_pair(pairs, end, ups[u], downs[d], amount);
+    let amount = left(ups, up).min(left(downs, down));
+    let first = ups[up.at].0;
+    let second = downs[down.at].0;
+    push_pair(
+        pairs,
+        end,
+        Pair {
+            first,
+            second,
+            amount,
+        },
+    );
     amount
 }
 
@@ -128,11 +127,11 @@ struct Matched {
 // Pairs the up list from `from` on with the down list from a place on, from the left,
 // always the lesser of the two front amounts, until the down list ends.
 fn match_lists(
-    ups: &[u64],
+    ups: &[Half],
     from: usize,
-    downs: &[u64],
+    downs: &[Half],
     first: Place,
-    pairs: &mut [u64],
+    pairs: &mut [Pair],
     top: Tops,
 ) -> Matched
     requires { Matchable ups.now from downs.now first pairs.old top }
@@ -141,50 +140,48 @@ fn match_lists(
     let mut up = Place { at: from, gone: 0 };
     let mut down = first;
     let mut end = top.pairs;
+    // Stays: the place goes on within an entry or to the next, so there is no range or iterator to go over.
     while down.at < top.downs {
         let amount = pair_fronts(ups, up, downs, down, pairs, end);
         up = spend(ups, up, amount);
         down = spend(downs, down, amount);
-        end += 3;
+        end += 1;
     }
     Matched { place: up, end }
 }
 
-// Moves the numbers from `from` to `to` down to `base`, and returns their end.
-fn move_down(list: &mut [u64], from: usize, to: usize, base: usize) -> usize
+// Moves the entries from `from` to `to` down to `base`, and returns their end.
+fn move_down(list: &mut [Half], from: usize, to: usize, base: usize) -> usize
     requires { (base ≤ from) × (from ≤ to) × (to ≤ length list.old) }
     ensures { Added list.old base list.new result (slice from to list.old) }
 {
-    let mut i = from;
-    let mut end = base;
-    while i < to {
-        list[end] = list[i];
-        i += 1;
-        end += 1;
+    let gap = from - base;
+    for i in from..to {
+        list[i - gap] = list[i];
     }
-    end
+    to - gap
 }
 
 // Keeps what lies behind a place of the list that ends at `to`, from `base` on, and returns its end.
-fn keep_last(list: &mut [u64], place: Place, to: usize, base: usize) -> usize
+fn keep_last(list: &mut [Half], place: Place, to: usize, base: usize) -> usize
     requires { Lies list.old place to × (base ≤ place.at) }
-    ensures { Kept list.old to base list.new result (flat (rest list.old place to)) }
+    ensures { Kept list.old to base list.new result (rest list.old place to) }
 {
     let at = place.at;
     if to <= at {
         return base;
     }
-    list[at + 1] -= place.gone;
+    list[at].1 -= place.gone;
     move_down(list, at, to, base)
 }
 
 // Keeps the halves before a place in the entry there, and returns the new end of its list.
-fn keep_first(list: &mut [u64], place: Place) -> usize
-    requires { place.at + 2 ≤ length list.old }
-    ensures { Added list.old place.at list.new result (flat (put (look list.old place.at) place.gone [])) }
+fn keep_first(list: &mut [Half], place: Place) -> usize
+    requires { place.at < length list.old }
+    ensures { Added list.old place.at list.new result (put (entry list.old place.at).0 place.gone []) }
 {
     let at = place.at;
-    let site = list[at];
+    let site = list[at].0;
     push(list, at, site, place.gone)
 }
 
@@ -192,9 +189,9 @@ fn keep_first(list: &mut [u64], place: Place) -> usize
 // the first `down` halves of the down list stay, the others are matched with the up list, and what is left of that stays.
 pub fn settle(
     down: u64,
-    ups: &mut [u64],
-    downs: &mut [u64],
-    pairs: &mut [u64],
+    ups: &mut [Half],
+    downs: &mut [Half],
+    pairs: &mut [Pair],
     base: Tops,
     top: Tops,
 ) -> Tops
@@ -216,18 +213,18 @@ pub fn alone(
     site: usize,
     up: u64,
     down: u64,
-    ups: &mut [u64],
-    downs: &mut [u64],
+    ups: &mut [Half],
+    downs: &mut [Half],
     base: Tops,
 ) -> Tops
-    requires { (base.ups + 2 ≤ length ups.old) × (base.downs + 2 ≤ length downs.old) }
-    ensures ups { Added ups.old base.ups ups.new result.ups (flat (put site up [])) }
-    ensures downs { Added downs.old base.downs downs.new result.downs (flat (put site down [])) }
+    requires { (base.ups < length ups.old) × (base.downs < length downs.old) }
+    ensures ups { Added ups.old base.ups ups.new result.ups (put site up []) }
+    ensures downs { Added downs.old base.downs downs.new result.downs (put site down []) }
     ensures pairs { result.pairs ≡ base.pairs }
 {
     Tops {
-        ups: push(ups, base.ups, site as u64, up),
-        downs: push(downs, base.downs, site as u64, down),
+        ups: push(ups, base.ups, site, up),
+        downs: push(downs, base.downs, site, down),
         pairs: base.pairs,
     }
 }

@@ -9,18 +9,19 @@ use native.Mathlib.Nat.{mul-le-mul_right}
 use native.Mathlib.Numerals.{add-one}
 use lib.ListN.{length, get_or, set, take, length-set}
 use lib.Seq.{slice, slice_empty, slice-cons, get_or-set_same, take-set-lt, drop-set-lt}
-use Rattle.model.specs.Limits.{HALVES, NUMBERS, PLACES, SITES}
+use Rattle.model.specs.Limits.{PLACES, SITES}
 use Rattle.lists.specs.Numbers.{look, upfrom}
 use Rattle.lists.specs.Tallies.{tally}
 use Rattle.model.specs.Flows.{sum_at}
-use Rattle.model.specs.Pairing.{put, between, children, pairs_from, lowest_inner}
+use Rattle.model.specs.Pairing.{Halves, put, between, children, pairs_from, lowest_inner}
+use Rattle.model.specs.declared.Pair.{Pair}
 use Rattle.tree.specs.Offer.{links}
 use Rattle.theory_walk.specs.Children.{size, sizes}
 use Rattle.theory_walk.specs.Walk.{size-le}
 use Rattle.pairing_children.specs.Neighbours.{Comes}
 use Rattle.pairing_children.specs.Laws.{children_from_the_next, comes_link}
 use Rattle.pairing_halves.specs.declared.Tops.{Tops}
-use Rattle.pairing_halves.specs.Arrays.{flat, flat_pairs, Added, Settling, Settled}
+use Rattle.pairing_halves.specs.Arrays.{Added, Settling, Settled}
 use Rattle.pairing_halves.specs.Adding.{added-nothing}
 use Rattle.pairing_walk.specs.declared.Frame.{Frame}
 use Rattle.pairing_walk.specs.Visits.{walk_of, Visit, Visited, covered, untouched, Fit, parts_to}
@@ -34,9 +35,9 @@ use Rattle.pairing_walk.proofs.Visiting.{gathering_settles, gathering_settled, s
 -- what a site was entered with: the halves to send up, and the three arrays
 pub record Entry : Type 0 where
   pub up : ℕ
-  pub ups : List ℕ
-  pub downs : List ℕ
-  pub pairs : List ℕ
+  pub ups : Halves
+  pub downs : Halves
+  pub pairs : List Pair
 
 module _ (ends a b c : List ℕ) where
   abbrev sites : ℕ
@@ -50,25 +51,25 @@ module _ (ends a b c : List ℕ) where
     pub coming : Comes (links a b) f.site f.link past f.at f.next
 
   -- the arrays hold what the children before the child to come handed back
-  abbrev Gathered : ℕ → Frame → Entry → List ℕ → List ℕ → List ℕ → Tops → Type 0
+  abbrev Gathered : ℕ → Frame → Entry → Halves → Halves → List Pair → Tops → Type 0
   Gathered fuel f e u d p top =
       Gathering sites ends a b c fuel f.site f.link f.down e.ups e.downs e.pairs f.base u d p top f.rest f.next
 
   -- the arrays hold what the walk from site v hands back
-  abbrev Handed : ℕ → ℕ → ℕ → ℕ → Entry → Tops → List ℕ → List ℕ → List ℕ → Tops → Type 0
+  abbrev Handed : ℕ → ℕ → ℕ → ℕ → Entry → Tops → Halves → Halves → List Pair → Tops → Type 0
   Handed fuel v j down e base x y z r = Visited (walk_of sites ends a b c fuel v j e.up down) e.ups e.downs e.pairs base x y z r
 
-  module _ (root : ℕ) (pairs : List ℕ) where
+  module _ (root : ℕ) (pairs : List Pair) where
     -- what the walk from v hands back lets the frame before it go on, and so on to the root, whose pairs are those of its part
     unfoldable pub Waiting : List Frame → ℕ → ℕ → ℕ → ℕ → Entry → Tops → Type 0
     Waiting [] fuel v j down e base =
-        (x y z : List ℕ) (r : Tops) → Handed fuel v j down e base x y z r → Ended ends a b c pairs root z r
+        (x y : Halves) (z : List Pair) (r : Tops) → Handed fuel v j down e base x y z r → Ended ends a b c pairs root z r
     Waiting (f ∷ fs) fuel v j down e base =
-        (o : Entry) × Open fuel f o × ((x y z : List ℕ) (r : Tops) → Handed fuel v j down e base x y z r → Gathered fuel f o x y z r)
+        (o : Entry) × Open fuel f o × ((x y : Halves) (z : List Pair) (r : Tops) → Handed fuel v j down e base x y z r → Gathered fuel f o x y z r)
         × Waiting fs (suc fuel) f.site f.link f.down o f.base
 
     -- the walk at frame f, with the frames fs waiting
-    pub record Walking (fs : List Frame) (level : ℕ) (f : Frame) (u d p : List ℕ) (top : Tops) : Type 0 where
+    pub record Walking (fs : List Frame) (level : ℕ) (f : Frame) (u d : Halves) (p : List Pair) (top : Tops) : Type 0 where
       pub fuel : ℕ
       pub levelled : level ≡ suc fuel
       pub entry : Entry
@@ -83,7 +84,7 @@ module _ (ends a b c : List ℕ) where
 module _ {ends a b c : List ℕ} where
   -- ---- a site that is entered
 
-  module _ {fuel v j up down : ℕ} {u d p : List ℕ} {top : Tops} (W : Visit (suc (length a)) ends a b c (suc fuel) v j up down u d p top)
+  module _ {fuel v j up down : ℕ} {u d : Halves} {p : List Pair} {top : Tops} (W : Visit (suc (length a)) ends a b c (suc fuel) v j up down u d p top)
       (inner : look ends v ≢ 1) {f : Frame} (E : Entered (links a b) (sum_at (links a b) v (look c)) v j down top f) where
     abbrev entered : Entry
     entered = record { up = up; ups = u; downs = d; pairs = p }
@@ -108,9 +109,9 @@ module _ {ends a b c : List ℕ} where
     enter-turns = rw (E.site, E.link) (omega (arith, size_below W, ap (sizes (links a b) (suc (length a))) all_come))
 
   -- the walk starts at a root, with nothing in the lists of ups and downs
-  pub walking_starts : (w : Fit (suc (length a)) ends a b c) {root level : ℕ} {u d p : List ℕ} {top : Tops}
+  pub walking_starts : (w : Fit (suc (length a)) ends a b c) {root level : ℕ} {u d : Halves} {p : List Pair} {top : Tops}
       → Visit (suc (length a)) ends a b c (suc (length a)) root (length a) 0 0 u d p top → look ends root ≢ 1
-      → level ≡ suc (length a) → {f : Frame} → Entered (links a b) (sum_at (links a b) root (look c)) root (length a) 0 top f → {p₀ : List ℕ} {r : ℕ} → Ended ends a b c p₀ r p top
+      → level ≡ suc (length a) → {f : Frame} → Entered (links a b) (sum_at (links a b) root (look c)) root (length a) 0 top f → {p₀ : List Pair} {r : ℕ} → Ended ends a b c p₀ r p top
       → parts_to root ends a b c ≡ parts_to r ends a b c ++ pairs_from (links a b) (suc (length a)) (look c) (look ends) root
       → Walking ends a b c root p₀ [] level f u d p top
   unfolding Waiting
@@ -123,7 +124,7 @@ module _ {ends a b c : List ℕ} where
     waiting = rw (E.site, E.link, E.comes, E.from) (λ x y z r q. root_ended w o W more q);
   }
 
-  module _ {root : ℕ} {pairs : List ℕ} {fs : List Frame} {level : ℕ} {f : Frame} {u d p : List ℕ} {top : Tops} where
+  module _ {root : ℕ} {pairs : List Pair} {fs : List Frame} {level : ℕ} {f : Frame} {u d : Halves} {p : List Pair} {top : Tops} where
     -- ---- a child to come
 
     module _ (w : Walking ends a b c root pairs fs level f u d p top) (some : f.next < PLACES) where
@@ -164,7 +165,7 @@ module _ {ends a b c : List ℕ} where
           coming = rw (P.site, P.link) P.next;
         }
 
-        pass-gathers : {x y z : List ℕ} {r : Tops} → Visited (walk_of (suc (length a)) ends a b c w.fuel f.next k up down) u d p top x y z r
+        pass-gathers : {x y : Halves} {z : List Pair} {r : Tops} → Visited (walk_of (suc (length a)) ends a b c w.fuel f.next k up down) u d p top x y z r
             → Gathered ends a b c w.fuel g w.entry x y z r
         pass-gathers q = rw (P.site, P.link, P.comes, P.from, P.remains)
             (gathering_goes_on w.gathered w.opened.visit k is-k joined.0 joined.1 g.next later q)
@@ -177,8 +178,8 @@ module _ {ends a b c : List ℕ} where
             (omega (arith, split w.gathered w.opened.visit k is-k joined.0 joined.1, ap (sizes (links a b) (suc (length a))) later))
 
         -- a terminal is added
-        pub walking_adds : look ends f.next ≡ 1 → {x y : List ℕ} {r : Tops} → Added u top.ups x r.ups (flat (put f.next up []))
-            → Added d top.downs y r.downs (flat (put f.next down [])) → r.pairs ≡ top.pairs
+        pub walking_adds : look ends f.next ≡ 1 → {x y : Halves} {r : Tops} → Added u top.ups x r.ups (put f.next up [])
+            → Added d top.downs y r.downs (put f.next down []) → r.pairs ≡ top.pairs
             → Walking ends a b c root pairs fs level g x y p r
         walking_adds e q s t = record {
           fuel = w.fuel;
@@ -218,14 +219,14 @@ module _ {ends a b c : List ℕ} where
       pub walking_settles : Settling u d p f.base top f.down
       walking_settles = gathering_settles w.opened.visit w.opened.inner w.gathered all_past
 
-      pub settles_handed : {x y z : List ℕ} {r : Tops} → Settled u d p f.base top f.down x y z r
+      pub settles_handed : {x y : Halves} {z : List Pair} {r : Tops} → Settled u d p f.base top f.down x y z r
           → Handed ends a b c (suc w.fuel) f.site f.link f.down w.entry f.base x y z r
       settles_handed q = gathering_settled w.opened.visit w.opened.inner w.gathered all_past q
 
-  module _ {root : ℕ} {pairs : List ℕ} {level : ℕ} {f : Frame} {u d p : List ℕ} {top : Tops} where
+  module _ {root : ℕ} {pairs : List Pair} {level : ℕ} {f : Frame} {u d : Halves} {p : List Pair} {top : Tops} where
     -- the frame before it goes on
     pub walking_returns : {g : Frame} {fs : List Frame} (w : Walking ends a b c root pairs (g ∷ fs) level f u d p top) → PLACES ≤ f.next
-        → {x y z : List ℕ} {r : Tops} → Settled u d p f.base top f.down x y z r → Walking ends a b c root pairs fs (suc level) g x y z r
+        → {x y : Halves} {z : List Pair} {r : Tops} → Settled u d p f.base top f.down x y z r → Walking ends a b c root pairs fs (suc level) g x y z r
     unfolding Waiting
     walking_returns w none {x} {y} {z} {r} q = let o = w.waiting in record {
       fuel = suc w.fuel;
@@ -238,7 +239,7 @@ module _ {ends a b c : List ℕ} where
 
     -- the walk ends
     pub walking_ends : (w : Walking ends a b c root pairs [] level f u d p top) → PLACES ≤ f.next
-        → {x y z : List ℕ} {r : Tops} → Settled u d p f.base top f.down x y z r
+        → {x y : Halves} {z : List Pair} {r : Tops} → Settled u d p f.base top f.down x y z r
         → Ended ends a b c pairs root z r
     unfolding Waiting
     walking_ends w none {x} {y} {z} {r} q = w.waiting x y z r (settles_handed w none q)
@@ -260,15 +261,15 @@ module _ (ends a b c : List ℕ) where
   abbrev pub owed : ℕ → ℕ → Frame → List Frame → ℕ
   owed r level f fs = beyond r + turns ends a b c f + tally (turns ends a b c) (slice (suc level) (suc (suc (length a))) fs)
 
-  module _ (u₀ d₀ p₀ : List ℕ) where
+  module _ (u₀ d₀ : Halves) (p₀ : List Pair) where
     -- the three arrays are as long as they were
-    pub record Long (u d p : List ℕ) : Type 0 where
+    pub record Long (u d : Halves) (p : List Pair) : Type 0 where
       pub ups : length u ≡ length u₀
       pub downs : length d ≡ length d₀
       pub pairs : length p ≡ length p₀
 
     -- the walk from a root at a frame, with the frames above its level waiting
-    pub record Framed (u d p done : List ℕ) (level root : ℕ) (top : Tops) (f : Frame) (fs : List Frame) : Type 0 where
+    pub record Framed (u d : Halves) (p : List Pair) (done : List ℕ) (level root : ℕ) (top : Tops) (f : Frame) (fs : List Frame) : Type 0 where
       pub walking : Walking ends a b c root p₀ (slice (suc level) (suc (suc (length a))) fs) level f u d p top
       pub marked : Marked (links a b) (suc (length a)) (look ends) (f ∷ slice (suc level) (suc (suc (length a))) fs) root done
       pub levels : level ≤ suc (length a)
@@ -277,15 +278,15 @@ module _ (ends a b c : List ℕ) where
       pub long : Long u d p
 
     -- after the walk from root r, before that from the next
-    pub record Between (u d p done : List ℕ) (r : ℕ) (top : Tops) : Type 0 where
+    pub record Between (u d : Halves) (p : List Pair) (done : List ℕ) (r : ℕ) (top : Tops) : Type 0 where
       pub ended : Ended ends a b c p₀ r p top
       pub marked : Marked (links a b) (suc (length a)) (look ends) [] r done
       pub roots : r ≤ suc (length a)
       pub long : Long u d p
 
 -- before the first
-pub between-starts : (ends a b c u d p : List ℕ) → Between ends a b c u d p u d p untouched 0 bottom
-unfolding upfrom flat_map flat_pairs
+pub between-starts : (ends a b c : List ℕ) (u d : Halves) (p : List Pair) → Between ends a b c u d p u d p untouched 0 bottom
+unfolding upfrom flat_map
 between-starts ends a b c u d p = record {
   ended = record { ups = refl; downs = refl; pairs = added-nothing p 0 };
   marked = marked-starts (links a b) (suc (length a)) (look ends);
@@ -293,21 +294,21 @@ between-starts ends a b c u d p = record {
   long = record { ups = refl; downs = refl; pairs = refl };
 }
 
-module _ {ends a b c : List ℕ} {u₀ d₀ p₀ : List ℕ} where
+module _ {ends a b c : List ℕ} {u₀ d₀ : Halves} {p₀ : List Pair} where
   -- ---- the next root
 
-  module _ (w : Fit (suc (length a)) ends a b c) {u d p done : List ℕ} {r : ℕ} {top : Tops}
+  module _ (w : Fit (suc (length a)) ends a b c) {u d : Halves} {p : List Pair} {done : List ℕ} {r : ℕ} {top : Tops}
       (B : Between ends a b c u₀ d₀ p₀ u d p done r top) where
     -- there is none
     pub between-all : 0 ≡ lowest_inner (covered (look ends) done) (suc r) (suc (length a) - r)
-        → Added p₀ 0 p top.pairs (flat_pairs (parts_to (suc (length a)) ends a b c))
+        → Added p₀ 0 p top.pairs (parts_to (suc (length a)) ends a b c)
     between-all e = rw (no_more w.tree.tree B.marked (look c) e B.roots) B.ended.pairs
 
     module _ {q : ℕ} (low : q ≡ lowest_inner (covered (look ends) done) (suc r) (suc (length a) - r)) (some : q ≢ 0) where
       pub root-site : q ≤ SITES
       root-site = omega (arith, next-site w.tree.tree B.marked low some, w.tree.few)
 
-      module _ (hu : HALVES ≤ length u₀) (hd : HALVES ≤ length d₀) (hp : 2 * NUMBERS ≤ length p₀) {f : Frame}
+      module _ (hu : SITES ≤ length u₀) (hd : SITES ≤ length d₀) (hp : 2 * SITES ≤ length p₀) {f : Frame}
           (E : Entered (links a b) (sum_at (links a b) q (look c)) q (length a) 0 top f) where
         visited : Visit (suc (length a)) ends a b c (suc (length a)) q (length a) 0 0 u d p top
         visited =
@@ -345,15 +346,15 @@ module _ {ends a b c : List ℕ} {u₀ d₀ p₀ : List ℕ} where
 
   -- ---- a turn
 
-  module _ {u d p done : List ℕ} {level root : ℕ} {top : Tops} {f : Frame} {fs : List Frame}
+  module _ {u d : Halves} {p : List Pair} {done : List ℕ} {level root : ℕ} {top : Tops} {f : Frame} {fs : List Frame}
       (F : Framed ends a b c u₀ d₀ p₀ u d p done level root top f fs) where
     pub few : (level ≤ suc (length a)) × (suc (length a) < PLACES) × (1 ≤ level)
     few = (F.levels, omega (arith, F.walking.opened.visit.tree.few), omega (arith, F.walking.levelled))
 
     module _ (some : f.next < PLACES) {g : Frame} (P : Passed (links a b) f (sent (look c) f) g) where
-      pub framed_adds : look ends f.next ≡ 1 → {x y : List ℕ} {r : Tops}
-          → Added u top.ups x r.ups (flat (put f.next (sent (look c) f) []))
-          → Added d top.downs y r.downs (flat (put f.next (2 * look c (over f) - sent (look c) f) []))
+      pub framed_adds : look ends f.next ≡ 1 → {x y : Halves} {r : Tops}
+          → Added u top.ups x r.ups (put f.next (sent (look c) f) [])
+          → Added d top.downs y r.downs (put f.next (2 * look c (over f) - sent (look c) f) [])
           → r.pairs ≡ top.pairs → Framed ends a b c u₀ d₀ p₀ x y p done level root r g fs
       framed_adds e q s t = record {
         walking = walking_adds F.walking some P e q s t;
@@ -389,7 +390,7 @@ module _ {ends a b c : List ℕ} {u₀ d₀ p₀ : List ℕ} where
         unfolding tally
         enters_owed = rw below (omega (arith, enters_turns F.walking some P inner E))
 
-    module _ (none : PLACES ≤ f.next) {x y z : List ℕ} {r : Tops} (q : Settled u d p f.base top f.down x y z r) where
+    module _ (none : PLACES ≤ f.next) {x y : Halves} {z : List Pair} {r : Tops} (q : Settled u d p f.base top f.down x y z r) where
       left : Marked (links a b) (suc (length a)) (look ends) (slice (suc level) (suc (suc (length a))) fs) root done
       left = marked-leaves F.walking.opened.visit.tree.tree F.marked (omega (arith, few))
 

@@ -2,6 +2,5 @@ pub mod Marks
 pub mod Visiting
 pub mod Roots
 pub mod Framing
-pub mod Reading
 pub mod Singles
 pub mod Tests

@@ -1,16 +1,17 @@
--- The pairs of the single links, after those of the other parts: the pair of one link, and never more pairs than links in all. All the numbers then spell the
--- pairs of the parts.
-use mathlib.Core.Path.{◌≡◌, refl, sym, ap, ◌∙◌}
+-- The pairs of the single links, after those of the other parts: the pair of one link, and never more pairs than links in all. All together are the pairs of the
+-- parts.
+use mathlib.Core.Path.{◌≡◌, refl, ◌∙◌}
 use mathlib.Core.Logic.{◌≢◌}
 use mathlib.Core.List.{List, [], ◌∷◌, ◌++◌}
-use Prim.Native.Nat.{ℕ, suc, ◌+◌, ◌*◌, ◌≤◌}
+use Prim.Native.Nat.{ℕ, suc, ◌+◌, ◌*◌, ◌≤◌, ◌<◌}
 use native.Mathlib.Omega.{arith}
 use native.Mathlib.Numerals.{add-one}
 use lib.ListN.{length, take, length-append}
-use Rattle.model.specs.Limits.{NUMBERS, SITES}
+use Rattle.model.specs.Limits.{SITES}
 use Rattle.lists.specs.Numbers.{look}
 use Rattle.lists.specs.Sums.{pick_same, pick_other, pick_cases, is_same, is-other}
 use Rattle.model.specs.Flows.{one, two}
+use Rattle.model.specs.declared.Pair.{Pair}
 use Rattle.model.specs.Pairing.{put, give}
 use Rattle.model.specs.Parts.{single, pair_of_link, pairs_of_parts}
 use Rattle.tree.specs.Offer.{links}
@@ -19,11 +20,10 @@ use Rattle.tree_links.specs.Chains.{offer-placed}
 use Rattle.theory_walk.specs.PartsLoops.{flat-next}
 use Rattle.theory_walk.proofs.PartsLoops.{few_after_links}
 use Rattle.theory_walk.specs.PartsTheorem.{pairs_of_parts_are_sound}
-use Rattle.pairing_halves.specs.Arrays.{flat_pairs, Added}
-use Rattle.pairing_halves.specs.Adding.{pairs-append, length_pairs, added_more}
+use Rattle.pairing_halves.specs.Arrays.{Added}
+use Rattle.pairing_halves.specs.Adding.{added_more}
 use Rattle.pairing_halves.specs.Splits.{put_some}
-use Rattle.pairing_walk.specs.Visits.{Walkable, Linkable, Singles, parts_to, singles_to, pair_of, pairs_of, spelled, Spells}
-use Rattle.pairing_walk.proofs.Reading.{spelled-flat}
+use Rattle.pairing_walk.specs.Visits.{Fit, Linkable, Singles, parts_to, singles_to, pair_of, pairs_of}
 
 -- ---- one link
 
@@ -52,11 +52,12 @@ module _ {j : ℕ} {a b c : List ℕ} (L : Linkable j a b c) (ends : List ℕ) w
   no_amount e = pick_cases (λ l. l ≡ []) (single (links a b) (look ends) j) 1 (give (one (links a b) j) (put (two (links a b) j) (2 * look c j) [])) []
       (λ _. rw e) (λ _. refl)
 
-  pub its_pair : look ends (look a j) ≡ 1 → look ends (look b j) ≡ 1 → 1 ≤ look c j → flat_pairs (pair_of ends a b c j) ≡ look a j ∷ look b j ∷ 2 * look c j ∷ []
-  unfolding pair_of_link single give flat_pairs
+  pub its_pair : look ends (look a j) ≡ 1 → look ends (look b j) ≡ 1 → 1 ≤ look c j
+      → pair_of ends a b c j ≡ record { first = look a j; second = look b j; amount = 2 * look c j } ∷ []
+  unfolding pair_of_link single give
   its_pair e f h =
       let both : single (links a b) (look ends) j ≡ 1 = rw (first, second, is_same e, is_same f) (omega arith) in
-      ap flat_pairs (pick_same both (give (one (links a b) j) (put (two (links a b) j) (2 * look c j) [])) [])
+      pick_same both (give (one (links a b) j) (put (two (links a b) j) (2 * look c j) [])) []
       ∙ rw (first, second, put_some (look b j) (2 * look c j) [] (omega arith))
 
 -- ---- one after the other
@@ -66,8 +67,8 @@ module _ {ends a b c : List ℕ} {e : ℕ} (S : Singles ends a b c e) where
   number = length-links a b (omega (arith, S.tree.firsts, S.tree.seconds))
 
   -- room for one more
-  pub singles_room : {p z : List ℕ} {o : ℕ} (j : ℕ) → Added p e z o (flat_pairs (singles_to j ends a b c)) → j ≤ length a → 2 * NUMBERS ≤ length p
-      → o + 3 ≤ length z
+  pub singles_room : {p z : List Pair} {o : ℕ} (j : ℕ) → Added p e z o (singles_to j ends a b c) → j ≤ length a → 2 * SITES ≤ length p
+      → o < length z
   singles_room j q l h = omega (
     arith,
     S.walked,
@@ -75,54 +76,47 @@ module _ {ends a b c : List ℕ} {e : ℕ} (S : Singles ends a b c e) where
     q.below.ends,
     q.below.as_long,
     number,
-    length_pairs (singles_to j ends a b c),
     length-append (parts_to (suc (length a)) ends a b c) (singles_to j ends a b c),
     few_after_links S.tree.tree (look ends) (look c) S.balanced j (omega (arith, number)),
   )
 
-  pub singles_next : {p z y : List ℕ} {o s : ℕ} (j : ℕ) → Added p e z o (flat_pairs (singles_to j ends a b c)) → Added z o y s (flat_pairs (pair_of ends a b c j))
-      → Added p e y s (flat_pairs (singles_to (j + 1) ends a b c))
+  pub singles_next : {p z y : List Pair} {o s : ℕ} (j : ℕ) → Added p e z o (singles_to j ends a b c) → Added z o y s (pair_of ends a b c j)
+      → Added p e y s (singles_to (j + 1) ends a b c)
   singles_next j q r =
       let here : 0 + j ≡ j = omega arith in
-      let more : flat_pairs (singles_to (suc j) ends a b c) ≡ flat_pairs (singles_to j ends a b c) ++ flat_pairs (pair_of ends a b c j)
-      = ap flat_pairs (rw here at (flat-next (pair_of ends a b c) 0 j)) ∙ pairs-append (singles_to j ends a b c) (pair_of ends a b c j) in
+      let more : singles_to (suc j) ends a b c ≡ singles_to j ends a b c ++ pair_of ends a b c j = rw here at (flat-next (pair_of ends a b c) 0 j) in
       rw (add-one j, more) (added_more q r)
 
 -- ---- all pairs
 
-module _ {n : ℕ} {ends last before a b c : List ℕ} (w : Walkable n ends last before a b c) where
-  pub all_walkable : Walkable (suc (length a)) ends last before a b c
-  all_walkable = rw w.tree.firsts at w
+module _ {n : ℕ} {ends a b c : List ℕ} (w : Fit n ends a b c) where
+  pub all_fit : Fit (suc (length a)) ends a b c
+  all_fit = rw w.tree.firsts at w
 
-  module _ {p z : List ℕ} {e : ℕ} (q : Added p 0 z e (flat_pairs (parts_to (suc (length a)) ends a b c))) where
+  module _ {p z : List Pair} {e : ℕ} (q : Added p 0 z e (parts_to (suc (length a)) ends a b c)) where
     pub singles_start : Singles ends a b c e
     singles_start = record {
-      tree = all_walkable.tree;
+      tree = all_fit.tree;
       balanced = w.balanced;
-      walked = omega (arith, q.below.ends, length_pairs (parts_to (suc (length a)) ends a b c));
+      walked = omega (arith, q.below.ends);
     }
 
-    pub all-added : {y : List ℕ} {o : ℕ} → Added z e y o (flat_pairs (singles_to (length a) ends a b c)) → Added p 0 y o (flat_pairs (pairs_of n ends a b c))
+    pub all-added : {y : List Pair} {o : ℕ} → Added z e y o (singles_to (length a) ends a b c) → Added p 0 y o (pairs_of n ends a b c)
     unfolding pairs_of_parts
     all-added r =
         rw (
           w.tree.firsts,
           length-links a b (omega (arith, w.tree.firsts, w.tree.seconds)),
-          pairs-append (parts_to (suc (length a)) ends a b c) (singles_to (length a) ends a b c),
         ) (added_more q r)
 
-  -- the numbers of the pairs spell them, and they are few
-  module _ {p z : List ℕ} {e : ℕ} (h : NUMBERS ≤ length p) (q : Added p 0 z e (flat_pairs (pairs_of n ends a b c))) where
-    pub pairs-spelled : spelled (take e z) ≡ pairs_of n ends a b c
-    pairs-spelled = ap spelled q.below.held ∙ spelled-flat (pairs_of n ends a b c)
-
-    pub pairs_spell : Spells z e
-    pairs_spell =
+  -- the pairs are few, and are the first in the list
+  module _ {p z : List Pair} {e : ℕ} (h : SITES ≤ length p) (q : Added p 0 z e (pairs_of n ends a b c)) where
+    pub pairs_inside : (e ≤ SITES) × (e ≤ length z)
+    pairs_inside =
         let few = (pairs_of_parts_are_sound w.tree.tree (look ends) (look c) w.balanced).few in
-        let long = length_pairs (pairs_of n ends a b c) in
         let number = length-links a b (omega (arith, w.tree.firsts, w.tree.seconds)) in
-        record {
-          few = omega (arith, q.below.ends, few, long, number, w.tree.firsts, w.tree.few);
-          inside = omega (arith, q.below.ends, q.below.as_long, few, long, number, w.tree.firsts, w.tree.few);
-          whole = q.below.held ∙ sym (ap flat_pairs pairs-spelled);
-        }
+        let inside : e ≤ SITES = omega (arith, q.below.ends, few, number, w.tree.firsts, w.tree.few) in
+        (inside, omega (arith, q.below.as_long))
+
+    pub pairs-first : take e z ≡ pairs_of n ends a b c
+    pairs-first = q.below.held

@@ -7,7 +7,9 @@ use native.Mathlib.Omega.{arith}
 use lib.ListN.{length, length-append}
 use Rattle.lists.specs.Numbers.{look}
 use Rattle.model.specs.Flows.{Links, sum_at}
-use Rattle.model.specs.Pairing.{Part, nothing, join, put, drop_halves, halves, match, between, children, gather, alone, settle}
+use lib.Seq.{slice}
+use Rattle.model.specs.declared.Pair.{Pair}
+use Rattle.model.specs.Pairing.{Halves, Part, nothing, join, put, drop_halves, halves, match, between, children, gather, alone, settle}
 use Rattle.tree.specs.Offer.{links}
 use Rattle.lists.specs.Tallies.{tally}
 use Rattle.theory_walk.specs.Halves.{Filled, halves-drop, drop_thins, thinned_filled}
@@ -18,24 +20,23 @@ use Rattle.theory_walk.specs.Bounds.{walk_short, gather_short}
 use Rattle.theory_walk.proofs.Bounds.{gather-filled, walk-filled}
 use Rattle.theory_walk.proofs.Steps.{walk-terminal, walk_inner, gather-push}
 use Rattle.pairing_halves.specs.declared.Tops.{Tops}
-use Rattle.pairing_halves.specs.Arrays.{flat, flat_pairs, listed, Added, Settling, Settled}
+use Rattle.pairing_halves.specs.Arrays.{Added, Settling, Settled}
 use Rattle.pairing_walk.specs.Visits.{walk_of, Visit, Visited}
-use Rattle.pairing_halves.specs.Adding.{flat_append, pairs-append, length-flat, length_pairs, held-nothing, held_more, held-again, held-listed, held_stands}
+use Rattle.pairing_halves.specs.Adding.{held-nothing, held_more, held-again, held-slice, held_stands}
 use Rattle.pairing_halves.specs.Adding.{added-nothing, added_more}
 use Rattle.pairing_halves.specs.Splits.{match-enough}
 
 -- ---- the arrays
 
-pub visited-nothing : (u d p : List ℕ) (b : Tops) → Visited nothing u d p b u d p b
-unfolding flat flat_pairs
+pub visited-nothing : (u d : Halves) (p : List Pair) (b : Tops) → Visited nothing u d p b u d p b
 visited-nothing u d p b = record { ups = held-nothing u b.ups; downs = held-nothing d b.downs; pairs = added-nothing p b.pairs }
 
-visited_more : {w w' : Part} {u d p x y z x' y' z' : List ℕ} {b r r' : Tops} → Visited w u d p b x y z r → Visited w' x y z r x' y' z' r'
+visited_more : {w w' : Part} {u d x y x' y' : Halves} {p z z' : List Pair} {b r r' : Tops} → Visited w u d p b x y z r → Visited w' x y z r x' y' z' r'
     → Visited (join w w') u d p b x' y' z' r'
-visited_more {w} {w'} v v' = record {
-  ups = rw (flat_append w.ups w'.ups) (held_more v.ups v'.ups);
-  downs = rw (flat_append w.downs w'.downs) (held_more v.downs v'.downs);
-  pairs = rw (pairs-append w.pairs w'.pairs) (added_more v.pairs v'.pairs);
+visited_more v v' = record {
+  ups = held_more v.ups v'.ups;
+  downs = held_more v.downs v'.downs;
+  pairs = added_more v.pairs v'.pairs;
 }
 
 join-nothing : (w : Part) → join w nothing ≡ w
@@ -53,7 +54,7 @@ whole n ends a b c fuel v j down =
     gather (λ x k s o. walk_of n ends a b c fuel x k s o) (look c) (sum_at (links a b) v (look c) - down) (children (links a b) v j 1 n)
 
 -- the children of v below site x are gathered in the arrays, with `rest` halves still to be sent up by the others
-pub record Gathering (n : ℕ) (ends a b c : List ℕ) (fuel v j down : ℕ) (u d p : List ℕ) (base : Tops) (u' d' p' : List ℕ) (top : Tops)
+pub record Gathering (n : ℕ) (ends a b c : List ℕ) (fuel v j down : ℕ) (u d : Halves) (p : List Pair) (base : Tops) (u' d' : Halves) (p' : List Pair) (top : Tops)
     (rest x : ℕ) : Type 0 where
   pub part : Part
   pub held : Visited part u d p base u' d' p' top
@@ -63,7 +64,7 @@ pub record Gathering (n : ℕ) (ends a b c : List ℕ) (fuel v j down : ℕ) (u 
   pub downs_fit : length part.downs + ahead n (links a b) v j x ≤ ahead n (links a b) v j 1
   pub pairs_fit : length part.pairs + ahead n (links a b) v j x ≤ ahead n (links a b) v j 1
 
-pub gathering_starts : (n : ℕ) (ends a b c : List ℕ) (fuel v j down : ℕ) (u d p : List ℕ) (base : Tops)
+pub gathering_starts : (n : ℕ) (ends a b c : List ℕ) (fuel v j down : ℕ) (u d : Halves) (p : List Pair) (base : Tops)
     → Gathering n ends a b c fuel v j down u d p base u d p base (sum_at (links a b) v (look c) - down) 1
 gathering_starts n ends a b c fuel v j down u d p base =
     let all : suc n - 1 ≡ n = omega arith in
@@ -77,7 +78,7 @@ gathering_starts n ends a b c fuel v j down u d p base =
     }
 
 -- a site and the subtrees of its children
-pub size_below : {n : ℕ} {ends a b c : List ℕ} {fuel v j up down : ℕ} {u d p : List ℕ} {base : Tops}
+pub size_below : {n : ℕ} {ends a b c : List ℕ} {fuel v j up down : ℕ} {u d : Halves} {p : List Pair} {base : Tops}
     → Visit n ends a b c fuel v j up down u d p base
     → size (links a b) n j v ≡ 1 + ahead n (links a b) v j 1
 size_below {n} {ends = ends} {a = a} {b = b} {c = c} {v = v} {j = j} {up = up} {down = down} W =
@@ -85,7 +86,7 @@ size_below {n} {ends = ends} {a = a} {b = b} {c = c} {v = v} {j = j} {up = up} {
     rw all (size-children W.tree.tree v j (start-entered (links a b) (look c) (look ends) j v up down W.start) W.site)
 
 -- sites that are no children change nothing
-pub gathering_passes : {n : ℕ} {ends a b c : List ℕ} {fuel v j down : ℕ} {u d p : List ℕ} {base : Tops} {u' d' p' : List ℕ} {top : Tops} {rest x : ℕ}
+pub gathering_passes : {n : ℕ} {ends a b c : List ℕ} {fuel v j down : ℕ} {u d : Halves} {p : List Pair} {base : Tops} {u' d' : Halves} {p' : List Pair} {top : Tops} {rest x : ℕ}
     → Gathering n ends a b c fuel v j down u d p base u' d' p' top rest x → (y : ℕ)
     → children (links a b) v j x (suc n - x) ≡ children (links a b) v j y (suc n - y)
     → Gathering n ends a b c fuel v j down u d p base u' d' p' top rest y
@@ -98,7 +99,7 @@ gathering_passes g y same = record {
   pairs_fit = rw (← same) g.pairs_fit;
 }
 
-module _ {n : ℕ} {ends a b c : List ℕ} {fuel v j down : ℕ} {u d p : List ℕ} {base : Tops} {u' d' p' : List ℕ} {top : Tops} {rest x : ℕ}
+module _ {n : ℕ} {ends a b c : List ℕ} {fuel v j down : ℕ} {u d : Halves} {p : List Pair} {base : Tops} {u' d' : Halves} {p' : List Pair} {top : Tops} {rest x : ℕ}
     (g : Gathering n ends a b c fuel v j down u d p base u' d' p' top rest x) where
   abbrev ls : Links
   ls = links a b
@@ -130,12 +131,12 @@ module _ {n : ℕ} {ends a b c : List ℕ} {fuel v j down : ℕ} {u d p : List �
       site = child-here.site;
       start = inl (child-here.up, e);
       fuelled = omega (arith, split, size_below W, W.fuelled, g.ups_fit);
-      ups_room = omega (arith, split, size_below W, W.ups_room, g.ups_fit, g.held.ups, length-flat g.part.ups);
-      downs_room = omega (arith, split, size_below W, W.downs_room, g.downs_fit, g.held.downs, length-flat g.part.downs);
-      pairs_room = omega (arith, split, size_below W, W.pairs_room, g.pairs_fit, g.held.pairs, length_pairs g.part.pairs);
+      ups_room = omega (arith, split, size_below W, W.ups_room, g.ups_fit, g.held.ups);
+      downs_room = omega (arith, split, size_below W, W.downs_room, g.downs_fit, g.held.downs);
+      pairs_room = omega (arith, split, size_below W, W.pairs_room, g.pairs_fit, g.held.pairs);
     }
 
-    gathering-next : {x' y' z' : List ℕ} {top' : Tops}
+    gathering-next : {x' y' : Halves} {z' : List Pair} {top' : Tops}
         → Visited (walk_of n ends a b c fuel x k (min (2 * look c k) rest) (2 * look c k - min (2 * look c k) rest)) u' d' p' top x' y' z' top'
         → Gathering n ends a b c fuel v j down u d p base x' y' z' top' (rest - min (2 * look c k) rest) (suc x)
     gathering-next {x'} {y'} {z'} {top'} q =
@@ -154,16 +155,16 @@ module _ {n : ℕ} {ends a b c : List ℕ} {fuel v j down : ℕ} {u d p : List �
         }
 
     -- and then the sites that are no children are passed over
-    pub gathering_goes_on : {x' y' z' : List ℕ} {top' : Tops} (y : ℕ) → later ≡ children ls v j y (suc n - y)
+    pub gathering_goes_on : {x' y' : Halves} {z' : List Pair} {top' : Tops} (y : ℕ) → later ≡ children ls v j y (suc n - y)
         → Visited (walk_of n ends a b c fuel x k (min (2 * look c k) rest) (2 * look c k - min (2 * look c k) rest)) u' d' p' top x' y' z' top'
         → Gathering n ends a b c fuel v j down u d p base x' y' z' top' (rest - min (2 * look c k) rest) y
     gathering_goes_on y same q = gathering_passes (gathering-next q) y same
 
 -- ---- all children visited
 
-module _ {n : ℕ} {ends a b c : List ℕ} {fuel v j up down : ℕ} {u d p : List ℕ} {base : Tops}
+module _ {n : ℕ} {ends a b c : List ℕ} {fuel v j up down : ℕ} {u d : Halves} {p : List Pair} {base : Tops}
     (W : Visit n ends a b c (suc fuel) v j up down u d p base)
-    (inner : look ends v ≢ 1) {u' d' p' : List ℕ} {top : Tops} {rest x : ℕ} (g : Gathering n ends a b c fuel v j down u d p base u' d' p' top rest x)
+    (inner : look ends v ≢ 1) {u' d' : Halves} {p' : List Pair} {top : Tops} {rest x : ℕ} (g : Gathering n ends a b c fuel v j down u d p base u' d' p' top rest x)
     (l : n < x) where
   abbrev G : Part
   G = whole n ends a b c fuel v j down
@@ -184,11 +185,11 @@ module _ {n : ℕ} {ends a b c : List ℕ} {fuel v j up down : ℕ} {u d p : Lis
       let f = gather-filled (λ y k s o. walk_of n ends a b c fuel y k s o) (look c) (λ y k s o. walk-filled (links a b) n (look c) (look ends) fuel y k s o)
       (sum_at (links a b) v (look c) - down) (children (links a b) v j 1 n) in (f.ups_all, f.downs_all)
 
-  ups_listed : listed u' base.ups top.ups ≡ G.ups
-  ups_listed = held-listed G.ups (omega (arith, W.ups_room)) held.ups
+  ups_listed : slice base.ups top.ups u' ≡ G.ups
+  ups_listed = held-slice (omega (arith, W.ups_room)) held.ups
 
-  downs_listed : listed d' base.downs top.downs ≡ G.downs
-  downs_listed = held-listed G.downs (omega (arith, W.downs_room)) held.downs
+  downs_listed : slice base.downs top.downs d' ≡ G.downs
+  downs_listed = held-slice (omega (arith, W.downs_room)) held.downs
 
   -- the walk settles what was gathered, and the ups and downs to be matched are equal in sum
   walked : walk_of n ends a b c (suc fuel) v j up down ≡ settle up down G
@@ -209,18 +210,16 @@ module _ {n : ℕ} {ends a b c : List ℕ} {fuel v j up down : ℕ} {u d p : Lis
       let sums = gather_short W.tree.tree (look c) (look ends) W.balanced fuel v j up down W.site W.start inner W.fuelled in
       let m = match G.ups (drop_halves down G.downs) in
       record {
-        ups = held_stands G.ups (omega (arith, W.ups_room)) (omega (arith, W.ups_room, fit, held.ups, length-flat G.ups)) filled.0 held.ups;
+        ups = held_stands G.ups (omega (arith, W.ups_room)) (omega (arith, W.ups_room, fit, held.ups)) filled.0 held.ups;
         downs =
-            held_stands G.downs (omega (arith, W.downs_room)) (omega (arith, W.downs_room, fit, held.downs, length-flat G.downs)) filled.1
+            held_stands G.downs (omega (arith, W.downs_room)) (omega (arith, W.downs_room, fit, held.downs)) filled.1
             held.downs;
         enough = rw (ups_listed, downs_listed) (omega (arith, sums.ups_sum, sums.downs_sum));
-        spare = omega (arith, W.downs_room, fit, held.downs, length-flat G.downs);
+        spare = omega (arith, W.downs_room, fit, held.downs);
         room = rw (ups_listed, downs_listed) (omega (
           arith,
           W.pairs_room,
           held.pairs,
-          length_pairs G.pairs,
-          length_pairs m,
           ap (λ w. length w.pairs) walked,
           ap length settled_pairs,
           length-append G.pairs m,
@@ -228,39 +227,39 @@ module _ {n : ℕ} {ends a b c : List ℕ} {fuel v j up down : ℕ} {u d p : Lis
         ));
       }
 
-  pub gathering_settled : {x' y' z' : List ℕ} {r : Tops} → Settled u' d' p' base top down x' y' z' r
+  pub gathering_settled : {x' y' : Halves} {z' : List Pair} {r : Tops} → Settled u' d' p' base top down x' y' z' r
       → Visited (walk_of n ends a b c (suc fuel) v j up down) u d p base x' y' z' r
   unfolding settle
   gathering_settled q = rw walked (record {
     ups = rw own (held-again (omega (arith, W.ups_room)) held.ups (rw (ups_listed, downs_listed) at q.ups.below));
     downs = held-again (omega (arith, W.downs_room)) held.downs (rw downs_listed at q.downs.below);
     pairs =
-        rw (settled_pairs, pairs-append G.pairs (match G.ups (drop_halves down G.downs)))
+        rw settled_pairs
         (added_more held.pairs (rw (ups_listed, downs_listed) at q.pairs));
   })
 
 -- ---- other sites
 
 -- there is fuel, and what is left of it for the children
-pub some_fuel : {n : ℕ} {ends a b c : List ℕ} {fuel v j up down : ℕ} {u d p : List ℕ} {base : Tops}
+pub some_fuel : {n : ℕ} {ends a b c : List ℕ} {fuel v j up down : ℕ} {u d : Halves} {p : List Pair} {base : Tops}
     → Visit n ends a b c fuel v j up down u d p base → fuel ≡ suc (fuel - 1)
 some_fuel W = omega (arith, size_below W, W.fuelled)
 
-module _ {n : ℕ} {ends a b c : List ℕ} {fuel v j up down : ℕ} {u d p : List ℕ} {base : Tops}
+module _ {n : ℕ} {ends a b c : List ℕ} {fuel v j up down : ℕ} {u d : Halves} {p : List Pair} {base : Tops}
     (W : Visit n ends a b c (suc fuel) v j up down u d p base) where
   -- a terminal
-  pub alone_room : (base.ups + 2 ≤ length u) × (base.downs + 2 ≤ length d)
+  pub alone_room : (base.ups < length u) × (base.downs < length d)
   alone_room = let s = size_below W in (omega (arith, W.ups_room), omega (arith, W.downs_room))
 
-  pub visited-alone : look ends v ≡ 1 → {x y : List ℕ} {r : Tops} → Added u base.ups x r.ups (flat (put v up []))
-      → Added d base.downs y r.downs (flat (put v down [])) → r.pairs ≡ base.pairs
+  pub visited-alone : look ends v ≡ 1 → {x y : Halves} {r : Tops} → Added u base.ups x r.ups (put v up [])
+      → Added d base.downs y r.downs (put v down []) → r.pairs ≡ base.pairs
       → Visited (walk_of n ends a b c (suc fuel) v j up down) u d p base x y p r
-  unfolding alone flat_pairs
+  unfolding alone
   visited-alone e q s k = rw (walk-terminal (links a b) n (look c) (look ends) fuel v j up down e)
       (record { ups = q.below; downs = s.below; pairs = rw k (added-nothing p base.pairs) })
 
 -- what comes down to an inner site is no more than its links carry
-pub down-within : {n : ℕ} {ends a b c : List ℕ} {fuel v j up down : ℕ} {u d p : List ℕ} {base : Tops}
+pub down-within : {n : ℕ} {ends a b c : List ℕ} {fuel v j up down : ℕ} {u d : Halves} {p : List Pair} {base : Tops}
     → Visit n ends a b c fuel v j up down u d p base
     → look ends v ≢ 1 → down ≤ sum_at (links a b) v (look c)
 down-within {ends = ends} {a = a} {b = b} {c = c} {v = v} {j = j} {up = up} {down = down} W inner = within W.start

@@ -3,17 +3,26 @@
 #![tactic(auto)]
 
 ghost use Rattle.std.specs.Prelude.{◌≡◌, suc, ◌*◌, ◌≤◌, ◌<◌, ◌+◌, ◌-◌, length, set, take};
-ghost use Rattle.model.specs.Limits.{NUMBERS, PLACES, SITES, SIZE};
+ghost use Rattle.model.specs.Limits.{PLACES, SITES, SIZE};
 ghost use Rattle.lists.specs.Numbers.{look, pick};
 ghost use Rattle.model.specs.Pairing.{lowest_inner};
-ghost use Rattle.pairing_halves.specs.Arrays.{flat_pairs, Added};
+ghost use Rattle.pairing_halves.specs.Arrays.{Added};
 ghost use Rattle.tree.specs.Offer.{links};
 ghost use Rattle.pairing_walk.specs.Frames.{over, child_of, Entering, Entered, Passing, Passed};
-ghost use Rattle.pairing_walk.specs.Visits.{covered, Walkable, Fit, Laid, Begun, parts_to, pair_of, Linkable, singles_to, Singles, pairs_of};
-ghost use Rattle.pairing_walk.specs.Visits.{spelled_at, spelled, Spells, listing};
+ghost use Rattle.pairing_walk.specs.Visits.{covered, Fit, Laid, Begun, parts_to, pair_of, Linkable, singles_to, Singles, pairs_of};
+ghost use Rattle.pairing_walk.specs.Visits.{listing};
 
-use model::{CHAINS, HALVES, NUMBERS, PLACES, Pair, Pairs, SITES};
-use pairing_halves::Tops;
+use model::{PLACES, Pair, Pairs, SITES};
+use pairing_children::Neighbours;
+use pairing_halves::{Half, Tops};
+use tree_links::Chains;
+
+// A pair of zeros.
+const NO_PAIR: Pair = Pair {
+    first: 0,
+    second: 0,
+    amount: 0,
+};
 
 // 1 for a terminal and for a site that is done, which no walk starts from.
 fn covered(v: usize, ends: &[u8; PLACES], done: &[u8]) -> u8
@@ -27,6 +36,7 @@ fn covered(v: usize, ends: &[u8; PLACES], done: &[u8]) -> u8
 }
 
 // The lowest inner site above `past`, among n, that is not done, 0 where there is none; it is done then.
+// Stays: 0, and no `None`, as in the definition `lowest_inner`, which may not change.
 fn next_root(past: usize, n: usize, ends: &[u8; PLACES], done: &mut [u8]) -> usize
     requires { (past ≤ n) × (n < length done.old) × (n ≤ SITES) }
     ensures { (result ≡ lowest_inner (covered (look ends.now) done.old) (suc past) (n - past))
@@ -43,6 +53,7 @@ fn next_root(past: usize, n: usize, ends: &[u8; PLACES], done: &mut [u8]) -> usi
 
 // A site whose children are walked: the link to its parent, what comes down over it, what remains for the children to send up,
 // the ends of the lists when it was entered, the half link to the child to come, and that child, PLACES after the last.
+// Stays: PLACES, and no `None`, since no child lies between one and the next, or the end: so `Comes` says the same of the end as of a child.
 #[derive(Clone, Copy)]
 struct Frame {
     site: usize,
@@ -65,20 +76,18 @@ struct Child {
 
 // The frame of site v, entered as a child of its parent, before its own first child.
 fn enter(
+    chains: &Chains,
     v: usize,
     child: Child,
     base: Tops,
     sums: &[u64; PLACES],
-    first: &[u16; PLACES],
-    after: &[u16; CHAINS],
-    one: &[usize],
-    two: &[usize],
+    near: &Neighbours,
 ) -> Frame
-    requires { Entering v child.down sums.now first.now after.now one.now two.now }
-    ensures { Entered (links one.now two.now) (look sums.now v) v child.link child.down base result }
+    requires { Entering v child.down sums.now near.now.first near.now.after chains.now.tree.one.now chains.now.tree.two.now }
+    ensures { Entered (links chains.now.tree.one.now chains.now.tree.two.now) (look sums.now v) v child.link child.down base result }
 {
     let sum = sums[v];
-    let next = pairing_children::next_child(first[v], child.link, after, one, two);
+    let next = pairing_children::next_child(chains, near.first[v], child.link, &near.after);
     Frame {
         site: v,
         link: child.link,
@@ -97,7 +106,7 @@ fn child_of(frame: Frame, capacity: &[u64]) -> Child
 {
     let link = (frame.at - 1) / 2;
     let both = 2 * capacity[link];
-    let up = pairing_halves::lesser(both, frame.rest);
+    let up = both.min(frame.rest);
     Child {
         link,
         up,
@@ -106,13 +115,13 @@ fn child_of(frame: Frame, capacity: &[u64]) -> Child
 }
 
 // The frame once the child to come has sent up its halves, before the next child.
-fn pass(frame: Frame, up: u64, after: &[u16; CHAINS], one: &[usize], two: &[usize]) -> Frame
-    requires { Passing frame up after.now one.now two.now }
-    ensures { Passed (links one.now two.now) frame up result }
+fn pass(chains: &Chains, frame: Frame, up: u64, near: &Neighbours) -> Frame
+    requires { Passing frame up near.now.after chains.now.tree.one.now chains.now.tree.two.now }
+    ensures { Passed (links chains.now.tree.one.now chains.now.tree.two.now) frame up result }
 {
     let base = frame.base;
     let at = frame.at;
-    let next = pairing_children::next_child(after[at - 1], frame.link, after, one, two);
+    let next = pairing_children::next_child(chains, near.after[at - 1], frame.link, &near.after);
     Frame {
         site: frame.site,
         link: frame.link,
@@ -126,49 +135,45 @@ fn pass(frame: Frame, up: u64, after: &[u16; CHAINS], one: &[usize], two: &[usiz
 
 // The frame of a root: it is taken for a child over a link past the last, over which nothing goes.
 fn enter_root(
+    chains: &Chains,
     root: usize,
     base: Tops,
     sums: &[u64; PLACES],
-    first: &[u16; PLACES],
-    after: &[u16; CHAINS],
-    one: &[usize],
-    two: &[usize],
+    near: &Neighbours,
 ) -> Frame
-    requires { Entering root 0 sums.now first.now after.now one.now two.now }
-    ensures { Entered (links one.now two.now) (look sums.now root) root (length one.now) 0 base result }
+    requires { Entering root 0 sums.now near.now.first near.now.after chains.now.tree.one.now chains.now.tree.two.now }
+    ensures { Entered (links chains.now.tree.one.now chains.now.tree.two.now) (look sums.now root) root (length chains.now.tree.one.now) 0 base result }
 {
     let whole = Child {
-        link: one.len(),
+        link: chains.tree.one.len(),
         up: 0,
         down: 0,
     };
-    enter(root, whole, base, sums, first, after, one, two)
+    enter(chains, root, whole, base, sums, near)
 }
 
 // The walks from the roots, `lowest` the lowest of them: the pairs are added to their list, and its end is returned. A site is done once a walk has
 // entered it, and the next root is the lowest inner site that is not. The sites from the root to the one at hand stand in frames, the root's in the
 // place of the number of sites, each child's in the place below.
 fn visit(
+    chains: &Chains,
     lowest: usize,
     ends: &[u8; PLACES],
     sums: &[u64; PLACES],
-    first: &[u16; PLACES],
-    after: &[u16; CHAINS],
-    one: &[usize],
-    two: &[usize],
+    near: &Neighbours,
     capacity: &[u64],
     done: &mut [u8],
-    ups: &mut [u64],
-    downs: &mut [u64],
-    pairs: &mut [u64],
+    ups: &mut [Half],
+    downs: &mut [Half],
+    pairs: &mut [Pair],
 ) -> usize
-    requires { Fit (suc (length one.now)) ends.now one.now two.now capacity.now
-        × Laid sums.now first.now after.now one.now two.now capacity.now
-        × Begun (suc (length one.now)) ends.now done.old lowest ups.old downs.old pairs.old }
+    requires { Fit (suc (length chains.now.tree.one.now)) ends.now chains.now.tree.one.now chains.now.tree.two.now capacity.now
+        × Laid sums.now near.now.first near.now.after chains.now.tree.one.now chains.now.tree.two.now capacity.now
+        × Begun (suc (length chains.now.tree.one.now)) ends.now done.old lowest ups.old downs.old pairs.old }
     ensures { Added pairs.old 0 pairs.new result
-        (flat_pairs (parts_to (suc (length one.now)) ends.now one.now two.now capacity.now)) }
+        (parts_to (suc (length chains.now.tree.one.now)) ends.now chains.now.tree.one.now chains.now.tree.two.now capacity.now) }
 {
-    let sites = one.len() + 1;
+    let sites = chains.tree.one.len() + 1;
     let mut level = sites;
     let mut root = lowest;
     let mut top = Tops {
@@ -176,13 +181,14 @@ fn visit(
         downs: 0,
         pairs: 0,
     };
-    let mut frame = enter_root(root, top, sums, first, after, one, two);
+    let mut frame = enter_root(chains, root, top, sums, near);
     let mut frames = [frame; PLACES];
+    // Stays: the walk goes down to a child, back to a parent or on to a root, so there is no range or iterator to go over.
     loop {
         let c = frame.next;
         if c < PLACES {
             let child = child_of(frame, capacity);
-            let passed = pass(frame, child.up, after, one, two);
+            let passed = pass(chains, frame, child.up, near);
             if ends[c] == 1 {
                 top = pairing_halves::alone(c, child.up, child.down, ups, downs, top);
                 frame = passed;
@@ -191,7 +197,7 @@ fn visit(
             done[c] = 1;
             frames[level] = passed;
             level -= 1;
-            frame = enter(c, child, top, sums, first, after, one, two);
+            frame = enter(chains, c, child, top, sums, near);
             continue;
         }
         let base = frame.base;
@@ -205,59 +211,47 @@ fn visit(
         if root == 0 {
             return top.pairs;
         }
-        frame = enter_root(root, top, sums, first, after, one, two);
+        frame = enter_root(chains, root, top, sums, near);
     }
 }
 
 // The pairs of the parts that have a root, by their roots, written one after the other; the end of them.
 #[inline(never)]
-fn walk_parts(
-    ends: &[u8; PLACES],
-    last: &[usize; PLACES],
-    before: &[usize; CHAINS],
-    one: &[usize],
-    two: &[usize],
-    capacity: &[u64],
-    pairs: &mut [u64],
-) -> usize
-    requires { Walkable (suc (length one.now)) ends.now last.now before.now one.now two.now capacity.now
-        × (2 * NUMBERS ≤ length pairs.old) }
+fn walk_parts(chains: &Chains, ends: &[u8; PLACES], capacity: &[u64], pairs: &mut [Pair]) -> usize
+    requires { Fit (suc (length chains.now.tree.one.now)) ends.now chains.now.tree.one.now chains.now.tree.two.now capacity.now
+        × (2 * SITES ≤ length pairs.old) }
     ensures { Added pairs.old 0 pairs.new result
-        (flat_pairs (parts_to (suc (length one.now)) ends.now one.now two.now capacity.now)) }
+        (parts_to (suc (length chains.now.tree.one.now)) ends.now chains.now.tree.one.now chains.now.tree.two.now capacity.now) }
 {
     let mut done = [0u8; PLACES];
-    let lowest = next_root(0, one.len() + 1, ends, &mut done);
+    let lowest = next_root(0, chains.tree.one.len() + 1, ends, &mut done);
     if lowest == 0 {
         return 0;
     }
-    let near = pairing_children::list_neighbours(last, before, one, two);
-    let first = near.first;
-    let after = near.after;
-    let sums = tree_links::sums(one, two, capacity);
-    let mut ups = [0u64; HALVES];
-    let mut downs = [0u64; HALVES];
+    let near = pairing_children::list_neighbours(chains);
+    let sums = tree_links::sums(chains.tree.one, chains.tree.two, capacity);
+    let mut ups = [(0, 0); SITES];
+    let mut downs = [(0, 0); SITES];
     visit(
-        lowest, ends, &sums, &first, &after, one, two, capacity, &mut done, &mut ups, &mut downs,
-        pairs,
+        chains, lowest, ends, &sums, &near, capacity, &mut done, &mut ups, &mut downs, pairs,
     )
 }
 
 // The pair of link j, if it is single: one of twice its capacity, none for capacity 0. It is added to the pair list, whose end is returned.
 fn join_link(
+    chains: &Chains,
     j: usize,
     ends: &[u8; PLACES],
-    one: &[usize],
-    two: &[usize],
     capacity: &[u64],
-    pairs: &mut [u64],
+    pairs: &mut [Pair],
     end: usize,
 ) -> usize
-    requires { Linkable j one.now two.now capacity.now × (end + 3 ≤ length pairs.old) }
+    requires { Linkable j chains.now.tree.one.now chains.now.tree.two.now capacity.now × (end < length pairs.old) }
     ensures { Added pairs.old end pairs.new result
-        (flat_pairs (pair_of ends.now one.now two.now capacity.now j)) }
+        (pair_of ends.now chains.now.tree.one.now chains.now.tree.two.now capacity.now j) }
 {
-    let a = one[j];
-    let b = two[j];
+    let a = chains.tree.one[j];
+    let b = chains.tree.two[j];
     if ends[a] != 1 {
         return end;
     }
@@ -267,77 +261,51 @@ fn join_link(
     if capacity[j] == 0 {
         return end;
     }
-    pairing_halves::push_pair(pairs, end, a as u64, b as u64, 2 * capacity[j])
+    let pair = Pair {
+        first: a,
+        second: b,
+        amount: 2 * capacity[j],
+    };
+    pairing_halves::push_pair(pairs, end, pair)
 }
 
 // The pairs of the single links, written one after the other behind those of the other parts; the end of them.
 fn join_links(
+    chains: &Chains,
     ends: &[u8; PLACES],
-    one: &[usize],
-    two: &[usize],
     capacity: &[u64],
-    pairs: &mut [u64],
+    pairs: &mut [Pair],
     from: usize,
 ) -> usize
-    requires { Singles ends.now one.now two.now capacity.now from × (2 * NUMBERS ≤ length pairs.old) }
+    requires { Singles ends.now chains.now.tree.one.now chains.now.tree.two.now capacity.now from × (2 * SITES ≤ length pairs.old) }
     ensures { Added pairs.old from pairs.new result
-        (flat_pairs (singles_to (length one.now) ends.now one.now two.now capacity.now)) }
+        (singles_to (length chains.now.tree.one.now) ends.now chains.now.tree.one.now chains.now.tree.two.now capacity.now) }
 {
     let mut end = from;
-    for j in 0..one.len() {
-        end = join_link(j, ends, one, two, capacity, pairs, end);
+    for j in 0..chains.tree.one.len() {
+        end = join_link(chains, j, ends, capacity, pairs, end);
     }
     end
 }
 
-// The pair that three numbers from `at` on spell: first site, second site, amount.
-fn pair_at(numbers: &[u64], at: usize) -> Pair
-    requires { at + 3 ≤ length numbers.now }
-    ensures { result ≡ spelled_at numbers.now at }
-{
-    Pair {
-        first: numbers[at] as usize,
-        second: numbers[at + 1] as usize,
-        amount: numbers[at + 2],
-    }
-}
-
-// The pairs that the numbers below `end` spell, with pairs of zeros behind them.
+// The first `count` pairs, with pairs of zeros behind them.
 #[inline(never)]
-fn read_pairs(numbers: &[u64], end: usize) -> Pairs
-    requires { Spells numbers.now end }
-    ensures { result ≡ listing (spelled (take end numbers.now)) }
+fn listed(pairs: &[Pair], count: usize) -> Pairs
+    requires { (count ≤ SITES) × (count ≤ length pairs.now) }
+    ensures { result ≡ listing (take count pairs.now) }
 {
-    let mut list = [Pair {
-        first: 0,
-        second: 0,
-        amount: 0,
-    }; SITES];
-    let mut count = 0;
-    let mut at = 0;
-    while at < end {
-        list[count] = pair_at(numbers, at);
-        count += 1;
-        at += 3;
-    }
+    let mut list = [NO_PAIR; SITES];
+    list[..count].copy_from_slice(&pairs[..count]);
     Pairs { list, count }
 }
 
 // The pairs of a tree with balanced capacities, part by part, in the order in which the walks make them, with pairs of zeros behind them.
-pub fn decompose(
-    n: usize,
-    ends: &[u8; PLACES],
-    last: &[usize; PLACES],
-    before: &[usize; CHAINS],
-    one: &[usize],
-    two: &[usize],
-    capacity: &[u64],
-) -> Pairs
-    requires { Walkable n ends.now last.now before.now one.now two.now capacity.now }
-    ensures { result ≡ listing (pairs_of n ends.now one.now two.now capacity.now) }
+pub fn decompose(chains: &Chains, ends: &[u8; PLACES], capacity: &[u64]) -> Pairs
+    requires { Fit chains.now.tree.sites ends.now chains.now.tree.one.now chains.now.tree.two.now capacity.now }
+    ensures { result ≡ listing (pairs_of chains.now.tree.sites ends.now chains.now.tree.one.now chains.now.tree.two.now capacity.now) }
 {
-    let mut numbers = [0u64; 2 * NUMBERS];
-    let walked = walk_parts(ends, last, before, one, two, capacity, &mut numbers);
-    let end = join_links(ends, one, two, capacity, &mut numbers, walked);
-    read_pairs(&numbers, end)
+    let mut pairs = [NO_PAIR; 2 * SITES];
+    let walked = walk_parts(chains, ends, capacity, &mut pairs);
+    let count = join_links(chains, ends, capacity, &mut pairs, walked);
+    listed(&pairs, count)
 }

@@ -1,6 +1,6 @@
 -- A sum along the first sites of an order, and one site more; an odd piece is counted at most once at a site.
 use Rattle.std.specs.Prelude.{◌≡◌, refl, List, [], ◌∷◌, ℕ, zero, suc, ◌+◌, ◌%◌, ◌≤◌, ◌<◌, length, take}
-use Rattle.std.proofs.Common.{◌∙◌, add-one, arith}
+use Rattle.std.proofs.Common.{add-one, arith}
 use Rattle.lists.specs.Numbers.{pick, over, look}
 use Rattle.lists.specs.Sums.{pick_cases}
 use Rattle.theory_whole.specs.Counting.{odd_at}

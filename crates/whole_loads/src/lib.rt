@@ -1,8 +1,8 @@
 // Inner: the loads and the end sets of the report in whole circuits (02, Card 2), and the number of its odd pieces. Only the planner's own crates call it.
 #![tactic(auto)]
 
-ghost use Rattle.std.specs.Prelude.{◌≡◌, ℕ, ◌+◌, ◌*◌, ◌≤◌, ◌<◌, length, take};
-ghost use Rattle.model.specs.Limits.{PLACES, SITES, SIZE};
+ghost use Rattle.std.specs.Prelude.{◌≡◌, ℕ, ◌*◌, ◌≤◌, ◌<◌, length, take};
+ghost use Rattle.model.specs.Limits.{SITES, SIZE};
 ghost use Rattle.lists.specs.Numbers.{over, look};
 ghost use Rattle.model.specs.Edition.{largest};
 ghost use Rattle.model.specs.Trimming.{elimination};
@@ -18,27 +18,24 @@ use model::{PLACES, SITES};
 use whole_notes::Note;
 
 // The load of each of m links, that of its child, at the front of a lent list.
-fn link_loads(m: usize, child: &[u16; SITES], notes: [Note; PLACES], lent: &mut [u64])
-    requires { (m ≤ SITES) × (m ≤ length lent.old) × (length notes ≡ PLACES) × ((j : ℕ) → j < m → look child.now j ≤ SITES)
-        × ((x : ℕ) → Within (SITES * SIZE) (note notes x)) }
-    ensures { lent.new ≡ filled (λ j. (note notes (look child.now j)).load) m lent.old }
+fn link_loads(m: usize, child: &[u16; SITES], notes: &[Note; PLACES], lent: &mut [u64])
+    requires { (m ≤ SITES) × (m ≤ length lent.old) × ((j : ℕ) → j < m → look child.now j ≤ SITES)
+        × ((x : ℕ) → Within (SITES * SIZE) (note notes.now x)) }
+    ensures { lent.new ≡ filled (λ j. (note notes.now (look child.now j)).load) m lent.old }
 {
     for j in 0..m {
-        let c = child[j] as usize;
-        let here = notes[c];
-        lent[j] = here.load as u64;
+        let here = notes[usize::from(child[j])];
+        lent[j] = u64::from(here.load);
     }
 }
 
 // The terminal whose set holds each site, or 0.
-fn owners(notes: [Note; PLACES]) -> [u16; PLACES]
-    requires { length notes ≡ PLACES }
-    ensures { (x : ℕ) → look result x ≡ (note notes x).owner }
+fn owners(notes: &[Note; PLACES]) -> [u16; PLACES]
+    ensures { (x : ℕ) → look result x ≡ (note notes.now x).owner }
 {
-    let mut owner = [0u16; PLACES];
+    let mut owner = [0; PLACES];
     for x in 0..PLACES {
-        let here = notes[x];
-        owner[x] = here.owner;
+        owner[x] = notes[x].owner;
     }
     owner
 }
@@ -68,18 +65,16 @@ fn odd_pieces(
     order: &[usize; SITES],
     parent: &[u16; PLACES],
     above: &[u32; PLACES],
-    notes: [Note; PLACES],
+    notes: &[Note; PLACES],
 ) -> usize
-    requires { Given n order.now parent.now above.now × (length notes ≡ PLACES) × ((x : ℕ) → Within (SITES * SIZE) (note notes x)) }
-    ensures { result ≡ over (take n order.now) (odd_at (look parent.now) (look above.now) (λ x. (note notes x).most)
-        (λ x. (note notes x).owner)) }
+    requires { Given n order.now parent.now above.now × ((x : ℕ) → Within (SITES * SIZE) (note notes.now x)) }
+    ensures { result ≡ over (take n order.now) (odd_at (look parent.now) (look above.now) (λ x. (note notes.now x).most)
+        (λ x. (note notes.now x).owner)) }
 {
-    let mut odd: usize = 0;
-    for i in 0..n {
-        let v = order[i];
-        let p = parent[v] as usize;
+    let mut odd = 0;
+    for &v in &order[..n] {
         let here = notes[v];
-        let up = notes[p];
+        let up = notes[usize::from(parent[v])];
         odd += odd_at(here.owner, up.owner, here.most, above[v]);
     }
     odd
@@ -105,11 +100,8 @@ pub fn solve(
         lent.old lent.new owner.new result }
 {
     let up = whole_parents::parents_of(n, order, one, two, capacity);
-    let child = up.child;
-    let parent = up.parent;
-    let above = up.above;
-    let notes = whole_loops::both_ways(n, order, &parent, &above, ends);
-    link_loads(one.len(), &child, notes, lent);
-    *owner = owners(notes);
-    odd_pieces(n, order, &parent, &above, notes)
+    let notes = whole_loops::both_ways(n, order, &up.parent, &up.above, ends);
+    link_loads(one.len(), &up.child, &notes, lent);
+    *owner = owners(&notes);
+    odd_pieces(n, order, &up.parent, &up.above, &notes)
 }

@@ -1,6 +1,6 @@
 -- One step in the notes is one step of the definitions, and the numbers stay small; steps along the order.
 use mathlib.Core.Path.{◌≡◌, refl, sym, ap, ◌∙◌, fun_ext}
-use mathlib.Core.Logic.{◌≢◌, ite, if_pos, if_neg}
+use mathlib.Core.Logic.{ite, if_pos, if_neg}
 use mathlib.Core.List.{List, [], ◌∷◌, ◌++◌}
 use Prim.Native.Nat.{ℕ, zero, suc, ◌+◌, ◌-◌, ◌*◌, ◌%◌, ◌≤◌, ◌<◌, min}
 use native.Mathlib.Omega.{arith}
@@ -236,12 +236,12 @@ inward_next {n} {order} {parent} {capacity} g ends {l} i more w =
 
 -- ---- the way outward
 
--- what the way outward finds along the last i of n sites; `was` are the notes of the way inward
+-- what the way outward finds along the sites from place i on of n; `was` are the notes of the way inward
 pub record Outward (n i : ℕ) (order parent above ends : List ℕ) (was l : List Note) : Type 0 where
   pub places : length l ≡ PLACES
   pub small : (x : ℕ) → Within (SITES * SIZE) (note l x)
   pub same : intervals_of l ≡ intervals_of was
-  pub outward : loading_of l ≡ give_all (look parent) (look above) (look ends) (intervals_of was) (drop (n - i) (front n order))
+  pub outward : loading_of l ≡ give_all (look parent) (look above) (look ends) (intervals_of was) (drop i (front n order))
 
 abbrev three : (load owner on : ℕ → ℕ) → Loading
 three load owner on = record { load = load; owner = owner; on = on }
@@ -311,28 +311,25 @@ module _ (parent c terminal : ℕ → ℕ) (l : List Note) (v : ℕ) where
         each come top child b (Within m) g (loaded-within (g top) (terminal v) share)
 
 module _ {n : ℕ} {order parent capacity ends : List ℕ} {was : List Note} where
-  pub outward_none : Given n order parent capacity → Inward n order parent capacity ends was → Outward n 0 order parent capacity ends was was
+  pub outward_none : Given n order parent capacity → Inward n order parent capacity ends was → Outward n n order parent capacity ends was was
   unfolding give_all
   outward_none g w = record {
     places = w.places;
     small = λ x. within_more (omega (arith, g.few)) (w.small x);
     same = refl;
-    outward = rw (drop_of_length-le (front n order) {i = n - 0} (omega (arith, length-take-le n order g.long)))
+    outward = rw (drop_of_length-le (front n order) {i = n} (omega (arith, length-take-le n order g.long)))
         (same-loading (fun_ext (λ x. (w.fresh x).starts)) (fun_ext (λ x. (w.fresh x).unowned)) (fun_ext (λ x. (w.fresh x).off)));
   }
 
   -- one site more comes
-  pub outward_next : Given n order parent capacity → {l : List Note} (i : ℕ) → i < n → Outward n i order parent capacity ends was l
-      → Outward n (i + 1) order parent capacity ends was (given_notes (look parent) (look capacity) (look ends) l (look order (n - 1 - i)))
+  pub outward_next : Given n order parent capacity → {l : List Note} (i : ℕ) → i < n → Outward n (suc i) order parent capacity ends was l
+      → Outward n i order parent capacity ends was (given_notes (look parent) (look capacity) (look ends) l (look order i))
   unfolding give_all
   outward_next g {l} i more w =
       let us = front n order in
-      let j = n - 1 - i in
-      let v = look order j in
-      let site = g.placed j (omega arith) in
+      let v = look order i in
+      let site = g.placed i more in
       let low = (w.small v).child in
-      let from : n - i ≡ suc j = omega arith in
-      let to : n - (i + 1) ≡ j = omega arith in
       record {
         places = simp length-set w.places;
         small = given-small (look parent) (look capacity) (look ends) l v w.places site low (g.capacities v) w.small;
@@ -340,75 +337,48 @@ module _ {n : ℕ} {order parent capacity ends : List ℕ} {was : List Note} whe
         outward = given-is-give (look parent) (look capacity) (look ends) l v w.places site low
             ∙ ap (λ s. give (look parent) (look capacity) (look ends) s (loading_of l) v) w.same
             ∙ ap (λ o. give (look parent) (look capacity) (look ends) (intervals_of was) o v) w.outward
-            ∙ rw (from, to, drop-cons us j 0 (omega (arith, length-take-le n order g.long)), get_or-take n order j 0 (omega arith)) refl;
+            ∙ rw (drop-cons us i 0 (omega (arith, length-take-le n order g.long)), get_or-take n order i 0 more) refl;
       }
 
 -- both ways
 pub both_found : {n : ℕ} {order parent capacity ends : List ℕ} {was l : List Note} → Inward n order parent capacity ends was
-    → Outward n n order parent capacity ends was l → Found n order parent capacity ends l
-both_found {n} {order} {parent} {capacity} {ends} i o =
-    let all : n - n ≡ 0 = omega arith in
-    record {
-      places = o.places;
-      small = o.small;
-      inward = o.same ∙ i.inward;
-      outward = rw o.same (rw all at o.outward);
-    }
+    → Outward n 0 order parent capacity ends was l → Found n order parent capacity ends l
+both_found i o = record {
+  places = o.places;
+  small = o.small;
+  inward = o.same ∙ i.inward;
+  outward = rw o.same o.outward;
+}
 
--- ---- in a turn of a loop: v has its turn, p is its parent
-
-pub record Turn (n i v p c : ℕ) (l : List Note) : Type 0 where
-  pub few : n ≤ SITES
-  pub more : i < n
-  pub site : v ≤ SITES
-  pub up : p ≤ SITES
-  pub small : c ≤ SIZE
-  pub each_small : (x : ℕ) → Within (SITES * SIZE) (note l x)
-  pub child : (note l v).top ≤ SITES
-  pub rival : (note l p).top ≤ SITES
-  pub room : (note l v).load + (note l v).most ≤ PLACES * SIZE
-
-module _ {n : ℕ} {order parent capacity : List ℕ} (g : Given n order parent capacity) {l : List Note} (ends : List ℕ) where
-  turn_of : (i j : ℕ) → i < n → j < n → ((x : ℕ) → Within (SITES * SIZE) (note l x)) → let v = look order j in Turn n i v (look parent v) (look capacity v) l
-  turn_of i j more h w =
-      let v = look order j in
-      record {
-        few = g.few;
-        more = more;
-        site = g.placed j h;
-        up = g.parents v;
-        small = g.capacities v;
-        each_small = w;
-        child = (w v).child;
-        rival = (w (look parent v)).child;
-        room = omega (arith, (w v).sum, (w v).loaded);
-      }
-
-  pub turn_inward : {i : ℕ} → i < n → Inward i order parent capacity ends l → let v = look order i in Turn n i v (look parent v) (look capacity v) l
-  turn_inward {i} more w = turn_of i i more more (λ x. within_more (omega (arith, g.few)) (w.small x))
-
-  pub turn_outward : {i : ℕ} {was : List Note} → i < n → Outward n i order parent capacity ends was l
-      → let v = look order (n - 1 - i) in Turn n i v (look parent v) (look capacity v) l
-  turn_outward {i} more w = turn_of i (n - 1 - i) more (omega arith) w.small
-
--- what `taken` and `joined` answer
-module _ {l : List Note} (terminal v p : ℕ) {c : ℕ} {e : Note} (told : e ≡ taken_note terminal c v (note l v) (note l (note l v).top)) where
-  pub joined_ready : {n i : ℕ} → length l ≡ PLACES → Turn n i v p c l → ((note (set l v e) p).most ≤ SITES * SIZE) × (e.high ≤ SIZE)
-  joined_ready long t =
-      let w = t.each_small in
-      let new : Within (SITES * SIZE) e = rw told (taken-within (w v) (w (note l v).top) terminal t.small t.site) in
-      ((each l v e (omega (arith, t.site)) (Within (SITES * SIZE)) w new p).sum, new.highest)
+-- ---- a turn of a loop
 
 module _ {n : ℕ} {order parent capacity : List ℕ} (g : Given n order parent capacity) (ends : List ℕ) {l : List Note} where
-  pub inward_turn : (i : ℕ) → i < n → Inward i order parent capacity ends l → let v = look order i in let p = look parent v in
-      (e f : Note) → e ≡ taken_note (look ends v) (look capacity v) v (note l v) (note l (note l v).top)
-      → f ≡ joined_note (look ends p) p (note l (note l p).top).high v e.high (note (set l v e) p)
+  -- the places in the notes are known by equations: of the site, its parent, and the greatest child of each
+  pub inward_turn : (i : ℕ) → i < n → Inward i order parent capacity ends l → {v p child rival : ℕ}
+      → v ≡ look order i → p ≡ look parent v → child ≡ (note l v).top → rival ≡ (note l p).top → (e f : Note)
+      → e ≡ taken_note (look ends v) (look capacity v) v (note l v) (note l child)
+      → f ≡ joined_note (look ends p) p (note l rival).high v e.high (note (set l v e) p)
       → Inward (i + 1) order parent capacity ends (set (set l v e) p f)
-  inward_turn i more w e f told joined = rw (joined, told) (inward_next g ends i more w)
+  inward_turn i more w a b top best e f told joined =
+      let e-told = rw (top, a) at told in
+      let f-told = rw (best, b, a) at joined in
+      rw (b, a) (rw (f-told, e-told) (inward_next g ends i more w))
 
-  pub outward_turn : {was : List Note} (i : ℕ) → i < n → Outward n i order parent capacity ends was l
-      → let v = look order (n - 1 - i) in let t = (note l v).top in
-      (e f : Note) → e ≡ come_note (look capacity v) v (note l v) (note l (look parent v))
-      → f ≡ loaded_note (look ends v) ((note l v).load + (note l v).most) (note (set l v e) t)
-      → Outward n (i + 1) order parent capacity ends was (set (set l v e) t f)
-  outward_turn i more w e f told loaded = rw (loaded, told) (outward_next g i more w)
+  pub joined_ready : (i : ℕ) → i < n → Inward i order parent capacity ends l → {v : ℕ} → v ≡ look order i → (child p : ℕ) (e : Note)
+      → e ≡ taken_note (look ends v) (look capacity v) v (note l v) (note l child)
+      → ((note (set l v e) p).most ≤ SITES * SIZE) × (e.high ≤ SIZE)
+  joined_ready i more w {v} a child p e told =
+      let small : (x : ℕ) → Within (SITES * SIZE) (note l x) = λ x. within_more (omega (arith, g.few)) (w.small x) in
+      let site : v ≤ SITES = rw a (g.placed i more) in
+      let new : Within (SITES * SIZE) e = rw told (taken-within (small v) (small child) (look ends v) (g.capacities v) site) in
+      ((each l v e (omega (arith, site, w.places)) (Within (SITES * SIZE)) small new p).sum, new.highest)
+
+  pub outward_turn : {was : List Note} (i : ℕ) → i < n → Outward n (suc i) order parent capacity ends was l → {v p child : ℕ}
+      → v ≡ look order i → p ≡ look parent v → child ≡ (note l v).top → (e f : Note)
+      → e ≡ come_note (look capacity v) v (note l v) (note l p)
+      → f ≡ loaded_note (look ends v) ((note l v).load + (note l v).most) (note (set l v e) child)
+      → Outward n i order parent capacity ends was (set (set l v e) child f)
+  outward_turn i more w a b top e f told loaded =
+      let e-told = rw (b, a) at told in
+      let f-told = rw (top, a) at loaded in
+      rw (top, a) (rw (f-told, e-told) (outward_next g i more w))

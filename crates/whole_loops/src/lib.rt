@@ -18,30 +18,17 @@ fn inward(
     requires { Given n order.now parent.now above.now }
     ensures { Inward n order.now parent.now above.now ends.now result }
 {
-    let blank = Note {
-        least: 0,
-        most: 0,
-        low: 0,
-        high: 0,
-        top: 0,
-        goal: 0,
-        load: 0,
-        owner: 0,
-        on: 0,
-    };
-    let mut notes = [blank; PLACES];
-    for i in 0..n {
-        let v = order[i];
+    let mut notes = [Note::default(); PLACES];
+    for &v in &order[..n] {
         let site = v as u16;
-        let p = parent[v] as usize;
+        let p = usize::from(parent[v]);
         let here = notes[v];
         let up = notes[p];
-        let child = here.top as usize;
-        let rival = up.top as usize;
-        let was = notes[rival];
-        let done = whole_notes::taken(ends[v], above[v], site, here, notes[child]);
+        let rival = notes[usize::from(up.top)];
+        let child = notes[usize::from(here.top)];
+        let done = here.taken(ends[v], above[v], site, child);
         notes[v] = done;
-        notes[p] = whole_notes::joined(p, ends[p], was.high, site, done.high, notes[p]);
+        notes[p] = notes[p].joined(p, ends[p], rival.high, site, done.high);
     }
     notes
 }
@@ -59,13 +46,13 @@ pub fn both_ways(
     ensures { Found n order.now parent.now above.now ends.now result }
 {
     let mut notes = inward(n, order, parent, above, ends);
-    for i in 0..n {
-        let v = order[n - 1 - i];
-        let p = parent[v] as usize;
+    for i in (0..n).rev() {
+        let v = order[i];
+        let p = usize::from(parent[v]);
         let here = notes[v];
-        let child = here.top as usize;
-        notes[v] = whole_notes::come(above[v], v as u16, here, notes[p]);
-        notes[child] = whole_notes::loaded(ends[v], here.load + here.most, notes[child]);
+        let child = usize::from(here.top);
+        notes[v] = here.come(above[v], v as u16, notes[p]);
+        notes[child] = notes[child].loaded(ends[v], here.load + here.most);
     }
     notes
 }

@@ -11,7 +11,7 @@ ghost use Rattle.whole_notes.specs.Notes.{Within, least_of, taken_note, joined_n
 // What the two ways note of a site: the loads that its children can bring together, from `least` to `most` in steps of 2; those that the link to the
 // parent lets through, from `low` to `high`; the child with the greatest `high`; the terminal to which such children lead; the load of the link to the
 // parent; the terminal whose set the site is in, or 0; and 1 if it is on the way of its set to the terminal.
-#[derive(Clone, Copy)]
+#[derive(Clone, Copy, Default)]
 pub struct Note {
     pub least: u32,
     pub most: u32,
@@ -24,30 +24,6 @@ pub struct Note {
     pub on: u8,
 }
 
-// a - b, or 0 where b is larger.
-fn minus(a: u32, b: u32) -> u32
-    ensures { result ≡ a - b }
-{
-    if a < b {
-        return 0;
-    }
-    a - b
-}
-
-// The lesser of two numbers.
-fn lesser(a: u32, b: u32) -> u32
-    ensures { result ≡ min a b }
-{
-    if b < a { b } else { a }
-}
-
-// The greater of two numbers.
-fn greater(a: u32, b: u32) -> u32
-    ensures { result ≡ max a b }
-{
-    if a < b { b } else { a }
-}
-
 // The least load that the children of a site can bring together; a terminal is held to be above its capacity.
 fn least_of(terminal: u8, capacity: u32, low: u32, high: u32, most: u32) -> u32
     requires { (capacity ≤ SIZE) × (low ≤ SIZE) × (high ≤ SIZE) }
@@ -56,7 +32,7 @@ fn least_of(terminal: u8, capacity: u32, low: u32, high: u32, most: u32) -> u32
     if terminal == 1 {
         return capacity + 2;
     }
-    greater(minus(low + high, most), most % 2)
+    (low + high).saturating_sub(most).max(most % 2)
 }
 
 // The greatest load that the link to the parent lets through.
@@ -67,7 +43,7 @@ fn high_of(least: u32, most: u32, capacity: u32) -> u32
     if capacity < least {
         return capacity;
     }
-    lesser(most, minus(capacity, (capacity + most) % 2))
+    most.min(capacity.saturating_sub((capacity + most) % 2))
 }
 
 // The terminal to which a site leads: itself if it is one, else that of its greatest child.
@@ -78,22 +54,6 @@ fn goal_of(terminal: u8, v: u16, goal: u16) -> u16
         return v;
     }
     goal
-}
-
-// The note of a site v as it is taken; `child` is that of its greatest child.
-pub fn taken(terminal: u8, capacity: u32, v: u16, here: Note, child: Note) -> Note
-    requires { (capacity ≤ SIZE) × Within (SITES * SIZE) here × Within (SITES * SIZE) child }
-    ensures { result ≡ taken_note terminal capacity v here child }
-{
-    let least = least_of(terminal, capacity, child.low, child.high, here.most);
-    let high = high_of(least, here.most, capacity);
-    let mut next = here;
-    next.least = least;
-    next.low = lesser(least, capacity);
-    next.high = high;
-    next.goal = goal_of(terminal, v, child.goal);
-    next.load = high;
-    next
 }
 
 // The greatest child of a site p, once v with the value `new` is taken; `old` is the greatest so far, with the value `was`. A terminal has none.
@@ -112,28 +72,11 @@ fn top_of(p: usize, terminal: u8, old: u16, was: u32, v: u16, new: u32) -> u16
     if was < new { v } else { old }
 }
 
-// The note of the parent p of v, once v with the value `high` is taken.
-pub fn joined(p: usize, terminal: u8, was: u32, v: u16, high: u32, here: Note) -> Note
-    requires { (here.most ≤ SITES * SIZE) × (high ≤ SIZE) }
-    ensures { result ≡ joined_note terminal p was v high here }
-{
-    let mut next = here;
-    next.most = here.most + high;
-    next.top = top_of(p, terminal, here.top, was, v, high);
-    next
-}
-
 // 1 if the way of the parent's set leads on to v.
 fn coming_of(on: u8, top: u16, v: u16) -> u8
     ensures { result ≡ pick on 1 (is top v) 0 }
 {
-    if on != 1 {
-        return 0;
-    }
-    if top == v {
-        return 1;
-    }
-    0
+    u8::from(on == 1 && top == v)
 }
 
 // 1 if a site is on the way of its set to the terminal.
@@ -162,17 +105,6 @@ fn owner_of(on: u8, goal: u16, most: u32, capacity: u32, up: u16) -> u16
     0
 }
 
-// The note of a site v as it comes; `up` is that of its parent.
-pub fn come(capacity: u32, v: u16, here: Note, up: Note) -> Note
-    ensures { result ≡ come_note capacity v here up }
-{
-    let on = on_of(here.least, capacity, coming_of(up.on, up.top, v));
-    let mut next = here;
-    next.owner = owner_of(on, here.goal, here.most, capacity, up.owner);
-    next.on = on;
-    next
-}
-
 // The load of the greatest child of a site with h to share; a terminal leaves it as it is.
 fn load_of(terminal: u8, old: u32, high: u32, h: u32) -> u32
     ensures { result ≡ pick terminal 1 old (top_load (λ x. 0) (λ x. 0) (λ x. 0) high h) }
@@ -180,14 +112,58 @@ fn load_of(terminal: u8, old: u32, high: u32, h: u32) -> u32
     if terminal == 1 {
         return old;
     }
-    lesser(minus(high, h % 2), minus(h, high))
+    high.saturating_sub(h % 2).min(h.saturating_sub(high))
 }
 
-// The note of the greatest child of a site with h to share.
-pub fn loaded(terminal: u8, h: u32, child: Note) -> Note
-    ensures { result ≡ loaded_note terminal h child }
-{
-    let mut next = child;
-    next.load = load_of(terminal, child.load, child.high, h);
-    next
+impl Note {
+    // The note of a site v as it is taken; `child` is that of its greatest child.
+    pub fn taken(self, terminal: u8, capacity: u32, v: u16, child: Note) -> Note
+        requires { (capacity ≤ SIZE) × Within (SITES * SIZE) self × Within (SITES * SIZE) child }
+        ensures { result ≡ taken_note terminal capacity v self child }
+    {
+        let least = least_of(terminal, capacity, child.low, child.high, self.most);
+        let high = high_of(least, self.most, capacity);
+        Note {
+            least,
+            low: least.min(capacity),
+            high,
+            goal: goal_of(terminal, v, child.goal),
+            load: high,
+            ..self
+        }
+    }
+
+    // The note of the parent p of v, once v with the value `high` is taken.
+    pub fn joined(self, p: usize, terminal: u8, was: u32, v: u16, high: u32) -> Note
+        requires { (self.most ≤ SITES * SIZE) × (high ≤ SIZE) }
+        ensures { result ≡ joined_note terminal p was v high self }
+    {
+        Note {
+            most: self.most + high,
+            top: top_of(p, terminal, self.top, was, v, high),
+            ..self
+        }
+    }
+
+    // The note of a site v as it comes; `up` is that of its parent.
+    pub fn come(self, capacity: u32, v: u16, up: Note) -> Note
+        ensures { result ≡ come_note capacity v self up }
+    {
+        let on = on_of(self.least, capacity, coming_of(up.on, up.top, v));
+        Note {
+            owner: owner_of(on, self.goal, self.most, capacity, up.owner),
+            on,
+            ..self
+        }
+    }
+
+    // The note of the greatest child of a site with h to share.
+    pub fn loaded(self, terminal: u8, h: u32) -> Note
+        ensures { result ≡ loaded_note terminal h self }
+    {
+        Note {
+            load: load_of(terminal, self.load, self.high, h),
+            ..self
+        }
+    }
 }

@@ -10,7 +10,7 @@ use Rattle.model.specs.Limits.{SITES, SIZE, PLACES}
 use Rattle.lists.specs.Numbers.{look, count}
 use Rattle.lists.specs.Sums.{same?}
 use Rattle.lists.specs.Places.{look-zeros}
-use Rattle.model.specs.Flows.{Links, Site, one, two, at}
+use Rattle.model.specs.Flows.{Links, Site, one, two}
 use Rattle.model.specs.Trimming.{unvisited}
 use Rattle.model.specs.WholeLoads.{from, upward, parent_of, beyond}
 use Rattle.theory_trees.specs.Trees.{loopless, at_first, at_second, at-end}

@@ -5,7 +5,7 @@ use Rattle.std.proofs.Math.Path.{ap}
 use Rattle.lists.specs.Numbers.{is, count, over}
 use Rattle.lists.specs.Sums.{is_same, is-other, same?, product_one, sum-single}
 use Rattle.lists.specs.Places.{over-eq, over-is}
-use Rattle.model.specs.Flows.{Links, one, two, at}
+use Rattle.model.specs.Flows.{Links, one, two}
 use Rattle.model.specs.Trimming.{unvisited, Inward}
 use Rattle.model.specs.WholeLoads.{from, upward, link_load}
 use Rattle.theory_whole.specs.Sums.{over_only}

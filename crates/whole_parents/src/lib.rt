@@ -14,6 +14,7 @@ use model::{PLACES, SITES};
 
 // The child of each link, of its two sites the one that is taken first; at place x the parent of site x, and the capacity of the link to it,
 // 0 where there is none.
+// Stays: a list for each, since the paths of a log go by the children and the parents alone, and `ParentsOf` speaks of each list.
 #[derive(Clone, Copy)]
 pub struct Parents {
     pub child: [u16; SITES],
@@ -73,7 +74,7 @@ pub fn parents_of(
     let mut parent = [0u16; PLACES];
     let mut above = [0u32; PLACES];
     for j in 0..one.len() {
-        let c = child[j] as usize;
+        let c = usize::from(child[j]);
         parent[c] = (one[j] + two[j] - c) as u16;
         above[c] = capacity[j] as u32;
     }

@@ -1,15 +1,19 @@
--- `pair_up`: the answer is what was worked out, and what is stored is its pairs, in order.
-use Rattle.std.proofs.Common.{◌≡◌, length, ◌∙◌, arith}
-use Rattle.model.specs.Limits.{SITES}
-use Rattle.pairing.proofs.Working.{work_is_stored}
+-- `pair_up`: the pairs that were worked out are stored, in order, and nothing is where something else is said.
+use Rattle.std.proofs.Common.{sym, ◌∙◌, arith}
+use Rattle.std.proofs.lemmas.Result.{err_from_is_err_and}
+use Rattle.pairing.proofs.Working.{work_is_stored, refusal_stores_nothing}
 use Rattle.pairing.proofs.pair_up.Goals as goal
+
+pub returns-in_err-made : goal.returns-in_err-made
+returns-in_err-made c =
+    let a = c.args in
+    let h = c.in_err-made.ensures in
+    let p = err_from_is_err_and c.from_residual.result c.from_residual.ensures.1 in
+    (rw (p.1, p.2) (sym h), refusal_stores_nothing a.n a.one.now a.two.now a.marks.now a.capacity.now a.pairs.now _ h)
 
 pub returns : goal.returns
 returns c =
-    let w = c.work_out-done.result in
-    let worked = c.work_out-done.ensures in
-    let full : length w.pairs.list ≡ SITES = omega arith in (
-      worked.said,
-      c.store.ensures
-          ∙ work_is_stored c.args.n c.args.one.now c.args.two.now c.args.marks.now c.args.capacity.now c.args.pairs.now w worked full,
-    )
+    let a = c.args in
+    let made = c.in_ok-made.made in
+    let h = c.in_ok-made.ensures in
+    (sym h.said, c.store.ensures ∙ work_is_stored a.n a.one.now a.two.now a.marks.now a.capacity.now a.pairs.now made h (omega arith))

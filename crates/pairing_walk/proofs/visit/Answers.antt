@@ -5,7 +5,8 @@ use Rattle.model.specs.Limits.{SITES}
 use Rattle.lists.specs.Numbers.{look}
 use Rattle.lists.specs.Sums.{pick_other}
 use Rattle.model.specs.Flows.{sum_at}
-use Rattle.model.specs.Pairing.{lowest_inner}
+use Rattle.model.specs.Pairing.{Halves, lowest_inner}
+use Rattle.model.specs.declared.Pair.{Pair}
 use Rattle.tree.specs.Offer.{links}
 use Rattle.tree.specs.Links.{length-links}
 use Rattle.tree_links.specs.Chains.{offer-placed}
@@ -20,7 +21,7 @@ use Rattle.pairing_walk.proofs.Framing.{framed_returns, returns_owed}
 use Rattle.pairing_walk.proofs.visit.Goals as goal
 
 -- the first root is the lowest inner site
-first_low : {m q : ℕ} {ends done u d p : List ℕ} → Begun m ends done q u d p → q ≡ lowest_inner (covered (look ends) untouched) (suc 0) (m - 0)
+first_low : {m q : ℕ} {ends done : List ℕ} {u d : Halves} {p : List Pair} → Begun m ends done q u d p → q ≡ lowest_inner (covered (look ends) untouched) (suc 0) (m - 0)
 first_low {m} b = let all : m - 0 ≡ m = omega arith in rw all b.lowest
 
 module _ {sums first after one two capacity : List ℕ} (laid : Laid sums first after one two capacity) where
@@ -45,7 +46,7 @@ pub enter_root-frame-requires : goal.enter_root-frame-requires
 enter_root-frame-requires c =
     let a = c.args in
     let s = c.requires in
-    let start = between-starts a.ends.now a.one.now a.two.now a.capacity.now a.ups.now a.downs.now a.pairs.now in
+    let start = between-starts a.ends.now a.chains.now.tree.one.now a.chains.now.tree.two.now a.capacity.now a.ups.now a.downs.now a.pairs.now in
     enters s.1 s.0 a.lowest 0 (root-site s.0 start (first_low s.2) s.2.some) (omega arith)
 
 pub loop-child-init : goal.loop-child-init
@@ -53,10 +54,10 @@ loop-child-init c =
     let a = c.args in
     let s = c.requires in
     let b = s.2 in
-    let start = between-starts a.ends.now a.one.now a.two.now a.capacity.now a.ups.now a.downs.now a.pairs.now in
+    let start = between-starts a.ends.now a.chains.now.tree.one.now a.chains.now.tree.two.now a.capacity.now a.ups.now a.downs.now a.pairs.now in
     let site = root-site s.0 start (first_low b) b.some in
     rw b.marked (framed_roots s.0 start (first_low b) b.some b.ups_room b.downs_room b.pairs_room (entered s.1 a.lowest site c.enter_root-frame.ensures)
-    _ (add-one (length a.one.now)) _ refl)
+    _ (add-one (length a.chains.now.tree.one.now)) _ refl)
 
 -- ---- a child to come
 
@@ -68,7 +69,7 @@ child_of-child-requires c =
     let inside : over c.loop-child.frame < length a.capacity.now = omega (
       arith,
       (joined w (omega arith)).0,
-      length-links a.one.now a.two.now (omega (arith, t.firsts, t.seconds)),
+      length-links a.chains.now.tree.one.now a.chains.now.tree.two.now (omega (arith, t.firsts, t.seconds)),
       t.firsts,
       t.capacities,
     ) in
@@ -136,14 +137,14 @@ loop-child-preserved-then-level-sites c = framed_returns c.loop-child.invariant 
 pub returns-then-root-eq0 : goal.returns-then-root-eq0
 returns-then-root-eq0 c =
     let between = framed_ends c.loop-child.invariant (omega arith) c.settle-top.ensures (omega arith) in
-    let low = rw (add-one (length c.args.one.now)) at c.next_root-root.ensures.0 in
+    let low = rw (add-one (length c.args.chains.now.tree.one.now)) at c.next_root-root.ensures.0 in
     between-all c.requires.0 between (sym c.if-root-eq0.true ∙ low)
 
 pub enter_root-frame-requires-in-loop-child : goal.enter_root-frame-requires-in-loop-child
 enter_root-frame-requires-in-loop-child c =
     let s = c.requires in
     let between = framed_ends c.loop-child.invariant (omega arith) c.settle-top.ensures (omega arith) in
-    let low = rw (add-one (length c.args.one.now)) at c.next_root-root.ensures.0 in
+    let low = rw (add-one (length c.args.chains.now.tree.one.now)) at c.next_root-root.ensures.0 in
     enters s.1 s.0 c.next_root-root.result 0 (root-site s.0 between low (omega arith)) (omega arith)
 
 pub loop-child-smaller : goal.loop-child-smaller
@@ -151,7 +152,7 @@ loop-child-smaller c =
     let s = c.requires in
     let b = s.2 in
     let between = framed_ends c.loop-child.invariant (omega arith) c.settle-top.ensures (omega arith) in
-    let low = rw (add-one (length c.args.one.now)) at c.next_root-root.ensures.0 in
+    let low = rw (add-one (length c.args.chains.now.tree.one.now)) at c.next_root-root.ensures.0 in
     let site = root-site s.0 between low (omega arith) in
     roots_owed s.0 between low (omega arith) b.ups_room b.downs_room b.pairs_room
     (entered s.1 c.next_root-root.result site c.enter_root-frame-in-loop-child.ensures) _ (omega arith) c.loop-child.frames _ _
@@ -163,7 +164,7 @@ loop-child-preserved c =
     let r = c.next_root-root.result in
     let done = c.loop-child.done in
     let between = framed_ends c.loop-child.invariant (omega arith) c.settle-top.ensures (omega arith) in
-    let low = rw (add-one (length c.args.one.now)) at c.next_root-root.ensures.0 in
+    let low = rw (add-one (length c.args.chains.now.tree.one.now)) at c.next_root-root.ensures.0 in
     let some : r ≢ 0 = omega arith in
     let site = root-site s.0 between low some in
     let marks : c.next_root-root.new.done ≡ set done r 1 = c.next_root-root.ensures.1 ∙ pick_other some done (set done r 1) in

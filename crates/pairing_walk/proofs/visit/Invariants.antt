@@ -4,7 +4,7 @@ use Rattle.pairing_walk.proofs.visit.Given as goal
 
 abbrev pub invariant-loop-child : goal.invariant-loop-child
 invariant-loop-child l =
-    Framed l.ends l.one l.two l.capacity l.fn.ups l.fn.downs l.fn.pairs l.ups l.downs l.pairs l.done l.level l.root l.top l.frame l.frames
+    Framed l.ends l.chains.tree.one.now l.chains.tree.two.now l.capacity l.fn.ups l.fn.downs l.fn.pairs l.ups l.downs l.pairs l.done l.level l.root l.top l.frame l.frames
 
 abbrev pub decreases-loop-child : goal.decreases-loop-child
-decreases-loop-child l = owed l.ends l.one l.two l.capacity l.root l.level l.frame l.frames
+decreases-loop-child l = owed l.ends l.chains.tree.one.now l.chains.tree.two.now l.capacity l.root l.level l.frame l.frames
