@@ -40,20 +40,18 @@ fn crossed(
     ensures { result ≡ not (eqb (crossed (links one.now two.now) (look ends.now) a b) 0) }
 {
     let path = log_paths::between(rows, a, b);
-    let mut w = tree_sets::start(&path.words);
-    while w.left != 0 {
-        let link = w.place;
+    for link in path.members() {
         if another(ends, a, b, one[link]) {
             return true;
         }
         if another(ends, a, b, two[link]) {
             return true;
         }
-        w = tree_sets::onward(&path.words, w);
     }
     false
 }
 
+// Stays: `outer` chooses no step of its own, but tells what was shown of the ends, by the clause on `Outer`.
 // Whether two sites are two different ends with no other end on their path, which is looked through unless each end is known to have one link.
 pub fn free(
     n: usize,

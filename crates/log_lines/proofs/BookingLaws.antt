@@ -1,25 +1,18 @@
 -- What a line is that asks for something: formed, with an amount within the limit, its names being its fields 1 and 2. By the places of the fields.
-use Rattle.std.specs.Prelude.{Bool, false, cond, ◌&&◌, List, [], ◌∷◌, ◌≢◌, ◌≡◌, refl, ℕ, ◌+◌, ◌-◌, ◌≤◌, ◌<◌, leb, get_or, take, drop}
+use Rattle.std.specs.Prelude.{Bool, false, cond, ◌&&◌, List, [], ◌∷◌, ◌≡◌, refl, ℕ, ◌+◌, ◌-◌, ◌≤◌, ◌<◌, leb, get_or, take, drop, Ok, Some, None, Err}
 use Rattle.std.proofs.Math.Bool.{true}
-use Rattle.std.proofs.lemmas.Bool.{false≢true}
-use Rattle.std.proofs.Common.{⊎_elim, sym, ap, ◌∙◌}
+use Rattle.std.proofs.Common.{ap, ◌∙◌}
 use native.Mathlib.Omega.{arith}
 use Rattle.std.proofs.Math.ListN.{length}
-use borrow.Author.Tests.{eq-eqb, ne_eqb, le-leb}
+use borrow.Author.Tests.{le-leb}
 use Rattle.model.specs.Limits.{AMOUNT}
 use Rattle.text_fields.specs.Fields.{same, fields, field, value}
 use Rattle.text_grammar.specs.Grammar.{split, fault_of, size_of}
 use Rattle.text_grammar.specs.SplitLaws.{end_of_split, field_lies}
 use Rattle.text_grammar.specs.FormLaws.{formed_or_faulty}
-use Rattle.text_grammar.specs.RuleLaws as rule
 use Rattle.text_grammar.specs.declared.Fields.{Fields}
-use Rattle.text_grammar.specs.declared.Check.{Check}
-use Rattle.text_grammar.specs.declared.Check.TheVariants as check
-use Rattle.text_grammar.specs.declared.Size.TheVariants.{Within, Above}
 use Rattle.sheet_kinds.specs.FormedLines.{second-end, third_end, part_of_field_1, part_of_field_2}
-use Rattle.log_lines.specs.LogLines.{sign, log_form, plan_letter, judged, booking, line_as, log_line, plan_line}
-use Rattle.log_lines.specs.declared.Line.{Line}
-use Rattle.log_lines.specs.declared.Line.TheVariants.{Booking, Fault}
+use Rattle.log_lines.specs.LogLines.{sign, log_form, plan_letter, judged, asked, booking, line_as, log_line, plan_line}
 use Rattle.log_lines.specs.BookingLaws.{Asks, IsFormed, asking, booking_of, formed_keeps}
 
 -- the letter chooses the form
@@ -71,25 +64,14 @@ module _ (l : List ℕ) where
           omega (arith, third_end l n short, (field_lies 2 l 0 n).within),
         )
 
--- by the number of the fault
-pub judged_wrong : (c : Check) (w : Line) (n : ℕ) → n ≡ fault_of c → n ≢ 0 → judged c w ≡ Fault n
-unfolding judged
-judged_wrong c w n e d = rw (← e, ne_eqb n 0 d)
-
-pub judged_right : (c : Check) (w : Line) (n : ℕ) → n ≡ fault_of c → n ≡ 0 → (c ≡ check.Formed) × (judged c w ≡ w)
-unfolding judged
-judged_right c w n e z = (
-  ⊎_elim (λ f. f) (λ h. absurd (false≢true (sym h.1 ∙ eq-eqb (fault_of c) 0 (sym e ∙ z)))) (formed_or_faulty c),
-  rw (← e, z),
-)
-
+-- by what its amount is found to be
 pub booking_by_size : (opens : Bool) (fs : List (List ℕ))
     → booking opens fs ≡ booking_of opens (length (field fs 1)) (length (field fs 2)) (size_of AMOUNT (field fs 3))
 unfolding booking size_of
 booking_by_size opens fs = by (leb (value (field fs 3)) AMOUNT) (leb 1 (value (field fs 3))) refl
   where
     by : (u t : Bool) → leb 1 (value (field fs 3)) ≡ t → let a = length (field fs 1) in let b = length (field fs 2) in let x = value (field fs 3) in
-        cond (t && u) (Booking opens 2 (2 + a) (3 + a) (3 + a + b) x) (Fault 3) ≡ booking_of opens a b (cond u (Within x) Above)
+        cond (t && u) (Ok (asked opens a b x)) (Err 3) ≡ booking_of opens a b (cond u (Some x) None)
     by true true e = rw e
     by true false e = rw e
     by false true e = refl

@@ -1,18 +1,15 @@
 -- When a line of a log is a fault, each number just for its cause: 2 neither `+` nor `-`, 10 wrong number of fields, 11 bad name, 17 name of digits alone,
 -- 12 badly written number, in this order; then 3, an amount of 0 or above the limit. Document 02, Cards 6 and 9. By the first field: the sign chooses the
 -- form.
-use Rattle.std.specs.Prelude.{Bool, List, [], ◌⊎◌, ◌≢◌, ◌≡◌, ℕ, ◌<◌}
+use Rattle.std.specs.Prelude.{Bool, List, ◌⊎◌, ◌≢◌, ◌≡◌, ℕ, ◌<◌, Result, Ok, Err}
 use Rattle.model.specs.Limits.{AMOUNT}
 use Rattle.model.specs.Text.{bytes}
 use Rattle.text_fields.specs.Fields.{fields, field, value}
 use Rattle.text_grammar.specs.declared.Form.{Form}
-use Rattle.text_grammar.specs.declared.Check.TheVariants as check
 use Rattle.text_grammar.specs.Grammar.{WrongCount, BadName, BareName, BadNumber}
-use Rattle.text_grammar.specs.RuleLaws as rule
 use Rattle.log_lines.specs.LogLines.{sign, log_form}
 use Rattle.log_lines.specs.BookingLaws.{IsFormed, Asks, asking}
-use Rattle.log_lines.specs.declared.Line.{Line}
-use Rattle.log_lines.specs.declared.Line.TheVariants.{Booking, Fault}
+use Rattle.log_lines.specs.declared.Booking.{Booking}
 
 -- ---- the causes
 
@@ -44,6 +41,6 @@ pub data LineFault (l : List ℕ) : ℕ → Type 0 where
 module _ (l : List ℕ) where
   -- ---- a line tells what it is: a fault its cause, and any other what it asks for
 
-  abbrev pub Tells : Line → Type 0
-  Tells (Booking opens a e b f x) = Asks (sign opens) l × (Booking opens a e b f x ≡ asking opens l)
-  Tells (Fault n) = LineFault l n
+  abbrev pub Tells : Result Booking ℕ → Type 0
+  Tells (Ok b) = Asks (sign b.opens) l × (Ok b ≡ asking b.opens l)
+  Tells (Err n) = LineFault l n

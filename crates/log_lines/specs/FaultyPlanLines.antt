@@ -1,19 +1,15 @@
 -- When a line of a plan drawn by hand is a fault, each number just for its cause: 2 no `P`, 10 wrong number of fields, 11 bad name, 17 name of digits alone,
 -- 12 badly written number, in this order, as in a log; then 3, an amount of 0 or above the limit. Document 02, Card 12.
-use Rattle.std.specs.Prelude.{List, ◌⊎◌, ◌≢◌, ◌≡◌, ℕ, ◌≤◌, ◌<◌}
+use Rattle.std.specs.Prelude.{List, ◌⊎◌, ◌≢◌, ◌≡◌, ℕ, ◌≤◌, ◌<◌, Result, Ok, Err}
 use Rattle.std.proofs.Math.Bool.{true}
 use Rattle.model.specs.Limits.{AMOUNT}
 use Rattle.model.specs.Text.{bytes}
 use Rattle.text_fields.specs.Fields.{fields, field, value}
 use Rattle.text_grammar.specs.declared.Form.{Form}
-use Rattle.text_grammar.specs.declared.Check.TheVariants as check
 use Rattle.text_grammar.specs.Grammar.{WrongCount, BadName, BareName, BadNumber}
-use Rattle.text_grammar.specs.RuleLaws as rule
 use Rattle.log_lines.specs.LogLines.{amount_form, plan_letter}
 use Rattle.log_lines.specs.BookingLaws.{IsFormed, Asks, asking}
-use Rattle.log_lines.specs.FaultyLogLines as log
-use Rattle.log_lines.specs.declared.Line.{Line}
-use Rattle.log_lines.specs.declared.Line.TheVariants.{Booking, Fault}
+use Rattle.log_lines.specs.declared.Booking.{Booking}
 
 -- ---- the causes
 
@@ -38,13 +34,13 @@ pub data PlanFault (l : List ℕ) : ℕ → Type 0 where
 module _ (l : List ℕ) where
   -- ---- a line tells what it is: a fault its cause, and any other what it asks for
 
-  abbrev pub Tells : Line → Type 0
-  Tells (Booking opens a e b f x) = Asks plan_letter l × (Booking opens a e b f x ≡ asking true l)
-  Tells (Fault n) = PlanFault l n
+  abbrev pub Tells : Result Booking ℕ → Type 0
+  Tells (Ok b) = Asks plan_letter l × (Ok b ≡ asking true l)
+  Tells (Err n) = PlanFault l n
 
 -- ---- of a plan or of a log
 
 -- an amount that is asked for is from 1 to the limit
-abbrev pub AmountTold : Line → Type 0
-AmountTold (Booking opens a e b f x) = (1 ≤ x) × (x ≤ AMOUNT)
-AmountTold (Fault n) = Unit {0}
+abbrev pub AmountTold : Result Booking ℕ → Type 0
+AmountTold (Ok b) = (1 ≤ b.amount) × (b.amount ≤ AMOUNT)
+AmountTold (Err n) = Unit {0}

@@ -1,15 +1,15 @@
 -- What a line of a booking log is: an amount to open or to give up between two names, or a fault, by its fields held against the two forms; and a line of a
 -- plan drawn by hand. Document 02, Card 6 ("A log line is `+` or `-`, two end names and an amount in halves from 1 to 2,000,000, tab-parted"); Card 9 (no
 -- bare numbers as names); Card 12 ("lines `P`, name, name, amount in halves, tab-parted", form faults as in a log).
-use Rattle.std.specs.Prelude.{Bool, true, false, cond, ◌&&◌, List, ℕ, ◌+◌, eqb, leb, length}
+use Rattle.std.specs.Prelude.{Bool, true, false, cond, ◌&&◌, List, ℕ, ◌+◌, leb, length, Result, Ok, Err}
 use Rattle.model.specs.Limits.{AMOUNT}
 use Rattle.model.specs.Text.{bytes}
 use Rattle.text_fields.specs.Fields.{same, fields, field, value}
-use Rattle.text_grammar.specs.Grammar.{checked, fault_of}
+use Rattle.text_grammar.specs.Grammar.{checked}
 use Rattle.text_grammar.specs.declared.Form.{Form}
-use Rattle.text_grammar.specs.declared.Check.{Check}
-use Rattle.log_lines.specs.declared.Line.{Line}
-use Rattle.log_lines.specs.declared.Line.TheVariants.{Booking, Fault}
+use Rattle.log_lines.specs.declared.Booking.{Booking}
+-- a line that is formed, or its fault
+unfoldable pub use Rattle.sheet_kinds.specs.LineKinds.{judged}
 
 -- `+` where the line opens, `-` where it gives up
 abbrev pub sign : Bool → ℕ
@@ -27,31 +27,31 @@ log_form opens = amount_form (sign opens)
 abbrev pub plan_letter : ℕ
 plan_letter = 80
 
--- a line that is formed, or its fault
-unfoldable pub judged : Check → Line → Line
-judged c line = cond (eqb (fault_of c) 0) line (Fault (fault_of c))
+-- an amount asked for between names of a and b bytes
+abbrev pub asked : Bool → ℕ → ℕ → ℕ → Booking
+asked opens a b x = record { opens = opens; start = 2; end = 2 + a; start2 = 3 + a; end2 = 3 + a + b; amount = x }
 
 -- a line of such a form, or fault 3 where its amount is not from 1 to AMOUNT
-unfoldable pub booking : Bool → List (List ℕ) → Line
+unfoldable pub booking : Bool → List (List ℕ) → Result Booking ℕ
 booking opens fs =
     let a = length (field fs 1) in
     let b = length (field fs 2) in
     let x = value (field fs 3) in
-    cond (leb 1 x && leb x AMOUNT) (Booking opens 2 (2 + a) (3 + a) (3 + a + b) x) (Fault 3)
+    cond (leb 1 x && leb x AMOUNT) (Ok (asked opens a b x)) (Err 3)
 
 -- a line held against the form with a letter
-unfoldable pub line_as : ℕ → Bool → List (List ℕ) → Line
+unfoldable pub line_as : ℕ → Bool → List (List ℕ) → Result Booking ℕ
 line_as letter opens fs = judged (checked (amount_form letter) fs) (booking opens fs)
 
 -- what a line of a log is: one that opens where the first field is `+`, else one that gives up
-unfoldable pub log_line : List ℕ → Line
+unfoldable pub log_line : List ℕ → Result Booking ℕ
 log_line l = let opens = same (field (fields l) 0) (bytes "+") in line_as (sign opens) opens (fields l)
 
 -- what a line of a plan is: an amount between two names, told as one to open, or a fault
-unfoldable pub plan_line : List ℕ → Line
+unfoldable pub plan_line : List ℕ → Result Booking ℕ
 plan_line l = line_as plan_letter true (fields l)
 
 -- what a line is, of a plan or of a log
-abbrev pub line_by : Bool → List ℕ → Line
+abbrev pub line_by : Bool → List ℕ → Result Booking ℕ
 line_by true = plan_line
 line_by false = log_line

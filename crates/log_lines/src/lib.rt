@@ -7,21 +7,17 @@ ghost use Rattle.text_grammar.specs.Grammar.{split};
 ghost use Rattle.log_lines.specs.LogLines.{amount_form, line_as, log_line, plan_line};
 
 use model::AMOUNT;
-use text_grammar::{Fields, Form, Size};
+use text_grammar::{Broken, Fields, Form};
 
-// What a line of a log is: an amount, in halves, to open or to give up between two names, which are ranges of places in the line; or a fault.
-#[derive(Clone, Copy)]
-pub enum Line {
-    Booking {
-        opens: bool,
-        start: usize,
-        end: usize,
-        start2: usize,
-        end2: usize,
-        amount: u64,
-    },
-    // the number of the answer
-    Fault(u64),
+// What a line of a log asks: an amount, in halves, to open or to give up between two names, which are ranges of places in the line.
+#[derive(Clone, Copy, PartialEq, Eq, Debug)]
+pub struct Booking {
+    pub opens: bool,
+    pub start: usize,
+    pub end: usize,
+    pub start2: usize,
+    pub end2: usize,
+    pub amount: u64,
 }
 
 // The form of a line with a letter.
@@ -36,35 +32,30 @@ fn form(letter: u8) -> Form
     }
 }
 
-// What a line is, held against the form with a letter.
-fn line_as(line: &[u8], found: Fields, letter: u8, opens: bool) -> Line
+// What a line asks, held against the form with a letter, or the number of the refusal.
+fn line_as(line: &[u8], found: Fields, letter: u8, opens: bool) -> Result<Booking, u64>
     requires { found ≡ split line.now }
     ensures { result ≡ line_as letter opens (fields line.now) }
 {
-    let fault = text_grammar::fault(text_grammar::check_line(line, found, form(letter)));
-    if fault != 0 {
-        return Line::Fault(fault);
-    }
+    text_grammar::check_line(line, found, form(letter)).map_err(Broken::number)?;
     let size = text_grammar::size_of(text_grammar::field(line, found, 3), AMOUNT);
-    let Size::Within(amount) = size else {
-        return Line::Fault(3);
-    };
+    let amount = size.ok_or(3_u64)?;
     if amount < 1 {
-        return Line::Fault(3);
+        return Err(3);
     }
     let end = found.end[1];
-    Line::Booking {
+    Ok(Booking {
         opens,
         start: 2,
         end,
         start2: end + 1,
         end2: found.end[2],
         amount,
-    }
+    })
 }
 
-// What a line of a log is.
-pub fn classify(line: &[u8]) -> Line
+// What a line of a log asks, or the number of the refusal.
+pub fn classify(line: &[u8]) -> Result<Booking, u64>
     ensures { result ≡ log_line line.now }
 {
     let found = text_grammar::split(line);
@@ -75,8 +66,9 @@ pub fn classify(line: &[u8]) -> Line
     line_as(line, found, b'-', opens)
 }
 
-// What a line of a plan is: its letter is `P`, and its amount is told as one to open.
-pub fn plan_line(line: &[u8]) -> Line
+// What a line of a plan asks, or the number of the refusal: its letter is `P`, and its amount is told as one to open.
+#[tactic(auto, unfolding(crate::specs::LogLines::plan_line))]
+pub fn plan_line(line: &[u8]) -> Result<Booking, u64>
     ensures { result ≡ plan_line line.now }
 {
     line_as(line, text_grammar::split(line), b'P', true)

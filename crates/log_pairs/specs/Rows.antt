@@ -1,5 +1,5 @@
 -- The rows of the arrays are the list of open pairs: a store in the arrays is the change of the list, and zeros stay behind it.
-use Rattle.std.specs.Prelude.{◌≡◌, ◌≢◌, length, take, set, get_or}
+use Rattle.std.specs.Prelude.{◌≡◌, ◌≢◌, length, take, set, get_or, replicate}
 use Rattle.std.proofs.Math.Path.{refl, ap}
 use Rattle.std.proofs.Common.{sym, ◌∙◌, length-set, length-append, ext_get_or, get_or-set_same, get_or-set_other, get_or-take, length-take-le}
 use mathlib.Core.List.{List, [], ◌∷◌, ◌++◌, map}
@@ -10,12 +10,13 @@ use Rattle.std.proofs.Math.ListN.{get_or-append}
 use Rattle.lists.specs.Numbers.{upfrom, look}
 use Rattle.model.specs.declared.Pair.{Pair}
 use Rattle.lists.specs.Sums.{pick_same, pick_other, same?}
-use Rattle.lists.specs.Places.{length-upfrom, look-upfrom}
+use Rattle.lists.specs.Places.{length-upfrom, look-upfrom, look-zeros}
 use Rattle.model.specs.Booking.{pair, same, grow, shrink, moved, last_of, front_of}
 use Rattle.theory_log.specs.Pairs.{same-one}
 use Rattle.theory_log.proofs.Pairs.{same-is}
 use Rattle.model.specs.Limits.{OPEN, PLACES, SITES}
-use Rattle.log_pairs.specs.Arrays.{none, packed, row, entries, Held, FirstPlace, Growing, Shrinking}
+use Rattle.log_pairs.specs.Arrays.{none, packed, row, entries, pairs_of, Held, FirstPlace, Growing, Shrinking}
+use Rattle.log_pairs.specs.declared.OpenPairs.{OpenPairs}
 
 -- ---- the first place of a pair
 
@@ -168,56 +169,68 @@ entries_past : (f m : List ℕ) (n k u w : ℕ) → n ≤ k → entries (set f k
 entries_past f m n k u w h = entries_are (set f k u) (set m k w) n (entries f m n) (length-entries f m n)
     (λ i l. row_other f m k i u w (λ e. omega arith) ∙ sym (entries_at f m n i l))
 
-module _ {f m : List ℕ} {a b x k count : ℕ} (g : Growing f m a b x k count) where
-  pub held_grown : k < count → Held (grow a b x (entries f m count)) f (set m k (look m k + x)) count
+module _ {o : OpenPairs} {a b x k : ℕ} (g : Growing o a b x k) where
+  pub held_grown : k < o.count → Held (grow a b x (pairs_of o)) (record { pairs = o.pairs; amounts = set o.amounts k (look o.amounts k + x); count = o.count })
   held_grown l = let h = g.held in record {
     pairs = h.pairs;
-    amounts = length-set m k (look m k + x) ∙ h.amounts;
+    amounts = length-set o.amounts k (look o.amounts k + x) ∙ h.amounts;
     few = h.few;
-    same = entries_grown f m a b count k g.place x (omega (arith, h.few, h.amounts)) l;
-    behind = λ i p. amount_other f m k i (look m k + x) (λ e. omega arith) ∙ h.behind i p;
+    same = entries_grown o.pairs o.amounts a b o.count k g.place x (omega (arith, h.few, h.amounts)) l;
+    behind = λ i p. amount_other o.pairs o.amounts k i (look o.amounts k + x) (λ e. omega arith) ∙ h.behind i p;
   }
 
-  pub held_new : k ≡ count → Held (grow a b x (entries f m count)) (set f k (packed a b)) (set m k x) (count + 1)
+  pub held_new : k ≡ o.count
+      → Held (grow a b x (pairs_of o)) (record { pairs = set o.pairs k (packed a b); amounts = set o.amounts k x; count = o.count + 1 })
   held_new e =
       let h = g.held in
       let room = g.room in
       record {
-        pairs = length-set f k (packed a b) ∙ h.pairs;
-        amounts = length-set m k x ∙ h.amounts;
+        pairs = length-set o.pairs k (packed a b) ∙ h.pairs;
+        amounts = length-set o.amounts k x ∙ h.amounts;
         few = omega arith;
-        same = rw e (entries_new f m a b count k g.place x g.second e (omega (arith, h.pairs)) (omega (arith, h.amounts)));
-        behind = λ i p. row_other f m k i (packed a b) x (λ z. omega arith) ∙ h.behind i (omega arith);
+        same = rw e (entries_new o.pairs o.amounts a b o.count k g.place x g.second e (omega (arith, h.pairs)) (omega (arith, h.amounts)));
+        behind = λ i p. row_other o.pairs o.amounts k i (packed a b) x (λ z. omega arith) ∙ h.behind i (omega arith);
       }
 
-module _ {f m : List ℕ} {a b x k count : ℕ} (g : Shrinking f m a b x k count) where
-  pub held_shrunk : x < look m k → Held (shrink a b x (entries f m count)) f (set m k (look m k - x)) count
+module _ {o : OpenPairs} {a b x k : ℕ} (g : Shrinking o a b x k) where
+  pub held_shrunk : x < look o.amounts k
+      → Held (shrink a b x (pairs_of o)) (record { pairs = o.pairs; amounts = set o.amounts k (look o.amounts k - x); count = o.count })
   held_shrunk l = let h = g.held in record {
     pairs = h.pairs;
-    amounts = length-set m k (look m k - x) ∙ h.amounts;
+    amounts = length-set o.amounts k (look o.amounts k - x) ∙ h.amounts;
     few = h.few;
-    same = entries_shrunk f m a b count k g.place x (omega (arith, h.few, h.amounts)) g.there (λ e. omega arith);
-    behind = λ i p. amount_other f m k i (look m k - x) (λ e. omega (arith, g.there)) ∙ h.behind i p;
+    same = entries_shrunk o.pairs o.amounts a b o.count k g.place x (omega (arith, h.few, h.amounts)) g.there (λ e. omega arith);
+    behind = λ i p. amount_other o.pairs o.amounts k i (look o.amounts k - x) (λ e. omega (arith, g.there)) ∙ h.behind i p;
   }
 
-  pub held_gone : look m k ≡ x → let last = count - 1 in
-      Held (shrink a b x (entries f m count)) (set (set f k (look f last)) last 0) (set (set m k (look m last)) last 0) last
+  pub held_gone : look o.amounts k ≡ x → let last = o.count - 1 in
+      Held (shrink a b x (pairs_of o)) (record {
+        pairs = set (set o.pairs k (look o.pairs last)) last 0;
+        amounts = set (set o.amounts k (look o.amounts last)) last 0;
+        count = last;
+      })
   held_gone e =
       let h = g.held in
-      let last = count - 1 in
+      let last = o.count - 1 in
       let there = g.there in
-      let f' = set f k (look f last) in
-      let m' = set m k (look m last) in
+      let f' = set o.pairs k (look o.pairs last) in
+      let m' = set o.amounts k (look o.amounts last) in
       let few : last < OPEN = omega (arith, h.few) in
-      let long-f : length f' ≡ OPEN = length-set f k (look f last) ∙ h.pairs in
-      let long-m : length m' ≡ OPEN = length-set m k (look m last) ∙ h.amounts in
+      let long-f : length f' ≡ OPEN = length-set o.pairs k (look o.pairs last) ∙ h.pairs in
+      let long-m : length m' ≡ OPEN = length-set o.amounts k (look o.amounts last) ∙ h.amounts in
       record {
         pairs = length-set f' last 0 ∙ long-f;
         amounts = length-set m' last 0 ∙ long-m;
         few = omega arith;
         same = entries_past f' m' last last 0 0 (omega arith)
-            ∙ entries_gone f m a b count k g.place x there (omega (arith, h.pairs)) (omega (arith, h.amounts)) e;
+            ∙ entries_gone o.pairs o.amounts a b o.count k g.place x there (omega (arith, h.pairs)) (omega (arith, h.amounts)) e;
         behind = λ i p. same? i last
             (λ z. rw z (row_at f' m' last 0 0 (omega arith) (omega arith)))
-            (λ z. row_other f' m' last i 0 0 z ∙ row_other f m k i (look f last) (look m last) (λ q. omega arith) ∙ h.behind i (omega arith));
+            (λ z. row_other f' m' last i 0 0 z ∙ row_other o.pairs o.amounts k i (look o.pairs last) (look o.amounts last) (λ q. omega arith)
+            ∙ h.behind i (omega arith));
       }
+
+-- before the first pair
+pub held_none : Held [] (record { pairs = replicate OPEN 0; amounts = replicate OPEN 0; count = 0 })
+unfolding entries upfrom
+held_none = record { pairs = refl; amounts = refl; few = omega arith; same = refl; behind = λ i h. rw (look-zeros OPEN i) refl }

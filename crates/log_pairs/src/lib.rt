@@ -2,11 +2,11 @@
 // it.
 #![tactic(auto)]
 
-ghost use Rattle.std.specs.Prelude.{◌≡◌, ◌+◌, ◌≤◌, min};
+ghost use Rattle.std.specs.Prelude.{◌≡◌, [], ◌+◌, ◌≤◌, min};
 ghost use Rattle.lists.specs.Numbers.{is, look, sum};
 ghost use Rattle.model.specs.Limits.{OPEN, SITES};
 ghost use Rattle.model.specs.Booking.{grow, shrink};
-ghost use Rattle.log_pairs.specs.Arrays.{packed, BLOCK, entries, Held, FirstFrom, FirstPlace, Growing, Shrinking};
+ghost use Rattle.log_pairs.specs.Arrays.{packed, BLOCK, pairs_of, Held, FoundFrom, Found, MayGrow, Shrinking};
 
 use model::{OPEN, PLACES};
 
@@ -35,80 +35,85 @@ fn in_block(key: u32, at: usize, pairs: &[u32; OPEN]) -> u32
     seen
 }
 
-// The first place from one on that has a number; `count` where none has.
-fn first_from(key: u32, at: usize, count: usize, pairs: &[u32; OPEN]) -> usize
+// The first of `count` places, from one on, that has a number.
+fn first_from(key: u32, at: usize, count: usize, pairs: &[u32; OPEN]) -> Option<usize>
     requires { (at ≤ count) × (count ≤ OPEN) }
-    ensures { FirstFrom pairs.now key at count result }
+    ensures { FoundFrom pairs.now key at count result }
 {
     for i in at..count {
         if pairs[i] == key {
-            return i;
+            return Some(i);
         }
     }
-    count
+    None
 }
 
-// The place of the pair a, b among the open pairs; their count where it is not open.
-pub fn find(a: usize, b: usize, count: usize, pairs: &[u32; OPEN]) -> usize
-    requires { (a ≤ SITES) × (b ≤ SITES) × (count ≤ OPEN) }
-    ensures { FirstPlace pairs.now a b count result }
-{
-    let key = packed(a, b);
-    let mut at = 0;
-    while at + BLOCK <= count {
-        if in_block(key, at, pairs) != 0 {
-            return first_from(key, at, count, pairs);
+// The open pairs: each of the first `count` places holds a pair as one number and its amount, and zeros stand behind them.
+#[derive(Clone, Copy)]
+pub struct OpenPairs {
+    pub pairs: [u32; OPEN],
+    pub amounts: [u64; OPEN],
+    pub count: usize,
+}
+
+impl OpenPairs {
+    // No pair is open.
+    pub fn new() -> Self
+        ensures { Held [] result }
+    {
+        OpenPairs {
+            pairs: [0u32; OPEN],
+            amounts: [0u64; OPEN],
+            count: 0,
         }
-        at += BLOCK;
     }
-    first_from(key, at, count, pairs)
-}
 
-// x more for the pair a, b, whose place is k; tells how many pairs are open then.
-pub fn grow(
-    a: usize,
-    b: usize,
-    x: u64,
-    k: usize,
-    count: usize,
-    pairs: &mut [u32; OPEN],
-    amount: &mut [u64; OPEN],
-) -> usize
-    requires { Growing pairs.old amount.old a b x k count }
-    ensures { Held (grow a b x (entries pairs.old amount.old count))
-        pairs.new amount.new result }
-{
-    if k < count {
-        amount[k] += x;
-        return count;
+    // The place of the pair a, b, if it is open.
+    pub fn find(&self, a: usize, b: usize) -> Option<usize>
+        requires { (a ≤ SITES) × (b ≤ SITES) × (self.now.count ≤ OPEN) }
+        ensures { Found self.now.pairs a b self.now.count result }
+    {
+        let key = packed(a, b);
+        let mut at = 0;
+        // Stays: a block is looked at as a whole, without a jump for each place, which a search that stops at the first place is not.
+        while at + BLOCK <= self.count {
+            if in_block(key, at, &self.pairs) != 0 {
+                return first_from(key, at, self.count, &self.pairs);
+            }
+            at += BLOCK;
+        }
+        first_from(key, at, self.count, &self.pairs)
     }
-    pairs[k] = packed(a, b);
-    amount[k] = x;
-    count + 1
-}
 
-// x less for the pair a, b, whose place is k: where nothing is left the last pair takes its place; tells how many pairs are open then.
-pub fn shrink(
-    a: usize,
-    b: usize,
-    x: u64,
-    k: usize,
-    count: usize,
-    pairs: &mut [u32; OPEN],
-    amount: &mut [u64; OPEN],
-) -> usize
-    requires { Shrinking pairs.old amount.old a b x k count }
-    ensures { Held (shrink a b x (entries pairs.old amount.old count))
-        pairs.new amount.new result }
-{
-    if x < amount[k] {
-        amount[k] -= x;
-        return count;
+    // x more for the pair a, b, whose place is given if it is open.
+    pub fn grow(&mut self, a: usize, b: usize, x: u64, place: Option<usize>)
+        requires { MayGrow self.old a b x place }
+        ensures { Held (grow a b x (pairs_of self.old)) self.new }
+    {
+        if let Some(k) = place {
+            self.amounts[k] += x;
+            return;
+        }
+        let k = self.count;
+        self.pairs[k] = packed(a, b);
+        self.amounts[k] = x;
+        self.count += 1;
     }
-    let last = count - 1;
-    pairs[k] = pairs[last];
-    amount[k] = amount[last];
-    pairs[last] = 0;
-    amount[last] = 0;
-    last
+
+    // x less for the pair a, b, whose place is k: where nothing is left the last pair takes its place.
+    pub fn shrink(&mut self, a: usize, b: usize, x: u64, k: usize)
+        requires { Shrinking self.old a b x k }
+        ensures { Held (shrink a b x (pairs_of self.old)) self.new }
+    {
+        if x < self.amounts[k] {
+            self.amounts[k] -= x;
+            return;
+        }
+        let last = self.count - 1;
+        self.pairs[k] = self.pairs[last];
+        self.amounts[k] = self.amounts[last];
+        self.pairs[last] = 0;
+        self.amounts[last] = 0;
+        self.count = last;
+    }
 }

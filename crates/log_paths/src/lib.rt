@@ -77,9 +77,7 @@ fn outward(
     ensures { Spread n order.now parent.now up.now 0 result }
 {
     let mut rows = [0u64; ROWS];
-    let mut i = n - 1;
-    while 0 < i {
-        i -= 1;
+    for i in (0..n - 1).rev() {
         let x = order[i];
         let near = parent[x] as usize;
         let link = up[x] as usize;

@@ -1,9 +1,9 @@
 -- The lines of a text one by one, and that what a line asks can be asked: two sites free to be joined and an amount within the limit.
-use Rattle.std.specs.Prelude.{Bool, ◌≢◌, ◌≡◌, ltb, drop, get_or}
+use Rattle.std.specs.Prelude.{Option, Some, None, Bool, ◌≢◌, ◌≡◌, ltb, drop, get_or, Result, Ok, Err}
 use Rattle.std.proofs.Math.Bool.{true, false, cond}
 use mathlib.Core.List.{List, [], ◌∷◌, map}
 use Rattle.std.proofs.Math.Path.{refl}
-use Prim.Native.Nat.{ℕ, zero, suc, ◌+◌, ◌-◌, ◌≤◌, ◌<◌}
+use Prim.Native.Nat.{ℕ, zero, suc, ◌+◌, ◌≤◌, ◌<◌}
 use native.Mathlib.Omega.{arith}
 use Rattle.std.proofs.Math.ListN.{length, length-map}
 use Rattle.lists.specs.Numbers.{less, look, Each}
@@ -20,56 +20,53 @@ use Rattle.theory_trees.specs.FreePairs.{free_parts, free_turned}
 use Rattle.theory_log.specs.Requests.{OpensOnly}
 use Rattle.text_lines.specs.Lines.{line_length, line_at}
 use Rattle.sheet_names.specs.LookupLaws.{Says, lookup_says}
-use Rattle.sheet_names.specs.declared.Found.{Found}
-use Rattle.sheet_names.specs.declared.Found.TheVariants.{At, Absent}
 use Rattle.sheet.specs.Sheet.{lookup}
 use Rattle.log_lines.specs.LogLines.{line_by}
 use Rattle.log_lines.specs.FaultyPlanLines.{AmountTold}
 use Rattle.log_lines.proofs.FaultyPlanLines.{a_line_tells_its_amount}
-use Rattle.log_lines.specs.declared.Line.{Line}
-use Rattle.log_lines.specs.declared.Line.TheVariants.{Booking, Fault}
+use Rattle.log_lines.specs.declared.Booking.{Booking}
 use Rattle.log_requests.specs.Requests.{lines, line_of, request_for, between, request_by, request_at, requests}
 use Rattle.log_requests.specs.RequestLaws.{Free, Named}
 
 -- ---- the two sites
 module _ (ls : Links) (t : ℕ → ℕ) (opens : Bool) (x a b : ℕ) where
-  pub a_pair_that_is_not_free_gets_6 : free_pair ls t a b ≢ 1 → between ls t opens x (At a) (At b) ≡ request.Fault 6
+  pub a_pair_that_is_not_free_gets_6 : free_pair ls t a b ≢ 1 → between ls t opens x (Some a) (Some b) ≡ request.Fault 6
   unfolding between
   a_pair_that_is_not_free_gets_6 d = pick_other d _ _
 
-  pub a_free_pair_is_asked_for : free_pair ls t a b ≡ 1 → between ls t opens x (At a) (At b) ≡ request_for opens (pair a b x)
+  pub a_free_pair_is_asked_for : free_pair ls t a b ≡ 1 → between ls t opens x (Some a) (Some b) ≡ request_for opens (pair a b x)
   unfolding between
   a_free_pair_is_asked_for e = pick_same e _ _
 
 pub found_is_a_site : (s f : List ℕ) (names : List (ℕ × ℕ)) → Named (length names) (lookup s names f)
 found_is_a_site s f names = by (lookup s names f) (lookup_says s f names 1)
   where
-    by : (w : Found) → Says s names 1 f w → Named (length names) w
-    by (At v) h = omega arith
-    by Absent h = tt
+    by : (w : Option ℕ) → Says s names 1 f w → Named (length names) w
+    by (Some v) h = omega arith
+    by None h = tt
 
 -- what holds of faults, and of amounts within the limit between two ends free to be joined, holds of all that is asked
 module _ (s : List ℕ) (names : List (ℕ × ℕ)) (ls : Links) (t : ℕ → ℕ) (Q : Request → Type 0) (of-faults : (k : ℕ) → Q (request.Fault k))
     (of-pairs : (opens : Bool) (e : Pair) → Proper (length names) e → free_pair ls t e.first e.second ≡ 1 → Q (request_for opens e)) where
-  of_between : (opens : Bool) (x : ℕ) → 1 ≤ x → x ≤ AMOUNT → (v w : Found) → Named (length names) v → Named (length names) w → Q (between ls t opens x v w)
+  of_between : (opens : Bool) (x : ℕ) → 1 ≤ x → x ≤ AMOUNT → (v w : Option ℕ) → Named (length names) v → Named (length names) w → Q (between ls t opens x v w)
   unfolding between
-  of_between opens x some limited Absent w g h = of-faults 6
-  of_between opens x some limited (At a) Absent g h = of-faults 6
-  of_between opens x some limited (At a) (At b) g h = pick_cases Q (free_pair ls t a b) 1 (request_for opens (pair a b x)) (request.Fault 6)
+  of_between opens x some limited None w g h = of-faults 6
+  of_between opens x some limited (Some a) None g h = of-faults 6
+  of_between opens x some limited (Some a) (Some b) g h = pick_cases Q (free_pair ls t a b) 1 (request_for opens (pair a b x)) (request.Fault 6)
       (λ e. of-pairs opens (pair a b x)
       (record { first-site = g; second-site = h; different = (free_parts ls t a b e).0; some = some; limited = limited }) e)
       (λ d. of-faults 6)
 
-  of_line : (l : List ℕ) (w : Line) → AmountTold w → Q (request_by s names ls t l w)
+  of_line : (l : List ℕ) (w : Result Booking ℕ) → AmountTold w → Q (request_by s names ls t l w)
   unfolding request_by
-  of_line l (Booking opens a e b f x) (some, limited) = of_between opens x some limited _ _ (found_is_a_site s _ names) (found_is_a_site s _ names)
-  of_line l (Fault k) h = of-faults k
+  of_line l (Ok b) (some, limited) = of_between b.opens b.amount some limited _ _ (found_is_a_site s _ names) (found_is_a_site s _ names)
+  of_line l (Err k) h = of-faults k
 
   pub of_a_request : (plan : Bool) (text : List ℕ) (at : ℕ) → Q (request_at plan s names ls t text at)
   unfolding request_at request_by line_of
   of_a_request plan text at = by (ltb (at + line_length (drop at text)) (length text))
     where
-      by : (z : Bool) → Q (request_by s names ls t (line_at text at) (cond z (line_by plan (line_at text at)) (Fault 2)))
+      by : (z : Bool) → Q (request_by s names ls t (line_at text at) (cond z (line_by plan (line_at text at)) (Err 2)))
       by true = of_line (line_at text at) (line_by plan (line_at text at)) (a_line_tells_its_amount plan (line_at text at))
       by false = of-faults 2
 

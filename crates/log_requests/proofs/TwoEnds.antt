@@ -1,5 +1,5 @@
 -- What the two names of a formed line mean: two ends free to be joined, or not, with the reason; and what the line asks then.
-use Rattle.std.specs.Prelude.{Bool, List, ◌≡◌, ℕ}
+use Rattle.std.specs.Prelude.{Option, Some, None, Bool, List, ◌≡◌, ℕ}
 use Rattle.std.proofs.Common.{◌∙◌}
 use Rattle.std.proofs.Math.Path.{refl}
 use Rattle.model.specs.Flows.{Links}
@@ -7,8 +7,6 @@ use Rattle.model.specs.Booking.{pair}
 use Rattle.model.specs.declared.Request.TheVariants as request
 use Rattle.text_lines.specs.Lines.{line_at}
 use Rattle.text_fields.specs.Fields.{fields, field}
-use Rattle.sheet_names.specs.declared.Found.{Found}
-use Rattle.sheet_names.specs.declared.Found.TheVariants.{At, Absent}
 use Rattle.sheet.specs.Sheet.{lookup}
 use Rattle.log_lines.specs.LogLines.{line_by}
 use Rattle.log_lines.specs.BookingLaws.{asking}
@@ -42,8 +40,8 @@ module _ (s : List ℕ) (names : List (ℕ × ℕ)) (ls : Links) (t : ℕ → �
     unfolding between
     asked_of_none none = asked-by-fields ∙ by (first_found s names ls t text at) refl (second_found s names ls t text at) refl
       where
-        by : (v : Found) → first_found s names ls t text at ≡ v → (w : Found) → second_found s names ls t text at ≡ w → between ls t opens (amount_of text at) v w ≡ request.Fault 6
-        by Absent e w f = refl
-        by (At a) e Absent f = refl
-        by (At a) e (At b) f = a_pair_that_is_not_free_gets_6 ls t opens (amount_of text at) a b
+        by : (v : Option ℕ) → first_found s names ls t text at ≡ v → (w : Option ℕ) → second_found s names ls t text at ≡ w → between ls t opens (amount_of text at) v w ≡ request.Fault 6
+        by None e w f = refl
+        by (Some a) e None f = refl
+        by (Some a) e (Some b) f = a_pair_that_is_not_free_gets_6 ls t opens (amount_of text at) a b
             (λ z. not_two_ends_are_none s names ls t text at none a b (record { first = e; second = f; free = z }))

@@ -1,5 +1,5 @@
 -- The lines of a text one by one, and that what a line asks can be asked: two sites free to be joined and an amount within the limit.
-use Rattle.std.specs.Prelude.{Bool, ◌≡◌, drop}
+use Rattle.std.specs.Prelude.{Option, Some, None, Bool, ◌≡◌, drop, Err}
 use Rattle.std.proofs.Math.Bool.{true, false, cond}
 use mathlib.Core.List.{List, [], ◌∷◌}
 use Rattle.std.proofs.Math.Path.{refl, sym, ap}
@@ -10,13 +10,9 @@ use borrow.Author.Tests.{lt-ltb, le-ltb}
 use Rattle.std.proofs.Math.ListN.{length}
 use Rattle.model.specs.Flows.{Links, Site}
 use Rattle.model.specs.Parts.{free_pair}
-use Rattle.model.specs.declared.Request.TheVariants as request
 use Rattle.text_lines.specs.Lines.{line_length, line_at, after_line, has_line}
 use Rattle.text_lines.specs.LineLaws.{length_of_line, no_line_past_the_sheet, after-line-is-later}
-use Rattle.sheet_names.specs.declared.Found.{Found}
-use Rattle.sheet_names.specs.declared.Found.TheVariants.{At, Absent}
 use Rattle.log_lines.specs.LogLines.{line_by}
-use Rattle.log_lines.specs.declared.Line.TheVariants.{Fault}
 use Rattle.log_requests.specs.Requests.{lines_from, lines, line_of}
 
 -- ---- line by line
@@ -61,7 +57,7 @@ module _ (text : List ℕ) where
   all_lines = rw sub-zero
 
   -- an unended line, and an ended one
-  pub unended_line : (plan : Bool) (at : ℕ) → length text ≤ at + length (line_at text at) → line_of plan text at ≡ Fault 2
+  pub unended_line : (plan : Bool) (at : ℕ) → length text ≤ at + length (line_at text at) → line_of plan text at ≡ Err 2
   unfolding line_of
   unended_line plan at h = rw (le-ltb (at + line_length (drop at text)) (length text) (omega (arith, length_of_line text at)))
 
@@ -72,9 +68,9 @@ module _ (text : List ℕ) where
 -- ---- what can be asked
 
 -- a site that is found among n
-abbrev pub Named : ℕ → Found → Type 0
-Named n (At v) = Site n v
-Named n Absent = Unit {0}
+abbrev pub Named : ℕ → Option ℕ → Type 0
+Named n (Some v) = Site n v
+Named n None = Unit {0}
 
 -- two sites free to be joined
 abbrev pub Free : Links → (ℕ → ℕ) → ℕ → ℕ → Type 0

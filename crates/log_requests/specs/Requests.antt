@@ -1,7 +1,7 @@
 -- A text of amounts read with a sheet, a booking log or a plan drawn by hand: its lines, and what each of them asks.
 -- Document 02, Cards 6, 7 and 12. Lines are found by the offset of their first byte, names are looked up among those of the sheet, in either case.
 -- `plan` is true of a plan and false of a log: what a line is differs, and nothing else.
-use Rattle.std.specs.Prelude.{Bool, cond, List, [], ◌∷◌, map, ℕ, zero, suc, ◌+◌, ltb, length, drop}
+use Rattle.std.specs.Prelude.{Option, Some, None, Bool, cond, List, [], ◌∷◌, map, ℕ, zero, suc, ◌+◌, ltb, length, drop, Result, Ok, Err, true, false}
 use Rattle.lists.specs.Numbers.{pick, look}
 use Rattle.model.specs.Flows.{Links}
 use Rattle.model.specs.Parts.{free_pair}
@@ -9,13 +9,17 @@ use Rattle.model.specs.Booking.{pair}
 use Rattle.model.specs.declared.Pair.{Pair}
 use Rattle.model.specs.declared.Request.{Request}
 use Rattle.model.specs.declared.Request.TheVariants as request
+use Rattle.log_requests.specs.declared.Text.{Text}
+use Rattle.log_requests.specs.declared.Text.TheVariants.{Log, Plan}
 use Rattle.text_lines.specs.Lines.{line_length, line_at, after_line, has_line}
-use Rattle.sheet_names.specs.declared.Found.{Found}
-use Rattle.sheet_names.specs.declared.Found.TheVariants.{At, Absent}
 use Rattle.sheet.specs.Sheet.{Network, ends_of, part, lookup}
 use Rattle.log_lines.specs.LogLines.{line_by}
-use Rattle.log_lines.specs.declared.Line.{Line}
-use Rattle.log_lines.specs.declared.Line.TheVariants.{Booking, Fault}
+use Rattle.log_lines.specs.declared.Booking.{Booking}
+
+-- a plan, not a log
+abbrev pub is_plan : Text → Bool
+is_plan Log = false
+is_plan Plan = true
 
 -- ---- the lines
 
@@ -29,8 +33,8 @@ unfoldable pub lines : List ℕ → List ℕ
 lines text = lines_from text (length text) 0
 
 -- what the line at an offset is: 2 where no byte 10 ends it, before all else
-unfoldable pub line_of : Bool → List ℕ → ℕ → Line
-line_of plan text at = cond (ltb (at + line_length (drop at text)) (length text)) (line_by plan (line_at text at)) (Fault 2)
+unfoldable pub line_of : Bool → List ℕ → ℕ → Result Booking ℕ
+line_of plan text at = cond (ltb (at + line_length (drop at text)) (length text)) (line_by plan (line_at text at)) (Err 2)
 
 -- ---- what a line asks, over links ls; t tells the ends: 1 at an end, another number elsewhere
 
@@ -39,15 +43,16 @@ abbrev pub request_for : Bool → Pair → Request
 request_for opens e = cond opens (request.Open e) (request.GiveUp e)
 
 -- an amount between what the look-ups of two names found: 6 unless they are two different ends with no other end on their path
-unfoldable pub between : Links → (ℕ → ℕ) → Bool → ℕ → Found → Found → Request
-between ls t opens x (At a) (At b) = pick (free_pair ls t a b) 1 (request_for opens (pair a b x)) (request.Fault 6)
-between ls t opens x (At a) Absent = request.Fault 6
-between ls t opens x Absent w = request.Fault 6
+unfoldable pub between : Links → (ℕ → ℕ) → Bool → ℕ → Option ℕ → Option ℕ → Request
+between ls t opens x (Some a) (Some b) = pick (free_pair ls t a b) 1 (request_for opens (pair a b x)) (request.Fault 6)
+between ls t opens x (Some a) None = request.Fault 6
+between ls t opens x None w = request.Fault 6
 
 -- a line l of a text, by what it is, over the names of the sheet s
-unfoldable pub request_by : List ℕ → List (ℕ × ℕ) → Links → (ℕ → ℕ) → List ℕ → Line → Request
-request_by s names ls t l (Booking opens a e b f x) = between ls t opens x (lookup s names (part l (a, e))) (lookup s names (part l (b, f)))
-request_by s names ls t l (Fault k) = request.Fault k
+unfoldable pub request_by : List ℕ → List (ℕ × ℕ) → Links → (ℕ → ℕ) → List ℕ → Result Booking ℕ → Request
+request_by s names ls t l (Ok b) =
+    between ls t b.opens b.amount (lookup s names (part l (b.start, b.end))) (lookup s names (part l (b.start2, b.end2)))
+request_by s names ls t l (Err k) = request.Fault k
 
 -- the line at an offset of a text
 unfoldable pub request_at : Bool → List ℕ → List (ℕ × ℕ) → Links → (ℕ → ℕ) → List ℕ → ℕ → Request

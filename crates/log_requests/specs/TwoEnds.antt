@@ -1,17 +1,14 @@
 -- What the two names of a formed line mean: two ends free to be joined, or not, with the reason; and what the line asks then.
 -- Document 02, Cards 6, 7 and 12 (6 unless the names are two different ends free to be joined). By the look-ups of its names and the path between its ends.
-use Rattle.std.specs.Prelude.{List, ◌⊎◌, ◌≢◌, ◌≡◌, ℕ, ◌+◌, ◌<◌, length}
+use Rattle.std.specs.Prelude.{Option, Some, None, List, ◌⊎◌, ◌≢◌, ◌≡◌, ℕ, ◌+◌, ◌<◌, length}
 use Rattle.std.proofs.Common.{inl, inr, sym, ap, ◌∙◌}
 use Rattle.std.proofs.Math.Path.{refl}
 use Rattle.lists.specs.Sums.{same?, contradiction}
 use Rattle.model.specs.Flows.{Links}
 use Rattle.model.specs.Parts.{crossed, free_pair}
-use Rattle.model.specs.declared.Request.TheVariants as request
 use Rattle.theory_trees.specs.FreePairs.{Crossing, crossed_by, crossed-some, free_parts, free_whole}
 use Rattle.text_lines.specs.Lines.{line_at}
 use Rattle.text_fields.specs.Fields.{fields, field, value}
-use Rattle.sheet_names.specs.declared.Found.{Found}
-use Rattle.sheet_names.specs.declared.Found.TheVariants.{At, Absent}
 use Rattle.sheet.specs.Sheet.{lookup}
 use Rattle.log_lines.specs.BookingLaws.{Asks}
 
@@ -27,26 +24,26 @@ amount_of text at = value (field (fields (line_at text at)) 3)
 -- over the names of the sheet s, its links and ends t
 module _ (s : List ℕ) (names : List (ℕ × ℕ)) (ls : Links) (t : ℕ → ℕ) (text : List ℕ) (at : ℕ) where
   -- what the look-ups of the two names find
-  abbrev pub first_found : Found
+  abbrev pub first_found : Option ℕ
   first_found = lookup s names (field (fields (line_at text at)) 1)
 
-  abbrev pub second_found : Found
+  abbrev pub second_found : Option ℕ
   second_found = lookup s names (field (fields (line_at text at)) 2)
 
   -- the two names are those of a and b, two different ends with no other end on their path
   pub record TwoEnds (a b : ℕ) : Type 0 where
-    pub first : first_found ≡ At a
-    pub second : second_found ≡ At b
+    pub first : first_found ≡ Some a
+    pub second : second_found ≡ Some b
     pub free : free_pair ls t a b ≡ 1
 
   -- they are not: a name is not given, or that of a site that is no end, or they are those of one site, or another end stands on the path
   pub data NotTwoEnds : Type 0 where
-    first-not-given : first_found ≡ Absent → NotTwoEnds
-    second-not-given : second_found ≡ Absent → NotTwoEnds
-    first-no-end : {a : ℕ} → first_found ≡ At a → t a ≢ 1 → NotTwoEnds
-    second-no-end : {b : ℕ} → second_found ≡ At b → t b ≢ 1 → NotTwoEnds
-    one-site : {a : ℕ} → first_found ≡ At a → second_found ≡ At a → NotTwoEnds
-    another-end : {a b : ℕ} → first_found ≡ At a → second_found ≡ At b → Crossing ls t a b → NotTwoEnds
+    first-not-given : first_found ≡ None → NotTwoEnds
+    second-not-given : second_found ≡ None → NotTwoEnds
+    first-no-end : {a : ℕ} → first_found ≡ Some a → t a ≢ 1 → NotTwoEnds
+    second-no-end : {b : ℕ} → second_found ≡ Some b → t b ≢ 1 → NotTwoEnds
+    one-site : {a : ℕ} → first_found ≡ Some a → second_found ≡ Some a → NotTwoEnds
+    another-end : {a b : ℕ} → first_found ≡ Some a → second_found ≡ Some b → Crossing ls t a b → NotTwoEnds
 
   -- names that are not those of two ends free to be joined are those of none
   pub not_two_ends_are_none : NotTwoEnds → (a b : ℕ) → ¬ (TwoEnds a b)
@@ -66,13 +63,13 @@ module _ (s : List ℕ) (names : List (ℕ × ℕ)) (ls : Links) (t : ℕ → �
   pub two-ends-or-not : ((a : ℕ) × (b : ℕ) × TwoEnds a b) ⊎ NotTwoEnds
   two-ends-or-not = by first_found refl second_found refl
     where
-      by : (v : Found) → first_found ≡ v → (w : Found) → second_found ≡ w → ((a : ℕ) × (b : ℕ) × TwoEnds a b) ⊎ NotTwoEnds
-      by Absent e w f = inr (first-not-given e)
-      by (At a) e Absent f = inr (second-not-given f)
-      by (At a) e (At b) f = same? (t a) 1
+      by : (v : Option ℕ) → first_found ≡ v → (w : Option ℕ) → second_found ≡ w → ((a : ℕ) × (b : ℕ) × TwoEnds a b) ⊎ NotTwoEnds
+      by None e w f = inr (first-not-given e)
+      by (Some a) e None f = inr (second-not-given f)
+      by (Some a) e (Some b) f = same? (t a) 1
           (λ g. same? (t b) 1
           (λ h. same? a b
-          (λ i. inr (one-site e (f ∙ ap At (sym i))))
+          (λ i. inr (one-site e (f ∙ ap Some (sym i))))
           (λ d. same? (crossed ls t a b) 0
           (λ z. inl (a, b, record { first = e; second = f; free = free_whole ls t a b d g h z }))
           (λ z. inr (another-end e f (crossed-some ls t a b z)))))

@@ -12,12 +12,12 @@ ghost use Rattle.tree_links.specs.Chains.{Placed};
 ghost use Rattle.log_paths.specs.Tables.{Mapped};
 ghost use Rattle.text_lines.specs.Lines.{line_at};
 ghost use Rattle.sheet_names.specs.Names.{ranges, Indexes};
-ghost use Rattle.log_requests.specs.Requests.{lines, line_of, between, request_at};
+ghost use Rattle.log_requests.specs.Requests.{is_plan, lines, line_of, between, request_at};
 ghost use Rattle.log_requests.specs.RequestLaws.{Named};
 
-use log_lines::Line;
+use log_lines::Booking;
 use model::{PLACES, Pair, ROWS, Request, SITES};
-use sheet_names::{Found, TABLE};
+use sheet_names::TABLE;
 
 // The number of lines of a text.
 pub fn count_lines(text: &[u8]) -> usize
@@ -25,6 +25,7 @@ pub fn count_lines(text: &[u8]) -> usize
 {
     let mut at = 0;
     let mut count = 0;
+    // Stays: the next offset is where a line ends, so there is no range to go over.
     while text_lines::has_line(text, at) {
         at = text_lines::rest(text, at);
         count += 1;
@@ -32,18 +33,25 @@ pub fn count_lines(text: &[u8]) -> usize
     count
 }
 
-// What the line at an offset of a text is, of a plan or of a log; one that no byte 10 ends is a fault.
-fn line_of(plan: bool, text: &[u8], line: &[u8], at: usize) -> Line
+// A text that is read with a sheet: a booking log, or a plan drawn by hand.
+#[derive(Clone, Copy, PartialEq, Eq, Debug)]
+pub enum Text {
+    Log,
+    Plan,
+}
+
+// What the line at an offset of a text asks, or the number of its refusal: 2 where no byte 10 ends it.
+fn line_of(kind: Text, text: &[u8], line: &[u8], at: usize) -> Result<Booking, u64>
     requires { (at ≤ length text.now) × (line.now ≡ line_at text.now at) }
-    ensures { result ≡ line_of plan text.now at }
+    ensures { result ≡ line_of (is_plan kind) text.now at }
 {
     if at + line.len() >= text.len() {
-        return Line::Fault(2);
+        return Err(2);
     }
-    if plan {
-        return log_lines::plan_line(line);
+    match kind {
+        Text::Log => log_lines::classify(line),
+        Text::Plan => log_lines::plan_line(line),
     }
-    log_lines::classify(line)
 }
 
 // An amount asked for between what the look-ups of two names found, by the links, the table of paths and the ends: fault 6 unless they are two different
@@ -57,17 +65,17 @@ fn between(
     outer: bool,
     opens: bool,
     amount: u64,
-    from: Found,
-    to: Found,
+    from: Option<usize>,
+    to: Option<usize>,
 ) -> Request
     requires { Mapped n one.now two.now rows.now × Named n from × Named n to
         × (outer ≡ true → Outer (links one.now two.now) n (look ends.now)) }
     ensures { result ≡ between (links one.now two.now) (look ends.now) opens amount from to }
 {
-    let Found::At(first) = from else {
+    let Some(first) = from else {
         return Request::Fault(6);
     };
-    let Found::At(second) = to else {
+    let Some(second) = to else {
         return Request::Fault(6);
     };
     if !log_ends::free(n, one, two, rows, ends, outer, first, second) {
@@ -86,7 +94,7 @@ fn between(
 
 // What the line at an offset of a text asks, over the names, the links and the ends of a network.
 pub fn request_at(
-    plan: bool,
+    kind: Text,
     sheet: &[u8],
     starts: &[usize; SITES],
     stops: &[usize; SITES],
@@ -104,36 +112,28 @@ pub fn request_at(
     requires { Mapped n one.now two.now rows.now × Indexes sheet.now (ranges starts.now stops.now 0 n) table.now
         × (at ≤ length text.now) × (line.now ≡ line_at text.now at)
         × (outer ≡ true → Outer (links one.now two.now) n (look ends.now)) }
-    ensures { result ≡ request_at plan sheet.now (ranges starts.now stops.now 0 n)
+    ensures { result ≡ request_at (is_plan kind) sheet.now (ranges starts.now stops.now 0 n)
         (links one.now two.now) (look ends.now) text.now at }
 {
-    let kind = line_of(plan, text, line, at);
-    match kind {
-        Line::Fault(number) => Request::Fault(number),
-        Line::Booking {
-            opens,
-            start,
-            end,
-            start2,
-            end2,
-            amount,
-        } => {
-            let first = sheet_names::part(line, start, end);
-            let second = sheet_names::part(line, start2, end2);
-            let from = sheet_names::find(sheet, starts, stops, n, table, first);
-            let to = sheet_names::find(sheet, starts, stops, n, table, second);
-            between(n, one, two, rows, ends, outer, opens, amount, from, to)
-        }
-    }
-}
-
-// The ends of a tree of n sites with their marks: place v holds 1 where site v is an end, 0 elsewhere.
-pub fn ends_of(n: usize, one: &[usize], two: &[usize], marks: &[u8]) -> [u8; PLACES]
-    requires { (n ≤ SITES) × (n ≡ length marks.now) × Placed one.now two.now }
-    ensures { look result ≡ look (ends (links one.now two.now) n marks.now) }
-{
-    let chains = tree_links::chain(one, two);
-    let last = chains.last;
-    let before = chains.before;
-    tree_links::ends(n, &last, &before, one, two, marks)
+    // Stays: a line at fault is a request of its own, since the theorems of theory_log, theory_verdicts, logs and verdicts answer the lines of a text one by one.
+    let booking = match line_of(kind, text, line, at) {
+        Ok(booking) => booking,
+        Err(number) => return Request::Fault(number),
+    };
+    let first = sheet_names::part(line, booking.start, booking.end);
+    let second = sheet_names::part(line, booking.start2, booking.end2);
+    let from = sheet_names::find(sheet, starts, stops, n, table, first);
+    let to = sheet_names::find(sheet, starts, stops, n, table, second);
+    between(
+        n,
+        one,
+        two,
+        rows,
+        ends,
+        outer,
+        booking.opens,
+        booking.amount,
+        from,
+        to,
+    )
 }

@@ -7,32 +7,23 @@ ghost use Rattle.lists.specs.Numbers.{look};
 ghost use Rattle.model.specs.Booking.{Asked};
 ghost use Rattle.tree.specs.Offer.{links};
 ghost use Rattle.tree.specs.Steps.{Tells};
-ghost use Rattle.log_pairs.specs.Arrays.{entries};
+ghost use Rattle.log_pairs.specs.Arrays.{pairs_of};
 ghost use Rattle.log_steps.specs.Loads.{Measured, Passing, Raising, Lowering, raised, lowered};
 ghost use Rattle.log_steps.specs.Steps.{Given, Standing, Answered, Wanted, Opened, GivenUp};
 
+use log_pairs::OpenPairs;
 use model::{OPEN, Pair, ROWS, Request, SITES};
 use tree_sets::Set;
-
-// What a request gets: the answer, and how many pairs are open then.
-#[derive(Clone, Copy)]
-pub struct Replied {
-    pub answer: u64,
-    pub count: usize,
-}
 
 // Whether a link on a path would be overfilled by x more: its load would pass twice its capacity.
 fn overfills(path: Set, x: u64, capacity: &[u64], load: &[u64; SITES]) -> bool
     requires { Measured path x capacity.now load.now }
     ensures { Tells result (Passing path x capacity.now load.now) }
 {
-    let mut w = tree_sets::start(&path.words);
-    while w.left != 0 {
-        let link = w.place;
+    for link in path.members() {
         if 2 * capacity[link] < load[link] + x {
             return true;
         }
-        w = tree_sets::onward(&path.words, w);
     }
     false
 }
@@ -42,11 +33,8 @@ pub fn raise(path: Set, x: u64, load: &mut [u64; SITES])
     requires { Raising path x load.old }
     ensures { load.new ≡ raised path x load.old }
 {
-    let mut w = tree_sets::start(&path.words);
-    while w.left != 0 {
-        let j = w.place;
-        load[j] += x;
-        w = tree_sets::onward(&path.words, w);
+    for link in path.members() {
+        load[link] += x;
     }
 }
 
@@ -55,11 +43,8 @@ fn lower(path: Set, x: u64, load: &mut [u64; SITES])
     requires { Lowering path x load.old }
     ensures { load.new ≡ lowered path x load.old }
 {
-    let mut w = tree_sets::start(&path.words);
-    while w.left != 0 {
-        let j = w.place;
-        load[j] -= x;
-        w = tree_sets::onward(&path.words, w);
+    for link in path.members() {
+        load[link] -= x;
     }
 }
 
@@ -71,32 +56,26 @@ fn open(
     capacity: &[u64],
     rows: &[u64; ROWS],
     p: Pair,
-    count: usize,
-    pairs: &mut [u32; OPEN],
-    amount: &mut [u64; OPEN],
+    pairs: &mut OpenPairs,
     load: &mut [u64; SITES],
-) -> Replied
+) -> u64
     requires { Given n one.now two.now capacity.now rows.now × Wanted n p
-        × Standing (links one.now two.now) n (look capacity.now) pairs.old amount.old load.old count }
+        × Standing (links one.now two.now) n (look capacity.now) pairs.old load.old }
     ensures { Opened (links one.now two.now) (look capacity.now)
-        (entries pairs.old amount.old count) p
-        pairs.new amount.new load.new result }
+        (pairs_of pairs.old) p pairs.new load.new result }
 {
     let path = log_paths::between(rows, p.first, p.second);
     let full = overfills(path, p.amount, capacity, load);
-    let place = log_pairs::find(p.first, p.second, count, pairs);
+    let place = pairs.find(p.first, p.second);
     if full {
-        return Replied { answer: 15, count };
+        return 15;
     }
-    if place == OPEN {
-        return Replied { answer: 16, count };
+    if place.unwrap_or(pairs.count) == OPEN {
+        return 16;
     }
     raise(path, p.amount, load);
-    let more = log_pairs::grow(p.first, p.second, p.amount, place, count, pairs, amount);
-    Replied {
-        answer: 0,
-        count: more,
-    }
+    pairs.grow(p.first, p.second, p.amount, place);
+    0
 }
 
 // Gives up an amount of a pair, its lower site first: 14 if less than that is open.
@@ -107,31 +86,24 @@ fn give_up(
     capacity: &[u64],
     rows: &[u64; ROWS],
     p: Pair,
-    count: usize,
-    pairs: &mut [u32; OPEN],
-    amount: &mut [u64; OPEN],
+    pairs: &mut OpenPairs,
     load: &mut [u64; SITES],
-) -> Replied
+) -> u64
     requires { Given n one.now two.now capacity.now rows.now × Wanted n p
-        × Standing (links one.now two.now) n (look capacity.now) pairs.old amount.old load.old count }
+        × Standing (links one.now two.now) n (look capacity.now) pairs.old load.old }
     ensures { GivenUp (links one.now two.now) (look capacity.now)
-        (entries pairs.old amount.old count) p
-        pairs.new amount.new load.new result }
+        (pairs_of pairs.old) p pairs.new load.new result }
 {
-    let place = log_pairs::find(p.first, p.second, count, pairs);
-    if place == count {
-        return Replied { answer: 14, count };
-    }
-    if amount[place] < p.amount {
-        return Replied { answer: 14, count };
+    let Some(place) = pairs.find(p.first, p.second) else {
+        return 14;
+    };
+    if pairs.amounts[place] < p.amount {
+        return 14;
     }
     let path = log_paths::between(rows, p.first, p.second);
     lower(path, p.amount, load);
-    let fewer = log_pairs::shrink(p.first, p.second, p.amount, place, count, pairs, amount);
-    Replied {
-        answer: 0,
-        count: fewer,
-    }
+    pairs.shrink(p.first, p.second, p.amount, place);
+    0
 }
 
 // Answers a request over a tree, by its table of paths; the open pairs and the loads of the links are moved where the answer is 0.
@@ -142,33 +114,23 @@ pub fn step(
     capacity: &[u64],
     rows: &[u64; ROWS],
     request: Request,
-    count: usize,
-    pairs: &mut [u32; OPEN],
-    amount: &mut [u64; OPEN],
+    pairs: &mut OpenPairs,
     load: &mut [u64; SITES],
-) -> Replied
+) -> u64
     requires { Given n one.now two.now capacity.now rows.now × Asked n request
-        × Standing (links one.now two.now) n (look capacity.now) pairs.old amount.old load.old count }
+        × Standing (links one.now two.now) n (look capacity.now) pairs.old load.old }
     ensures { Answered (links one.now two.now) (look capacity.now)
-        (entries pairs.old amount.old count) request
-        pairs.new amount.new load.new result }
+        (pairs_of pairs.old) request pairs.new load.new result }
 {
     match request {
         Request::Open(e) => {
             let more = pairing_order::lower_first(e);
-            open(
-                n, one, two, capacity, rows, more, count, pairs, amount, load,
-            )
+            open(n, one, two, capacity, rows, more, pairs, load)
         }
         Request::GiveUp(e) => {
             let less = pairing_order::lower_first(e);
-            give_up(
-                n, one, two, capacity, rows, less, count, pairs, amount, load,
-            )
+            give_up(n, one, two, capacity, rows, less, pairs, load)
         }
-        Request::Fault(number) => Replied {
-            answer: number,
-            count,
-        },
+        Request::Fault(number) => number,
     }
 }

@@ -1,35 +1,30 @@
 -- A log over the lists of an accepted sheet: what a replay comes to, case by case.
-use Rattle.std.specs.Prelude.{false, List, [], ◌++◌, ◌≡◌, ℕ, ◌≤◌, ◌<◌, length, take, drop}
+use Rattle.std.specs.Prelude.{false, List, [], ◌++◌, ◌≡◌, ℕ, ◌≤◌, ◌<◌, length, take, drop, refl, Ok, Err}
 use Rattle.std.proofs.Common.{sym, ap, ◌∙◌}
 use borrow.Author.Tests.{le-leb, lt-leb}
 use Rattle.lists.specs.Numbers.{look}
-use Rattle.lists.specs.Sums.{contradiction}
 use Rattle.model.specs.Limits.{LOGLINES, LOGBYTES}
 use Rattle.model.specs.Edition.{editions}
+use Rattle.model.specs.TextRefusals.{refused_in, in_text}
+use Rattle.model.specs.declared.Refusal.{Refusal}
 use Rattle.model.specs.Flows.{Links, ends}
 use Rattle.model.specs.Booking.{answers}
 use Rattle.tree.specs.Offer.{links}
 use Rattle.sheet_names.specs.Names.{ranges}
-use Rattle.sheet.specs.Sheet.{Read, refused, accepted, read_sheet}
+use Rattle.sheet.specs.Sheet.{accepted, read_sheet}
 use Rattle.sheet.specs.Reading.{reading}
-use Rattle.sheet.specs.declared.Answer.TheVariants as answered
 use Rattle.sheet.specs.declared.Lists.{Lists}
-use Rattle.planner.specs.Taken.{Listed, the_lists_are_taken_apart, the_marks_are_taken_apart, the_links_are_the_networks, the_ends_are_the_networks}
+use Rattle.planner.specs.Taken.{Listed, refused_is_read, the_lists_are_taken_apart, the_marks_are_taken_apart, the_links_are_the_networks, the_ends_are_the_networks}
 use Rattle.log_requests.specs.Requests.{lines, requests}
 use Rattle.log_names.specs.Names.{the_names_are_the_networks}
 use Rattle.logs.specs.Log.{answers_of}
 use Rattle.logs.specs.Outcome.{replay_over, replay_read, replayed}
-use Rattle.logs.specs.declared.Outcome.TheVariants.{Answered, Refused}
 
 -- a refused sheet is refused with the same number and line, and the list stays
-pub refused_is_told : (s log l : List ℕ) (n k : ℕ) → (reading (read_sheet editions s)).answer ≡ answered.Refused n k
-    → replayed editions s log l ≡ record { outcome = Refused 1 n k; list = l }
-unfolding reading replayed replay_read
-refused_is_told s log l n k e = by (read_sheet editions s) e
-  where
-    by : (r : Read) → (reading r).answer ≡ answered.Refused n k → replay_read s log l r ≡ record { outcome = Refused 1 n k; list = l }
-    by (refused m j) e = let p : m ≡ n = cc in let q : j ≡ k = cc in rw (p, q)
-    by (accepted net) e = contradiction cc
+pub refused_is_told : (s log l : List ℕ) (f : Refusal) → Err f ≡ reading (read_sheet editions s)
+    → replayed editions s log l ≡ record { outcome = Err (in_text f 1); list = l }
+unfolding replayed replay_read
+refused_is_told s log l f e = rw (refused_is_read s f e) refl
 
 -- the same answers over the same lists
 alike : (s log : List ℕ) {ls ks : Links} {c d : List ℕ} {names others : List (ℕ × ℕ)} {t u : ℕ → ℕ}
@@ -39,22 +34,22 @@ alike s log e f g h = rw (e, f, g, h)
 
 module _ {s : List ℕ} {network : Lists} (r : Listed s network) where
   module _ (log l : List ℕ) where
-    pub too_many_bytes : LOGBYTES < length log → replayed editions s log l ≡ record { outcome = Refused 2 1 0; list = l }
+    pub too_many_bytes : LOGBYTES < length log → replayed editions s log l ≡ record { outcome = refused_in 2 1 0; list = l }
     unfolding replayed replay_read replay_over
     too_many_bytes h = rw (r.read, lt-leb _ _ h)
 
     module _ (bytes : length log ≤ LOGBYTES) where
-      pub too_many_lines : LOGLINES < length (lines log) → replayed editions s log l ≡ record { outcome = Refused 2 1 0; list = l }
+      pub too_many_lines : LOGLINES < length (lines log) → replayed editions s log l ≡ record { outcome = refused_in 2 1 0; list = l }
       unfolding replayed replay_read replay_over
       too_many_lines h = rw (r.read, le-leb _ _ bytes, lt-leb _ _ h)
 
       module _ (few : length (lines log) ≤ LOGLINES) where
-        pub too_few_places : length l < length (lines log) → replayed editions s log l ≡ record { outcome = Refused 2 9 0; list = l }
+        pub too_few_places : length l < length (lines log) → replayed editions s log l ≡ record { outcome = refused_in 2 9 0; list = l }
         unfolding replayed replay_read replay_over
         too_few_places h = rw (r.read, le-leb _ _ bytes, le-leb _ _ few, lt-leb _ _ h)
 
         pub every_line_answered : length (lines log) ≤ length l
-            → replayed editions s log l ≡ record { outcome = Answered (length (lines log)); list = answers_of s r.net log ++ drop (length (lines log)) l }
+            → replayed editions s log l ≡ record { outcome = Ok (length (lines log)); list = answers_of s r.net log ++ drop (length (lines log)) l }
         unfolding replayed replay_read replay_over
         every_line_answered h = rw (r.read, le-leb _ _ bytes, le-leb _ _ few, le-leb _ _ h)
 

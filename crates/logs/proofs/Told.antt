@@ -1,5 +1,5 @@
 -- What a replay tells, for every sheet, every log and every lent list: each number for its cause and for no other, and the list after.
-use Rattle.std.specs.Prelude.{◌≡◌, List, [], ℕ, ◌≤◌, ◌<◌}
+use Rattle.std.specs.Prelude.{◌≡◌, List, [], ℕ, ◌≤◌, ◌<◌, Ok}
 use Rattle.std.proofs.Math.Path.{refl, ap}
 use Rattle.std.proofs.Common.{inl, inr}
 use native.Mathlib.Omega.{arith}
@@ -9,6 +9,7 @@ use Rattle.std.proofs.Math.ListN.{length}
 use Rattle.lists.specs.Sums.{cases}
 use Rattle.model.specs.Limits.{LOGLINES, LOGBYTES}
 use Rattle.model.specs.Edition.{edition1, edition2, editions}
+use Rattle.model.specs.TextRefusals.{refused_in}
 use Rattle.model.specs.declared.Edition.{Edition}
 use Rattle.sheet.specs.Sheet.{Network, Read, refused, accepted, read_sheet, edition_of}
 use Rattle.sheet.specs.Editions.{Headed, editions_before}
@@ -21,7 +22,6 @@ use Rattle.log_requests.specs.Requests.{lines_from, lines, requests}
 use Rattle.log_requests.specs.Sheets.{Sheet}
 use Rattle.log_requests.proofs.Sheets.{an_accepted_sheet}
 use Rattle.logs.specs.Outcome.{replay_over, replay_read, replayed}
-use Rattle.logs.specs.declared.Outcome.TheVariants.{Answered, Refused}
 use Rattle.logs.specs.Told.{ReplayTold, all-answered, faulty_sheet, few_places, long-log}
 
 module _ (known : List Edition) (s log l : List ℕ) where
@@ -65,7 +65,7 @@ module _ (known : List Edition) (s log l : List ℕ) where
 
 -- a log of 0 bytes has no lines: it is accepted with any list, which keeps its values (01: such a text is not refused for that)
 pub a_log_of_0_bytes_is_accepted : (known : List Edition) (s l : List ℕ) (net : Network) → read_sheet known s ≡ accepted net
-    → replayed known s [] l ≡ record { outcome = Answered 0; list = l }
+    → replayed known s [] l ≡ record { outcome = Ok 0; list = l }
 unfolding replayed replay_read replay_over lines lines_from requests answers
 a_log_of_0_bytes_is_accepted known s l net e = rw (e, le-leb 0 (length l) (omega arith)) refl
 
@@ -77,10 +77,10 @@ module _ (s log l : List ℕ) where
 
   module _ (headed : Headed edition2 s) where
     -- the new heading was refused with 2 at line 1, or with 1 where the sheet is longer than edition 1 allows, and the list kept its values
-    pub the_new_heading_was_told_as_2 : length s ≤ edition1.bytes → replayed editions_before s log l ≡ record { outcome = Refused 1 2 1; list = l }
+    pub the_new_heading_was_told_as_2 : length s ≤ edition1.bytes → replayed editions_before s log l ≡ record { outcome = refused_in 1 2 1; list = l }
     unfolding replayed replay_read
     the_new_heading_was_told_as_2 few = rw (the_new_heading_was_refused_with_2 s headed few)
 
-    pub the_new_heading_was_told_as_1 : edition1.bytes < length s → replayed editions_before s log l ≡ record { outcome = Refused 1 1 0; list = l }
+    pub the_new_heading_was_told_as_1 : edition1.bytes < length s → replayed editions_before s log l ≡ record { outcome = refused_in 1 1 0; list = l }
     unfolding replayed replay_read
     the_new_heading_was_told_as_1 long = rw (the_new_heading_was_refused_with_1 s headed long)

@@ -1,6 +1,6 @@
 -- What Card 7 changed in a log (document 02): where every end has one link, a log is answered as by the rule from before, which gave 6 unless the names were
 -- those of two different ends. Since then no end stands between two others.
-use Rattle.std.specs.Prelude.{Bool, List, [], ◌≡◌, ℕ, length}
+use Rattle.std.specs.Prelude.{Option, Some, None, Bool, List, [], ◌≡◌, ℕ, length, Result, Ok, Err}
 use Rattle.std.proofs.Math.Bool.{false}
 use Rattle.std.proofs.Math.Path.{refl, sym}
 use Rattle.std.proofs.Common.{ap, ◌∙◌}
@@ -17,12 +17,9 @@ use Rattle.theory_trees.specs.Leaves.{Outer}
 use Rattle.theory_trees.specs.FreePairs.{free_parts}
 use Rattle.theory_trees.proofs.FreePairs.{outer_pairs_are_free}
 use Rattle.text_lines.specs.Lines.{line_at}
-use Rattle.sheet_names.specs.declared.Found.{Found}
-use Rattle.sheet_names.specs.declared.Found.TheVariants.{At, Absent}
 use Rattle.sheet.specs.Sheet.{Network, read_sheet, accepted, edition_of}
 use Rattle.sheet.specs.SheetTheorem.{an_accepted_sheet_is_a_tree}
-use Rattle.log_lines.specs.declared.Line.{Line}
-use Rattle.log_lines.specs.declared.Line.TheVariants.{Booking, Fault}
+use Rattle.log_lines.specs.declared.Booking.{Booking}
 use Rattle.theory_trees.proofs.Ends.{unmarked_ends_are_leaves, unmarked_ends_are_outer}
 use Rattle.sheet.specs.Marks.{WithoutMarks}
 use Rattle.planner.specs.Unmarked.{leaves, unmarked}
@@ -34,12 +31,12 @@ use Rattle.log_requests.proofs.RequestLaws.{found_is_a_site}
 use Rattle.logs.specs.Unmarked.{between_ends, request_before, requests_before}
 
 module _ (s : List ℕ) (names : List (ℕ × ℕ)) {ls : Links} (T : Tree ls (length names)) (t : ℕ → ℕ) (O : Outer ls (length names) t) where
-  between_as_before : (opens : Bool) (x : ℕ) (v w : Found) → Named (length names) v → Named (length names) w
+  between_as_before : (opens : Bool) (x : ℕ) (v w : Option ℕ) → Named (length names) v → Named (length names) w
       → between ls t opens x v w ≡ between_ends t opens x v w
   unfolding between between_ends
-  between_as_before opens x Absent w g h = refl
-  between_as_before opens x (At a) Absent g h = refl
-  between_as_before opens x (At a) (At b) g h = same? (t a) 1
+  between_as_before opens x None w g h = refl
+  between_as_before opens x (Some a) None g h = refl
+  between_as_before opens x (Some a) (Some b) g h = same? (t a) 1
       (λ p. same? (t b) 1
       (λ q. same? a b
       (λ e. a_pair_that_is_not_free_gets_6 ls t opens x a b (λ f. (free_parts ls t a b f).0 e) ∙ sym (rw (eq-eqb (t a) 1 p, eq-eqb (t b) 1 q, eq-eqb a b e)))
@@ -48,10 +45,10 @@ module _ (s : List ℕ) (names : List (ℕ × ℕ)) {ls : Links} (T : Tree ls (l
       (λ d. a_pair_that_is_not_free_gets_6 ls t opens x a b (λ f. d (free_parts ls t a b f).2) ∙ sym (rw (eq-eqb (t a) 1 p, ne_eqb (t b) 1 d))))
       (λ d. a_pair_that_is_not_free_gets_6 ls t opens x a b (λ f. d (free_parts ls t a b f).1) ∙ sym (rw (ne_eqb (t a) 1 d)))
 
-  request_as_before : (l : List ℕ) (w : Line) → request_by s names ls t l w ≡ request_before s names t l w
+  request_as_before : (l : List ℕ) (w : Result Booking ℕ) → request_by s names ls t l w ≡ request_before s names t l w
   unfolding request_by request_before
-  request_as_before l (Booking opens a e b f x) = between_as_before opens x _ _ (found_is_a_site s _ names) (found_is_a_site s _ names)
-  request_as_before l (Fault k) = refl
+  request_as_before l (Ok b) = between_as_before b.opens b.amount _ _ (found_is_a_site s _ names) (found_is_a_site s _ names)
+  request_as_before l (Err k) = refl
 
   pub where_every_end_has_one_link_a_log_asks_what_it_asked_before : (log : List ℕ) → requests false s names ls t log ≡ requests_before s names t log
   unfolding requests request_at requests_before

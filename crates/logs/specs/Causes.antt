@@ -1,6 +1,6 @@
 -- Why a line of a log gets a number, in the order of document 02, Cards 6 and 7: form faults, 3, 6, then for `-` 14, for `+` 15, then 16. Each number just
 -- for its cause, and 0 just where no cause applies. By the line, the look-ups of its names, the path between its ends, and what is open.
-use Rattle.std.specs.Prelude.{Bool, List, ◌⊎◌, ◌↔◌, ◌≢◌, ◌≡◌, ℕ, ◌+◌, ◌≤◌, ◌<◌, length}
+use Rattle.std.specs.Prelude.{Bool, List, ◌⊎◌, ◌↔◌, ◌≢◌, ◌≡◌, ℕ, ◌+◌, ◌≤◌, ◌<◌, length, Result, Ok, Err}
 use Rattle.std.proofs.Math.Bool.{true, false}
 use Rattle.std.proofs.Math.Logic.{inl, inr}
 use Rattle.std.proofs.Common.{⊎_elim, sym, subst, ◌∙◌, arith}
@@ -21,8 +21,7 @@ use Rattle.log_lines.proofs.BookingLaws.{asks_makes}
 use Rattle.log_lines.specs.FaultyLogLines.{LineFault, no_sign, wrong_count, bad_name, bare_name, bad_number, wrong_amount, Tells}
 use Rattle.log_lines.proofs.FaultyLogLines.{a-line-tells}
 use Rattle.log_lines.proofs.FaultyLogLines.{a_log_line_is_a_fault_just_for_its_cause}
-use Rattle.log_lines.specs.declared.Line.{Line}
-use Rattle.log_lines.specs.declared.Line.TheVariants.{Booking, Fault}
+use Rattle.log_lines.specs.declared.Booking.{Booking}
 use Rattle.log_requests.specs.Requests.{request_for, request_by, request_at}
 use Rattle.log_requests.specs.RequestLaws.{unended_line, ended_line}
 use Rattle.log_requests.specs.TwoEnds.{Asking, amount_of}
@@ -106,11 +105,11 @@ module _ (s : List ℕ) (names : List (ℕ × ℕ)) (ls : Links) (t : ℕ → �
       (λ h. inl (14, less-open k z h))
       (λ h. inr (ap (answer ls c es) (asked-between false k z) ∙ gives_up ls c es (meant a b) (omega arith)))
 
-  line_decides : at + length (line_at log at) < length log → (w : Line) → Tells (line_at log at) w → Decided
-  line_decides h (Booking opens a e b f x) (k, q) =
-      let asking : Asking (sign opens) log at = record { ended = h; asks = k } in
-      ⊎_elim (λ z. two-ends-decide opens asking z.2) (λ none. inl (6, not-two-ends opens asking none)) (two.two-ends-or-not s names ls t log at)
-  line_decides h (Fault k) f = inl (k, malformed h f)
+  line_decides : at + length (line_at log at) < length log → (w : Result Booking ℕ) → Tells (line_at log at) w → Decided
+  line_decides h (Ok b) (k, q) =
+      let asking : Asking (sign b.opens) log at = record { ended = h; asks = k } in
+      ⊎_elim (λ z. two-ends-decide b.opens asking z.2) (λ none. inl (6, not-two-ends b.opens asking none)) (two.two-ends-or-not s names ls t log at)
+  line_decides h (Err k) f = inl (k, malformed h f)
 
   pub decided : Decided
   decided = cases (dec_lt (at + length (line_at log at)) (length log))

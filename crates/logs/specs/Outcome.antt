@@ -1,30 +1,24 @@
 -- The outcome of a replay, for every sheet, every log and every lent list: text, number, line, count, and the list after.
 -- Document 02, Card 6, and 01 on a second text read with the sheet.
-use Rattle.std.specs.Prelude.{cond, ◌&&◌, List, ◌++◌, ℕ, leb, length, drop}
+use Rattle.std.specs.Prelude.{cond, ◌&&◌, List, ◌++◌, ℕ, leb, length, drop, Result, Ok, Err}
 use Rattle.model.specs.Limits.{LOGLINES, LOGBYTES}
+use Rattle.model.specs.TextRefusals.{refused_in}
 use Rattle.model.specs.declared.Edition.{Edition}
+use Rattle.model.specs.declared.TextRefusal.{TextRefusal}
 use Rattle.sheet.specs.Sheet.{Network, Read, refused, accepted, read_sheet}
 use Rattle.log_requests.specs.Requests.{lines}
 use Rattle.logs.specs.Log.{answers_of}
-use Rattle.logs.specs.declared.Outcome.{Outcome}
-use Rattle.logs.specs.declared.Outcome.TheVariants.{Answered, Refused}
+-- the papers' text, number and line for each outcome
+pub use Rattle.model.specs.TextRefusals.{text_of, number, line_of}
 
--- the papers' text (1 the sheet, 2 the log), number, line and count for each outcome: success is text 0, number 0, line 0 and the count of lines
-abbrev pub text_of : Outcome → ℕ
-text_of (Answered n) = 0
-text_of (Refused t k l) = t
+-- the outcome of a replay: so many lines answered, or a refusal of one of two texts (1 the sheet, 2 the log)
+abbrev pub Outcome : Type 0
+Outcome = Result ℕ TextRefusal
 
-abbrev pub number : Outcome → ℕ
-number (Answered n) = 0
-number (Refused t k l) = k
-
-abbrev pub line_of : Outcome → ℕ
-line_of (Answered n) = 0
-line_of (Refused t k l) = l
-
+-- the count of lines answered; 0 of a refusal
 abbrev pub count_of : Outcome → ℕ
-count_of (Answered n) = n
-count_of (Refused t k l) = 0
+count_of (Ok n) = n
+count_of (Err r) = 0
 
 -- the outcome, and the lent list after
 pub record Replayed : Type 0 where
@@ -38,13 +32,13 @@ replay_over s net log l =
     let n = length (lines log) in
     cond (leb (length log) LOGBYTES && leb n LOGLINES)
     (cond (leb n (length l))
-    (record { outcome = Answered n; list = answers_of s net log ++ drop n l })
-    (record { outcome = Refused 2 9 0; list = l }))
-    (record { outcome = Refused 2 1 0; list = l })
+    (record { outcome = Ok n; list = answers_of s net log ++ drop n l })
+    (record { outcome = refused_in 2 9 0; list = l }))
+    (record { outcome = refused_in 2 1 0; list = l })
 
 -- a log over a sheet that is read; the sheet's refusals come first
 unfoldable pub replay_read : List ℕ → List ℕ → List ℕ → Read → Replayed
-replay_read s log l (refused n k) = record { outcome = Refused 1 n k; list = l }
+replay_read s log l (refused n k) = record { outcome = refused_in 1 n k; list = l }
 replay_read s log l (accepted net) = replay_over s net log l
 
 -- the log replayed over the sheet s, its answers into the lent list l

@@ -7,16 +7,16 @@ use Rattle.std.proofs.Math.Path.{ap, ap₂}
 use Rattle.std.proofs.Math.ListN.{length, drop}
 use Rattle.std.proofs.lemmas.List.{length-map}
 use Rattle.lists.specs.Numbers.{look}
-use Rattle.model.specs.Limits.{OPEN, SITES}
+use Rattle.model.specs.Limits.{SITES}
 use Rattle.model.specs.Flows.{Links}
 use Rattle.model.specs.Booking.{answers}
 use Rattle.model.specs.declared.Request.{Request}
 use Rattle.theory_log.specs.Logs.{answers_one_more, each_line_gets_one_answer}
 use Rattle.text_lines.specs.Lines.{after_line}
-use Rattle.log_pairs.specs.Arrays.{entries}
+use Rattle.log_pairs.specs.Arrays.{pairs_of, Held}
+use Rattle.log_pairs.specs.declared.OpenPairs.{OpenPairs}
 use Rattle.log_steps.specs.Steps.{Standing, Answered}
 use Rattle.log_steps.specs.Replays as replays
-use Rattle.log_steps.specs.declared.Replied.{Replied}
 use Rattle.log_requests.specs.Requests.{lines_from, lines, request_at, requests}
 use Rattle.log_requests.specs.RequestLaws.{after-within, lines_end, lines_step, all_lines}
 use Rattle.log_requests.proofs.RequestLaws.{a_request_can_be_asked}
@@ -32,30 +32,30 @@ module _ (s : List ℕ) (names : List (ℕ × ℕ)) (ls : Links) (t : ℕ → �
   asked ats = map (request_at false s names ls t log) ats
 
   -- the first i lines are done, and the next one starts at an offset
-  pub record Progress (f m load : List ℕ) (count at i : ℕ) (list : List ℕ) : Type 0 where
+  pub record Progress (ps : OpenPairs) (load : List ℕ) (at i : ℕ) (list : List ℕ) : Type 0 where
     pub done : List ℕ
     pub counted : length done ≡ i
     pub left : lines log ≡ done ++ lines_from log (length log - at) at
     pub on_log : at ≤ length log
-    pub replayed : replays.Replayed ls (length names) c (asked done) f m load count
+    pub replayed : replays.Replayed ls (length names) c (asked done) ps load
     pub listed : list ≡ answers ls c [] (asked done) ++ drop i l
 
-  pub start : Progress (replicate OPEN 0) (replicate OPEN 0) (replicate SITES 0) 0 0 0 l
+  pub start : (ps : OpenPairs) → Held [] ps → Progress ps (replicate SITES 0) 0 0 l
   unfolding answers
-  start = record {
+  start ps h = record {
     done = [];
     counted = refl;
     left = all_lines log;
     on_log = omega arith;
-    replayed = replays.replayed-start ls (length names) c;
+    replayed = replays.replayed-start ls (length names) c ps h;
     listed = refl;
   }
 
-  module _ {f m load : List ℕ} {count at i : ℕ} {list : List ℕ} (P : Progress f m load count at i list) where
+  module _ {ps : OpenPairs} {load : List ℕ} {at i : ℕ} {list : List ℕ} (P : Progress ps load at i list) where
     answered : length (answers ls c [] (asked P.done)) ≡ i
     answered = each_line_gets_one_answer ls c [] (asked P.done) ∙ length-map P.done (request_at false s names ls t log) ∙ P.counted
 
-    pub standing : Standing ls (length names) c f m load count
+    pub standing : Standing ls (length names) c ps load
     standing = replays.replayed_standing ls (length names) c P.replayed
 
     module _ (enough : length (lines log) ≤ length l) where
@@ -76,13 +76,13 @@ module _ (s : List ℕ) (names : List (ℕ × ℕ)) (ls : Links) (t : ℕ → �
       pub room : at < length log → i < length l
       room h = omega (arith, ap length P.left, length-append P.done (lines_from log (length log - at) at), ap length (lines_step log at h), P.counted)
 
-      module _ (h : at < length log) {f' m' load' : List ℕ} {reply : Replied}
-          (a : Answered ls c (entries f m count) (request_at false s names ls t log at) f' m' load' reply) where
+      module _ (h : at < length log) {ps' : OpenPairs} {load' : List ℕ} {said : ℕ}
+          (a : Answered ls c (pairs_of ps) (request_at false s names ls t log at) ps' load' said) where
         -- the answer behind those before it
-        put : set list i reply.answer ≡ answers ls c [] (asked (P.done ++ (at ∷ []))) ++ drop (i + 1) l
+        put : set list i said ≡ answers ls c [] (asked (P.done ++ (at ∷ []))) ++ drop (i + 1) l
         put =
             let before = answers ls c [] (asked P.done) in
-            let v = reply.answer in
+            let v = said in
             ap (λ r. set r i v) (P.listed ∙ ap (λ r. before ++ r) (drop-cons l i 0 (room h)))
             ∙ ap (λ k. set (before ++ (look l i ∷ drop (suc i) l)) k v) (sym answered)
             ∙ set_behind before (drop (suc i) l) (look l i) v
@@ -91,7 +91,7 @@ module _ (s : List ℕ) (names : List (ℕ × ℕ)) (ls : Links) (t : ℕ → �
             (sym (answers_one_more ls c [] (asked P.done) (request_at false s names ls t log at))
             ∙ ap (answers ls c []) (sym (map-append (request_at false s names ls t log) P.done (at ∷ []))))
 
-        pub next : Progress f' m' load' reply.count (after_line log at) (i + 1) (set list i reply.answer)
+        pub next : Progress ps' load' (after_line log at) (i + 1) (set list i said)
         next = record {
           done = P.done ++ (at ∷ []);
           counted = omega (arith, length-append P.done (at ∷ []), P.counted);

@@ -5,21 +5,22 @@
 ghost use Rattle.std.specs.Prelude.{true, ◌≡◌, [], ◌≤◌, length};
 ghost use Rattle.lists.specs.Numbers.{look};
 ghost use Rattle.model.specs.Limits.{PLANLINES};
-ghost use Rattle.model.specs.Edition.{largest};
 ghost use Rattle.model.specs.Flows.{ends};
 ghost use Rattle.theory_trees.specs.Leaves.{Outer};
 ghost use Rattle.theory_verdicts.specs.HandPlan.{account, largest_total};
 ghost use Rattle.tree.specs.Offer.{links};
 ghost use Rattle.tree.specs.Steps.{Tells};
-ghost use Rattle.tree.specs.Accepted.{MarkedTree};
 ghost use Rattle.log_paths.specs.Tables.{Mapped};
 ghost use Rattle.sheet_names.specs.Names.{ranges, Indexes};
 ghost use Rattle.log_requests.specs.Requests.{lines, requests};
 ghost use Rattle.plan_accounts.specs.Progress.{Comes};
 ghost use Rattle.plan_accounts.specs.Loaded.{Sized, Loaded};
 
+use log_requests::Text;
 use model::{LINKS, PLACES, ROWS, SITES};
 use sheet_names::TABLE;
+use tree::AcceptedTree;
+use tree_links::Chart;
 
 // What the lines of a plan come to: the number and the line of the lowest fault; or number 0, the total and the load of each link.
 #[derive(Clone, Copy)]
@@ -56,10 +57,24 @@ pub fn account(
     let mut total: u64 = 0;
     let mut at = 0;
     let mut i = 1;
+    // Stays: the next offset is where a line ends, so there is no range to go over.
     while text_lines::has_line(plan, at) {
         let line = text_lines::line(plan, at);
         let request = log_requests::request_at(
-            true, sheet, starts, stops, n, table, one, two, rows, ends, outer, plan, line, at,
+            Text::Plan,
+            sheet,
+            starts,
+            stops,
+            n,
+            table,
+            one,
+            two,
+            rows,
+            ends,
+            outer,
+            plan,
+            line,
+            at,
         );
         let entered = plan_entries::enter(n, one, two, rows, request, &mut given, &mut load);
         if entered.number != 0 {
@@ -97,12 +112,10 @@ pub fn overloaded(capacity: &[u64], load: &[u64; SITES]) -> bool
 
 // The largest total of a tree in halves: the sum of its trimmed sizes at the ends.
 #[inline(never)]
-pub fn largest_total(n: usize, one: &[usize], two: &[usize], marks: &[u8], capacity: &[u64]) -> u64
-    requires { MarkedTree largest n one.now two.now marks.now capacity.now }
-    ensures { result ≡ largest_total (links one.now two.now) n
-        (look (ends (links one.now two.now) n marks.now)) capacity.now }
+pub fn largest_total(tree: AcceptedTree) -> u64
+    ensures { result ≡ largest_total (links tree.entry.one.now tree.entry.two.now) tree.entry.sites
+        (look (ends (links tree.entry.one.now tree.entry.two.now) tree.entry.sites tree.entry.marks.now)) tree.entry.capacity.now }
 {
     let mut trimmed = [0u64; LINKS];
-    let chart = region_sizes::chart_of(n, one, two, marks, capacity);
-    region_sizes::trim(n, chart, one, two, capacity, 0, &mut trimmed)
+    region_sizes::trim(&Chart::of(tree), tree.capacity, 0, &mut trimmed)
 }

@@ -13,6 +13,7 @@ ghost use Rattle.plan_entries.specs.Holding.{Roomy, Holding, PairEntered, LineEn
 use model::{Pair, ROWS, Request, SITES};
 
 // What a line gets: the number, 0 where it is entered, and the amount that it enters.
+// Stays: theory_verdicts' `line_answer` and `entered` take a fault with the number 0 for a line that is entered, so a number is not always a refusal.
 #[derive(Clone, Copy)]
 pub struct Entered {
     pub number: u64,

@@ -11,20 +11,20 @@ use text_writers::{put_bytes, put_number, put_part};
 fn put_whole(buf: &mut [u8], number: u64) -> usize
     ensures { Wrote buf.old 0 (plan_whole number ++ (10 ∷ [])) buf.new result }
 {
-    if number == 1 {
-        return put_bytes(
+    match number {
+        1 => put_bytes(
             buf,
             0,
             b"the plan: more than 65,536 bytes, or than 1,024 lines",
             b'\n',
-        );
+        ),
+        _ => put_bytes(
+            buf,
+            0,
+            b"the plan: a load above twice the usable size of its link",
+            b'\n',
+        ),
     }
-    put_bytes(
-        buf,
-        0,
-        b"the plan: a load above twice the usable size of its link",
-        b'\n',
-    )
 }
 
 // What is wrong with a line of a plan, to the end of the line.
@@ -32,19 +32,13 @@ fn put_plan_cause(buf: &mut [u8], at: usize, number: u64) -> usize
     requires { at ≤ 100 }
     ensures { Wrote buf.old at (plan_cause number ++ (10 ∷ [])) buf.new result }
 {
-    if number == 2 {
-        return put_bytes(buf, at, b"wrong letter or line ending", b'\n');
+    match number {
+        2 => put_bytes(buf, at, b"wrong letter or line ending", b'\n'),
+        3 => put_bytes(buf, at, b"amount not from 1 to 2,000,000", b'\n'),
+        6 => put_bytes(buf, at, b"not two ends free to be joined", b'\n'),
+        20 => put_bytes(buf, at, b"pair given on an earlier line", b'\n'),
+        _ => report_causes::put_cause(buf, at, number),
     }
-    if number == 3 {
-        return put_bytes(buf, at, b"amount not from 1 to 2,000,000", b'\n');
-    }
-    if number == 6 {
-        return put_bytes(buf, at, b"not two ends free to be joined", b'\n');
-    }
-    if number == 20 {
-        return put_bytes(buf, at, b"pair given on an earlier line", b'\n');
-    }
-    report_causes::put_cause(buf, at, number)
 }
 
 // Why a plan is refused, a line of text from the start of the buffer, and its length.

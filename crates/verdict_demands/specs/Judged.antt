@@ -41,8 +41,7 @@ use Rattle.demands.specs.Names.{site-name-is-plain}
 use Rattle.log_requests.specs.Requests.{requests, is_end}
 use Rattle.log_requests.specs.Requests as read
 use Rattle.log_requests.proofs.RequestLaws.{as_many_requests_as_lines}
-use Rattle.verdicts.specs.Outcome.{verdict, judge_over, judge_read, judged}
-use Rattle.verdicts.specs.declared.Outcome.TheVariants.{Judged}
+use Rattle.verdicts.specs.Outcome.{judged_as, verdict, judge_over, judge_read, judged}
 use Rattle.verdict_demands.specs.Entered.{LowerFirst, places_are_few, no_pair_is_given_twice, entered-total, entered-load}
 use Rattle.verdict_demands.specs.PairLines.{Good, name, the_pair_lines_ask_for_the_pairs}
 
@@ -150,11 +149,11 @@ module _ (s : List ℕ) (net : Network) (accepts : read_sheet editions s ≡ acc
 
     -- ---- the verdict
 
-    pub the_pairs_shown_are_accepted : judged editions s (pairs_of (report_of (plan_showing net s f))) ≡ Judged (total es) (eqb (total es) most)
+    pub the_pairs_shown_are_accepted : judged editions s (pairs_of (report_of (plan_showing net s f))) ≡ judged_as (total es) (eqb (total es) most)
     unfolding judged judge_read judge_over verdict
     the_pairs_shown_are_accepted =
         ap (judged editions s) cut_out
-        ∙ rw (accepts, le-leb _ _ short, le-leb _ _ few, come-to) (pick_same nothing-loaded _ _ ∙ ap (λ x. Judged x (eqb x most)) same_total)
+        ∙ rw (accepts, le-leb _ _ short, le-leb _ _ few, come-to) (pick_same nothing-loaded _ _ ∙ ap (λ x. judged_as x (eqb x most)) same_total)
 
     -- yes exactly if no fitting plan, however finely cut, has a greater total
     pub the_pairs_shown_get_yes_exactly_if_none_is_greater :
@@ -166,19 +165,19 @@ module _ (s : List ℕ) (net : Network) (accepts : read_sheet editions s ≡ acc
   -- ---- in halves
 
   -- the pairs of the report in halves are always accepted with yes, and the total is the report's
-  pub the_pairs_of_the_report_are_accepted_with_yes : judged editions s (pairs_of (report s net)) ≡ Judged (total (pairs_by net (halves net))) true
+  pub the_pairs_of_the_report_are_accepted_with_yes : judged editions s (pairs_of (report s net)) ≡ judged_as (total (pairs_by net (halves net))) true
   unfolding largest_total
   the_pairs_of_the_report_are_accepted_with_yes =
       let h = halves_can_be_shown net N.tree in
       ap (λ r. judged editions s (pairs_of r)) (the_report_shows_halves net s)
       ∙ the_pairs_shown_are_accepted (halves net) h
-      ∙ ap (Judged (total (pairs_by net (halves net)))) (eq-eqb (total (pairs_by net (halves net))) most (sound (halves net) h).sums)
+      ∙ ap (judged_as (total (pairs_by net (halves net)))) (eq-eqb (total (pairs_by net (halves net))) most (sound (halves net) h).sums)
 
   -- ---- in whole circuits
 
   -- those of the report in whole circuits are accepted too, with yes exactly if no fitting plan, in halves or however finely cut, has a greater total
   pub the_pairs_of_the_whole_report_are_accepted :
-      judged editions s (pairs_of (whole_report s net)) ≡ Judged (total (pairs_by net (wholes net))) (eqb (total (pairs_by net (wholes net))) most)
+      judged editions s (pairs_of (whole_report s net)) ≡ judged_as (total (pairs_by net (wholes net))) (eqb (total (pairs_by net (wholes net))) most)
   the_pairs_of_the_whole_report_are_accepted =
       ap (λ r. judged editions s (pairs_of r)) (the_whole_report_shows_wholes net s)
       ∙ the_pairs_shown_are_accepted (wholes net) (wholes_can_be_shown net N.tree)

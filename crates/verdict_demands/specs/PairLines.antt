@@ -1,6 +1,6 @@
 -- The `P` lines of a report, taken as a plan text over the same sheet: they ask for the pairs of the report, one by one.
 -- Each line reads back as its pair: its names lead to its sites, which are two ends free to be joined, and its decimal to its amount.
-use Rattle.std.specs.Prelude.{false, ◌≡◌, ℕ, ◌+◌, ◌-◌, ◌≤◌, length, drop}
+use Rattle.std.specs.Prelude.{Option, Some, None, false, ◌≡◌, ℕ, ◌+◌, ◌-◌, ◌≤◌, length, drop, Ok}
 use Rattle.std.proofs.Math.Bool.{true}
 use Rattle.std.proofs.Math.Path.{refl, ap, ap₂}
 use Rattle.std.proofs.Common.{◌∙◌, arith, length-drop}
@@ -16,11 +16,8 @@ use Rattle.theory_trees.specs.FreePairs.{free_iff_route}
 use Rattle.text_lines.specs.Lines.{line_at, after_line}
 use Rattle.text_fields.specs.Fields.{fields, field, value, same, all, is_name, is_number, digits_alone}
 use Rattle.text_grammar.specs.Grammar.{checked, checked_fields}
-use Rattle.text_grammar.specs.declared.Check.TheVariants as check
 use Rattle.text_writers.specs.Fields.{decimal, line}
 use Rattle.sheet_names.specs.Names.{name_at}
-use Rattle.sheet_names.specs.declared.Found.{Found}
-use Rattle.sheet_names.specs.declared.Found.TheVariants.{At, Absent}
 use Rattle.sheet.specs.Sheet.{Network, lookup, read_as, accepted}
 use Rattle.sheet.specs.SheetTheorem.{IsNetwork}
 use Rattle.sheet.specs.BareNames.{no_name_is_a_bare_number}
@@ -45,7 +42,7 @@ pair_fields name e = bytes "P" ∷ name e.first ∷ name e.second ∷ decimal e.
 
 -- a line of two good names and a good number is formed
 formed : (a b d : List ℕ) → is_name a ≡ true → is_name b ≡ true → digits_alone a ≡ false → digits_alone b ≡ false → is_number d ≡ true
-    → checked (amount_form plan_letter) (bytes "P" ∷ a ∷ b ∷ d ∷ []) ≡ check.Formed
+    → checked (amount_form plan_letter) (bytes "P" ∷ a ∷ b ∷ d ∷ []) ≡ Ok tt
 unfolding checked checked_fields all same
 formed a b d na nb la lb nd = rw (na, nb) (rw (la, lb) (rw nd refl))
 
@@ -54,10 +51,10 @@ nothing_left : (text : List ℕ) (at : ℕ) → drop at text ≡ [] → at ≤ l
 nothing_left text at h l = omega (arith, ap length h, length-drop at text)
 
 -- the site that is found has the number
-found_at : (w : Found) (v : ℕ) → 1 ≤ v → site_found w ≡ v → w ≡ At v
+found_at : (w : Option ℕ) (v : ℕ) → 1 ≤ v → site_found w ≡ v → w ≡ Some v
 unfolding site_found
-found_at (At u) v h e = ap At e
-found_at Absent v h e = absurd (omega arith)
+found_at (Some u) v h e = ap Some e
+found_at None v h e = absurd (omega arith)
 
 module _ (ed : Edition) (s : List ℕ) (net : Network) (N : IsNetwork ed s net) (accepts : read_as ed s ≡ accepted net) where
   abbrev n : ℕ
@@ -67,7 +64,7 @@ module _ (ed : Edition) (s : List ℕ) (net : Network) (N : IsNetwork ed s net) 
   name v = name_at s net.names (v - 1)
 
   -- the name of a site leads to it
-  found : (v : ℕ) → Site n v → lookup s net.names (name v) ≡ At v
+  found : (v : ℕ) → Site n v → lookup s net.names (name v) ≡ Some v
   unfolding site_named
   found v q = found_at (lookup s net.names (name v)) v q.0 (name_read_back N v q)
 

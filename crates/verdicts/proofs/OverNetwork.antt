@@ -1,33 +1,28 @@
 -- A plan drawn by hand over the lists of an accepted sheet: what judging it comes to, case by case.
-use Rattle.std.specs.Prelude.{true, List, [], ◌≡◌, ℕ, ◌≤◌, ◌<◌, length, take}
+use Rattle.std.specs.Prelude.{true, List, [], ◌≡◌, ℕ, ◌≤◌, ◌<◌, length, take, refl, Err}
 use Rattle.std.proofs.Common.{sym, ap, ◌∙◌}
 use borrow.Author.Tests.{le-leb, lt-leb}
 use Rattle.lists.specs.Numbers.{look}
-use Rattle.lists.specs.Sums.{contradiction}
 use Rattle.model.specs.Limits.{PLANLINES, PLANBYTES}
 use Rattle.model.specs.Edition.{editions}
+use Rattle.model.specs.TextRefusals.{refused_in, in_text}
+use Rattle.model.specs.declared.Refusal.{Refusal}
 use Rattle.model.specs.Flows.{Links, ends}
 use Rattle.theory_verdicts.specs.HandPlan.{account}
 use Rattle.tree.specs.Offer.{links}
 use Rattle.sheet_names.specs.Names.{ranges}
-use Rattle.sheet.specs.Sheet.{Read, refused, accepted, read_sheet}
+use Rattle.sheet.specs.Sheet.{accepted, read_sheet}
 use Rattle.sheet.specs.Reading.{reading}
-use Rattle.sheet.specs.declared.Answer.TheVariants as answered
 use Rattle.sheet.specs.declared.Lists.{Lists}
-use Rattle.planner.specs.Taken.{Listed, the_lists_are_taken_apart, the_marks_are_taken_apart, the_links_are_the_networks, the_ends_are_the_networks}
+use Rattle.planner.specs.Taken.{Listed, refused_is_read, the_lists_are_taken_apart, the_marks_are_taken_apart, the_links_are_the_networks, the_ends_are_the_networks}
 use Rattle.log_requests.specs.Requests.{lines, requests}
 use Rattle.log_names.specs.Names.{the_names_are_the_networks}
 use Rattle.verdicts.specs.Outcome.{verdict, verdict_of, judge_over, judge_read, judged}
-use Rattle.verdicts.specs.declared.Outcome.TheVariants.{Refused}
 
 -- a refused sheet is refused with the same number and line
-pub refused_is_told : (s plan : List ℕ) (n k : ℕ) → (reading (read_sheet editions s)).answer ≡ answered.Refused n k → judged editions s plan ≡ Refused 1 n k
-unfolding reading judged judge_read
-refused_is_told s plan n k e = by (read_sheet editions s) e
-  where
-    by : (r : Read) → (reading r).answer ≡ answered.Refused n k → judge_read s plan r ≡ Refused 1 n k
-    by (refused m j) e = let p : m ≡ n = cc in let q : j ≡ k = cc in rw (p, q)
-    by (accepted net) e = contradiction cc
+pub refused_is_told : (s plan : List ℕ) (f : Refusal) → Err f ≡ reading (read_sheet editions s) → judged editions s plan ≡ Err (in_text f 1)
+unfolding judged judge_read
+refused_is_told s plan f e = rw (refused_is_read s f e) refl
 
 -- the same verdict over the same lists
 alike : (s plan : List ℕ) {ls ks : Links} {n m : ℕ} {c d : List ℕ} {names others : List (ℕ × ℕ)} {t u : ℕ → ℕ} → ls ≡ ks → n ≡ m → c ≡ d → names ≡ others
@@ -36,12 +31,12 @@ alike : (s plan : List ℕ) {ls ks : Links} {n m : ℕ} {c d : List ℕ} {names 
 alike s plan e f g h i = rw (e, f, g, h, i)
 
 module _ {s : List ℕ} {network : Lists} (r : Listed s network) (plan : List ℕ) where
-  pub too_many_bytes : PLANBYTES < length plan → judged editions s plan ≡ Refused 2 1 0
+  pub too_many_bytes : PLANBYTES < length plan → judged editions s plan ≡ refused_in 2 1 0
   unfolding judged judge_read judge_over
   too_many_bytes h = rw (r.read, lt-leb _ _ h)
 
   module _ (bytes : length plan ≤ PLANBYTES) where
-    pub too_many_lines : PLANLINES < length (lines plan) → judged editions s plan ≡ Refused 2 1 0
+    pub too_many_lines : PLANLINES < length (lines plan) → judged editions s plan ≡ refused_in 2 1 0
     unfolding judged judge_read judge_over
     too_many_lines h = rw (r.read, le-leb _ _ bytes, lt-leb _ _ h)
 

@@ -26,9 +26,8 @@ use Rattle.log_requests.specs.Requests.{lines_from, lines, requests, is_end}
 use Rattle.log_requests.specs.RequestLaws.{Free}
 use Rattle.log_requests.proofs.RequestLaws.{the_requests_can_be_asked, the_requests_open_free_pairs_only, as_many_requests_as_lines}
 use Rattle.log_requests.proofs.Sheets.{an_accepted_sheet}
-use Rattle.verdicts.specs.Outcome.{verdict, judge_over, judge_read, judged}
+use Rattle.verdicts.specs.Outcome.{judged_as, verdict, judge_over, judge_read, judged}
 use Rattle.verdicts.specs.Causes.{number_at, a_line_gets_a_number_just_for_its_cause, a_line_gets_0_just_where_no_cause_applies}
-use Rattle.verdicts.specs.declared.Outcome.TheVariants.{Judged}
 use Rattle.verdicts.specs.Told.{plan_drawn, Short, Clean, Accepted, JudgeTold, faulty_sheet, long_plan, faulty_line, accepted_plan, heavy_plan}
 
 module _ (known : List Edition) (s plan : List ℕ) where
@@ -80,7 +79,7 @@ module _ (known : List Edition) (s plan : List ℕ) where
       abbrev most : ℕ
       most = largest_total net.links n (is_end net) net.capacities
 
-      told-as : loaded ≡ 0 → judged known s plan ≡ Judged (total (plan_drawn s net plan)) (eqb (total (plan_drawn s net plan)) most)
+      told-as : loaded ≡ 0 → judged known s plan ≡ judged_as (total (plan_drawn s net plan)) (eqb (total (plan_drawn s net plan)) most)
       unfolding verdict
       told-as z = entered ∙ pick_same z _ _
 
@@ -151,6 +150,6 @@ nothing-is-loaded ls c = what_fits_overloads_nothing ls c [] (λ j l. omega arit
 
 -- a plan of 0 bytes has no lines: it is accepted over every accepted sheet, with a total of 0, and yes exactly if the largest total is 0
 pub a_plan_of_0_bytes_is_accepted : (known : List Edition) (s : List ℕ) (net : Network) → read_sheet known s ≡ accepted net
-    → judged known s [] ≡ Judged 0 (eqb 0 (largest_total net.links (length net.names) (is_end net) net.capacities))
+    → judged known s [] ≡ judged_as 0 (eqb 0 (largest_total net.links (length net.names) (is_end net) net.capacities))
 unfolding judged judge_read judge_over lines lines_from requests account verdict total
 a_plan_of_0_bytes_is_accepted known s net e = rw e (pick_same (nothing-is-loaded net.links (look net.capacities)) _ _)

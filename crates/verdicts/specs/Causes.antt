@@ -2,7 +2,7 @@
 -- cause, and 0 just where no cause applies. By the line, the look-ups of its names, the path between its ends, and the lines before it.
 use Rattle.std.proofs.Math.Bool.{true}
 use mathlib.Core.List.{List, []}
-use Rattle.std.specs.Prelude.{◌⊎◌, ◌↔◌, ◌≢◌, ◌≡◌, refl, ℕ, ◌+◌, ◌≤◌, ◌<◌, length, take}
+use Rattle.std.specs.Prelude.{◌⊎◌, ◌↔◌, ◌≢◌, ◌≡◌, refl, ℕ, ◌+◌, ◌≤◌, ◌<◌, length, take, Result, Ok, Err}
 use Rattle.std.proofs.Math.Logic.{inl, inr}
 use Rattle.std.proofs.Common.{⊎_elim, subst, ◌∙◌, arith, get_or-take, length-take-le}
 use Rattle.std.proofs.Math.Path.{sym, ap}
@@ -25,8 +25,7 @@ use Rattle.log_lines.proofs.BookingLaws.{asks_makes_plan}
 use Rattle.log_lines.specs.FaultyPlanLines.{PlanFault, no_letter, wrong_count, bad_name, bare_name, bad_number, wrong_amount, Tells}
 use Rattle.log_lines.proofs.FaultyPlanLines.{a_plan_line_tells}
 use Rattle.log_lines.proofs.FaultyPlanLines.{a_plan_line_is_a_fault_just_for_its_cause}
-use Rattle.log_lines.specs.declared.Line.{Line}
-use Rattle.log_lines.specs.declared.Line.TheVariants.{Booking, Fault}
+use Rattle.log_lines.specs.declared.Booking.{Booking}
 use Rattle.log_requests.specs.Requests.{lines, request_by, request_at, requests, is_end}
 use Rattle.log_requests.specs.RequestLaws.{unended_line, ended_line}
 use Rattle.log_requests.proofs.RequestLaws.{what_a_line_asks, as_many_requests_as_lines}
@@ -125,12 +124,12 @@ module _ (s : List ℕ) (net : Network) (plan : List ℕ) where
       (λ h. by h (plan_line (line_at plan (start p))) (a_plan_line_tells (line_at plan (start p))))
       (λ h. let l : length plan ≤ start p + length (line_at plan (start p)) = omega arith in fault (unended l) (unended_asks p l) (omega arith))
     where
-      by : start p + length (line_at plan (start p)) < length plan → (w : Line) → Tells (line_at plan (start p)) w → Found p
-      by h (Booking opens a e b f x) (k, q) =
+      by : start p + length (line_at plan (start p)) < length plan → (w : Result Booking ℕ) → Tells (line_at plan (start p)) w → Found p
+      by h (Ok b) (k, q) =
           let formed : WellFormed p = record { ended = h; asks = k } in
           ⊎_elim (λ z. ends z.0 z.1 formed z.2) (λ none. fault (not-two-ends formed none) (asked_of_none p formed none) (omega arith))
           (two.two-ends-or-not s net.names net.links (is_end net) plan (start p))
-      by h (Fault k) f = fault (malformed h f) (malformed_asks p h f) (fault_is_some f)
+      by h (Err k) f = fault (malformed h f) (malformed_asks p h f) (fault_is_some f)
 
   -- ---- an earlier line, by the entries
 

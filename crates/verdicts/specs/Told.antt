@@ -7,6 +7,7 @@ use Rattle.lists.specs.Numbers.{look}
 use Rattle.model.specs.Limits.{AMOUNT, PLANLINES, PLANBYTES}
 use Rattle.model.specs.Flows.{Multiflow, Fits, total}
 use Rattle.model.specs.Booking.{places_of}
+use Rattle.model.specs.TextRefusals.{refused_in}
 use Rattle.model.specs.declared.Edition.{Edition}
 use Rattle.model.specs.declared.Pair.{Pair}
 use Rattle.theory_verdicts.specs.Accounts.{drawn}
@@ -17,10 +18,8 @@ use Rattle.sheet.specs.Causes.{Refusal}
 use Rattle.sheet.specs.Answers.{SheetNumber}
 use Rattle.log_requests.specs.Requests.{lines, requests, is_end}
 use Rattle.log_requests.specs.Sheets.{Sheet}
-use Rattle.verdicts.specs.Outcome.{text_of, number, line_of, total_of, yes_of, judged}
+use Rattle.verdicts.specs.Outcome.{Outcome, judged_as, text_of, number, line_of, total_of, yes_of, judged}
 use Rattle.verdicts.specs.Causes.{Cause}
-use Rattle.verdicts.specs.declared.Outcome.{Outcome}
-use Rattle.verdicts.specs.declared.Outcome.TheVariants.{Judged, Refused}
 
 -- the entries of all lines of a plan, the lower site first in each
 abbrev pub plan_drawn : List ℕ → Network → List ℕ → List Pair
@@ -37,7 +36,7 @@ Clean s net plan = (p : ℕ) → p < length (lines plan) → (k : ℕ) → ¬ (C
 
 -- an accepted plan: what is told of it, and what holds of its entries es
 pub record Accepted (net : Network) (es : List Pair) (o : Outcome) : Type 0 where
-  pub judged-told : o ≡ Judged (total_of o) (yes_of o)
+  pub judged-told : o ≡ judged_as (total_of o) (yes_of o)
   pub text-told : text_of o ≡ 0
   pub number-told : number o ≡ 0
   pub line-told : line_of o ≡ 0
@@ -53,14 +52,14 @@ pub record Accepted (net : Network) (es : List Pair) (o : Outcome) : Type 0 wher
 -- what judging a plan over the sheet s comes to: the sheet is refused for a cause of its own; or it has none, and the plan has too many bytes or lines; or a
 -- line has a cause, the lowest; or none has, and some load is above twice the usable size; or the plan is accepted
 pub data JudgeTold (known : List Edition) (s plan : List ℕ) : Type 0 where
-  faulty_sheet : (k line : ℕ) → Refusal (edition_of known s) s k line → SheetNumber (edition_of known s).sizing k → judged known s plan ≡ Refused 1 k line
+  faulty_sheet : (k line : ℕ) → Refusal (edition_of known s) s k line → SheetNumber (edition_of known s).sizing k → judged known s plan ≡ refused_in 1 k line
       → JudgeTold known s plan
-  long_plan : (net : Network) → Sheet known s net → (PLANBYTES < length plan) ⊎ (PLANLINES < length (lines plan)) → judged known s plan ≡ Refused 2 1 0
+  long_plan : (net : Network) → Sheet known s net → (PLANBYTES < length plan) ⊎ (PLANLINES < length (lines plan)) → judged known s plan ≡ refused_in 2 1 0
       → JudgeTold known s plan
   faulty_line : (net : Network) → Sheet known s net → Short plan → (p k : ℕ) → p < length (lines plan) → Cause s net plan p k
-      → ((q : ℕ) → q < p → (j : ℕ) → ¬ (Cause s net plan q j)) → judged known s plan ≡ Refused 2 k (p + 1) → JudgeTold known s plan
+      → ((q : ℕ) → q < p → (j : ℕ) → ¬ (Cause s net plan q j)) → judged known s plan ≡ refused_in 2 k (p + 1) → JudgeTold known s plan
   heavy_plan : (net : Network) → Sheet known s net → Short plan → Clean s net plan → Overloaded net.links (look net.capacities) (plan_drawn s net plan)
-      → judged known s plan ≡ Refused 2 21 0 → JudgeTold known s plan
+      → judged known s plan ≡ refused_in 2 21 0 → JudgeTold known s plan
   accepted_plan : (net : Network) → Sheet known s net → Short plan → Clean s net plan
       → (Overloaded net.links (look net.capacities) (plan_drawn s net plan) → ⊥) → Accepted net (plan_drawn s net plan) (judged known s plan)
       → JudgeTold known s plan

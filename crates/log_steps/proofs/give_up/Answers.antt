@@ -1,22 +1,26 @@
--- `give_up` meets its contract, by its tests: each leads to the answer of its cause.
-use Rattle.std.proofs.Common.{arith}
+-- `give_up`: each test leads to the answer of its cause.
+use Rattle.std.proofs.Common.{refl, arith}
 use Rattle.log_steps.proofs.Laws.{lowering, not_open, too_little, enough_open, given-up}
 use Rattle.log_steps.proofs.give_up.Goals as goal
 
-pub returns-then-place-count : goal.returns-then-place-count
-returns-then-place-count c = let s = c.requires in not_open s.0 s.2 s.1 c.find-place.ensures (omega arith)
+pub returns-in_default : goal.returns-in_default
+returns-in_default c = let s = c.requires in let none = rw c.in_default.is at c.find.ensures in not_open s.0 s.2 s.1 none refl
 
-pub returns-then-amount-place : goal.returns-then-amount-place
-returns-then-amount-place c = let s = c.requires in too_little s.0 s.2 s.1 c.find-place.ensures (omega arith) (omega arith)
+pub returns-then-pairs-place : goal.returns-then-pairs-place
+returns-then-pairs-place c =
+    let s = c.requires in
+    let found = rw c.in-Some.is at c.find.ensures in
+    too_little s.0 s.2 s.1 found.1 (λ e. omega (arith, e, found.0)) c.if-pairs-place.true
 
 pub lower-requires : goal.lower-requires
 lower-requires c =
     let s = c.requires in
-    let enough = enough_open s.0 s.2 s.1 c.find-place.ensures (omega arith) (omega arith) in
+    let found = rw c.in-Some.is at c.find.ensures in
+    let enough = enough_open s.0 s.2 s.1 found.1 (λ e. omega (arith, e, found.0)) (omega arith) in
     lowering s.0 s.2 s.1 c.between-path.result c.between-path.ensures enough
 
 pub returns : goal.returns
 returns c =
     let s = c.requires in
-    given-up s.0 s.2 s.1 c.find-place.ensures (omega arith) (omega arith) c.between-path.result c.between-path.ensures c.lower.ensures
-    c.shrink-fewer.ensures
+    let found = rw c.in-Some.is at c.find.ensures in
+    given-up s.0 s.2 s.1 found.1 (λ e. omega (arith, e, found.0)) (omega arith) c.between-path.result c.between-path.ensures c.lower.ensures c.shrink.ensures
