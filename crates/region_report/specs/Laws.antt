@@ -2,6 +2,7 @@
 use Rattle.std.specs.Prelude.{List, [], ◌∷◌, ◌++◌, ◌≡◌, refl, ℕ, ◌+◌, ◌-◌, ◌^◌, ◌≤◌, ◌<◌, take}
 use Rattle.std.proofs.Common.{append_assoc, sym, ap, ◌∙◌, add-one, arith, length-append, length-take-le}
 use Rattle.std.proofs.Math.ListN.{length}
+use Rattle.std.proofs.lemmas.List.{get_or-take}
 use Rattle.lists.specs.Numbers.{look}
 use Rattle.model.specs.Edition.{editions}
 use Rattle.model.specs.Flows.{Site}
@@ -64,6 +65,11 @@ pub record Linked (s starts stops : List ℕ) (n : ℕ) (one two : List ℕ) : T
   pub sites : (j : ℕ) → j < length one → Site n (look one j) × Site n (look two j)
   pub short : (v : ℕ) → length (spelt s (ranges starts stops 0 n) v) ≤ 12
 
+-- the first lines of an accepted sheet's links
+abbrev pub first_lines : List ℕ → Lists → List ℕ → ℕ → List ℕ
+first_lines s network = link_lines (spelt s (ranges network.start network.end 0 network.sites))
+    (links (take network.links network.one) (take network.links network.two))
+
 -- the lists of an accepted sheet are such
 pub the_lists_are_linked : {s : List ℕ} {network : Lists} → Listed s network → let m = network.links in let n = network.sites in
     Linked s network.start network.end n (take m network.one) (take m network.two)
@@ -109,6 +115,39 @@ unfolding link_lines
 no_line_yet name one two sizes b at = nothing b at
 
 -- ---- the lines of a sheet
+
+module _ {s : List ℕ} {network : Lists} (r : Listed s network) where
+  -- its links and sites are few
+  pub links_are_few : network.links ≤ LINKS
+  links_are_few = omega (arith, (the_lists_are_linked r).fewer, length-take-le network.links network.one (room_for_the_links r).0)
+
+  pub sites_are_few : network.sites ≤ SITES
+  sites_are_few = (the_lists_are_linked r).few
+
+  module _ (j : ℕ) (h : j < network.links) where
+    held : j < length (take network.links network.one)
+    held = omega (arith, length-take-le network.links network.one (room_for_the_links r).0)
+
+    -- the two sites of link j
+    pub ends_of_link : Site network.sites (look network.one j) × Site network.sites (look network.two j)
+    ends_of_link =
+        let p = (the_lists_are_linked r).sites j held in
+        (rw (get_or-take network.links network.one j 0 h) at p.0, rw (get_or-take network.links network.two j 0 h) at p.1)
+
+    -- the name of a site of it is short
+    pub its-name-is-short : (v : ℕ) → Site network.sites v → {first : List ℕ} → first ≡ part s (look network.start (v - 1), look network.end (v - 1))
+        → length first ≤ 12
+    its-name-is-short v p e = omega (arith, ap length e, ap length (name-is (the_lists_are_linked r) [] v p), (the_lists_are_linked r).short v)
+
+    -- one line more
+    pub one_line_more : (sizes : List ℕ) {b c d : List ℕ} {at q t : ℕ} → Wrote b at (first_lines s network sizes j) c q → {first second : List ℕ}
+        → first ≡ part s (look network.start (look network.one j - 1), look network.end (look network.one j - 1))
+        → second ≡ part s (look network.start (look network.two j - 1), look network.end (look network.two j - 1))
+        → Wrote c q (size_line first second (look sizes j)) d t → Wrote b at (first_lines s network sizes (j + 1)) d t
+    one_line_more sizes v e f =
+        the_next_line (the_lists_are_linked r) sizes j held v
+        (rw (get_or-take network.links network.one j 0 h) e)
+        (rw (get_or-take network.links network.two j 0 h) f)
 
 pub lines_of_a_sheet : {s : List ℕ} {network : Lists} → Listed s network → (sizes : List ℕ) → let m = network.links in
     link_lines (spelt s (ranges network.start network.end 0 network.sites)) (links (take m network.one) (take m network.two)) sizes m

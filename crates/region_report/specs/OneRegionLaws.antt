@@ -1,5 +1,5 @@
 -- A line of a word and a number, in its two fields as they are written, and how long it is.
-use Rattle.std.specs.Prelude.{List, [], ◌∷◌, ◌++◌, ◌≡◌, ℕ, ◌+◌, ◌^◌, ◌≤◌, ◌<◌, length}
+use Rattle.std.specs.Prelude.{List, [], ◌∷◌, ◌++◌, ◌≡◌, ℕ, ◌^◌, ◌≤◌, ◌<◌, length}
 use Rattle.std.proofs.Common.{append_assoc, arith, length-append}
 use Rattle.text_writers.specs.Decimal.{decimal-length}
 use Rattle.text_writers.specs.Fields.{decimal, line}

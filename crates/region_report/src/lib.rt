@@ -2,20 +2,18 @@
 // its trimmed size. Each function writes from a place of the buffer on, as those of text_writers do.
 #![tactic(auto)]
 
-ghost use Rattle.std.specs.Prelude.{◌+◌, ◌*◌, ◌≤◌, length, take};
+ghost use Rattle.std.specs.Prelude.{◌+◌, ◌≤◌, length};
 ghost use Rattle.model.specs.Edition.{editions};
 ghost use Rattle.model.specs.Limits.{REPORT};
 ghost use Rattle.planner.specs.Taken.{Listed};
-ghost use Rattle.sheet_names.specs.Names.{ranges};
 ghost use Rattle.text_writers.specs.Wrote.{Wrote};
-ghost use Rattle.tree.specs.Offer.{links};
-ghost use Rattle.region_report.specs.Lines.{link_lines, spelt, links_text};
+ghost use Rattle.region_report.specs.Lines.{links_text};
 ghost use Rattle.region_report.specs.TwoRegions.{region_text};
 ghost use Rattle.region_report.specs.OneRegion.{first_text, answer_text};
-ghost use Rattle.region_report.specs.Laws.{size_line, Linked};
+ghost use Rattle.region_report.specs.Laws.{size_line};
 
 use model::SITES;
-use sheet::{Answer, Lists};
+use sheet::Lists;
 use text_writers::{put_bytes, put_letter, put_number, put_numbers};
 
 // The line of a link: its two names and its size.
@@ -30,93 +28,27 @@ fn size_line(first: &[u8], second: &[u8], size: u64, buf: &mut [u8], at: usize) 
     put_number(buf, next, size, 10)
 }
 
-// The lines of links between sites whose names are ranges of the sheet.
+// The lines of the links of an accepted sheet.
 fn size_lines(
     sheet: &[u8],
-    starts: &[usize; SITES],
-    stops: &[usize; SITES],
-    n: usize,
-    one: &[usize],
-    two: &[usize],
+    network: &Lists,
     sizes: &[u64; SITES],
     buf: &mut [u8],
     at: usize,
 ) -> usize
-    requires { Linked sheet.now starts.now stops.now n one.now two.now
-        × (at + 60 * length one.now ≤ REPORT) }
-    ensures { Wrote buf.old at (link_lines (spelt sheet.now (ranges starts.now stops.now 0 n))
-        (links one.now two.now) sizes.now (length one.now)) buf.new result
-        × (result ≤ REPORT) }
-{
-    let mut next = at;
-    for j in 0..one.len() {
-        let v = one[j] - 1;
-        let w = two[j] - 1;
-        let first = sheet_names::part(sheet, starts[v], stops[v]);
-        let second = sheet_names::part(sheet, starts[w], stops[w]);
-        next = size_line(first, second, sizes[j], buf, next);
-    }
-    next
-}
-
-// The same, each list lent as far as there are links.
-fn lines_parts<'a>(
-    sheet: &[u8],
-    starts: &'a [usize; SITES],
-    stops: &'a [usize; SITES],
-    n: usize,
-    m: usize,
-    one: &'a [usize],
-    two: &'a [usize],
-    sizes: &[u64; SITES],
-    buf: &mut [u8],
-    at: usize,
-) -> usize
-    requires { Linked sheet.now starts.now stops.now n (take m one.now) (take m two.now)
-        × (at + 60 * m ≤ REPORT) × (m ≤ length one.now) × (m ≤ length two.now) }
-    ensures { Wrote buf.old at (link_lines (spelt sheet.now (ranges starts.now stops.now 0 n))
-        (links (take m one.now) (take m two.now)) sizes.now m) buf.new result
-        × (result ≤ REPORT) }
-{
-    size_lines(
-        sheet,
-        starts,
-        stops,
-        n,
-        &one[..m],
-        &two[..m],
-        sizes,
-        buf,
-        at,
-    )
-}
-
-// The lines of the links of an accepted sheet.
-fn lines_network(
-    sheet: &[u8],
-    network: Lists,
-    sizes: &[u64; SITES],
-    buf: &mut [u8],
-    at: usize,
-) -> usize
-    requires { Listed sheet.now network × (at ≤ 256) }
+    requires { Listed sheet.now network.now × (at ≤ 256) }
     ensures { Wrote buf.old at (links_text editions sheet.now sizes.now) buf.new result
         × (result ≤ REPORT) }
 {
-    let n = network.sites;
-    let m = network.links;
-    lines_parts(
-        sheet,
-        &network.start,
-        &network.end,
-        n,
-        m,
-        &network.one,
-        &network.two,
-        sizes,
-        buf,
-        at,
-    )
+    let mut next = at;
+    for j in 0..network.links {
+        let v = network.one[j] - 1;
+        let w = network.two[j] - 1;
+        let first = sheet_names::part(sheet, network.start[v], network.end[v]);
+        let second = sheet_names::part(sheet, network.start[w], network.end[w]);
+        next = size_line(first, second, sizes[j], buf, next);
+    }
+    next
 }
 
 // The lines of all links of a sheet, with their sizes, from a place of the buffer on; none where it is refused.
@@ -125,11 +57,9 @@ pub fn write_links(sheet: &[u8], sizes: &[u64; SITES], buf: &mut [u8], at: usize
     ensures { Wrote buf.old at (links_text editions sheet.now sizes.now) buf.new result
         × (result ≤ REPORT) }
 {
-    let reading = sheet::read(sheet);
-    let answer = reading.answer;
-    match answer {
-        Answer::Refused { number: _, line: _ } => at,
-        Answer::Accepted => lines_network(sheet, reading.network, sizes, buf, at),
+    match &sheet::read(sheet) {
+        Ok(network) => size_lines(sheet, network, sizes, buf, at),
+        Err(_) => at,
     }
 }
 

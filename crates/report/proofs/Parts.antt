@@ -1,14 +1,14 @@
 -- Room for a report has room for each of its six parts, after those before it.
-use mathlib.Core.List.{List, ◌++◌}
-use Prim.Native.Nat.{ℕ}
-use lib.ListN.{length}
+use Rattle.std.proofs.Common.{List, ◌++◌, ℕ, ◌<◌, length, take, arith}
+use Rattle.std.proofs.lemmas.List.{get_or-take, length-take-le}
 use Rattle.lists.specs.Numbers.{upfrom}
 use Rattle.model.specs.Flows.{sites, total}
+use Rattle.model.specs.declared.Pair.{Pair}
 use Rattle.model.specs.declared.Pairs.{Pairs}
 use Rattle.text_writers.specs.Wrote.{Wrote, Room}
 use Rattle.text_writers.specs.Writing.{room_front, room_after}
 use Rattle.report.specs.Report.{Plan, lines, head_record, link_line, site_line, cut_line, pair_line, report_of}
-use Rattle.report.specs.Shown.{CanWrite}
+use Rattle.report.specs.Shown.{Paired, CanWrite, no_pair_lem}
 
 abbrev head : Plan → List ℕ
 head p = head_record p.word (total p.pairs) (length p.pairs)
@@ -60,3 +60,13 @@ module _ {s starts stops : List ℕ} {p : Plan} {list : Pairs} (can : CanWrite s
 
     pub pairs_room : Wrote b 0 (head p ++ links p ++ placed p ++ cuts p ++ p.before) c r → Room r (paired p)
     pairs_room w = room_after w (paired p) six
+
+-- the first n pairs of a list, as a list of their own
+pub first_paired : {s starts stops : List ℕ} {pairs : List Pair} {n : ℕ} → Paired s starts stops pairs n → Paired s starts stops (take n pairs) (length (take n pairs))
+first_paired {s} {starts} {stops} {pairs} {n} w =
+    let e = length-take-le n pairs w.held in
+    record {
+      few = omega (arith, w.few);
+      held = omega arith;
+      named = λ i h. let l : i < n = omega arith in rw (get_or-take n pairs i no_pair_lem l) (w.named i l);
+    }

@@ -1,5 +1,5 @@
 -- Totals of the first pairs of a list: one pair more, and no more than the whole.
-use mathlib.Core.Path.{◌≡◌}
+use mathlib.Core.Path.{◌≡◌, refl}
 use mathlib.Core.List.{List, [], ◌∷◌}
 use Prim.Native.Nat.{ℕ, zero, suc, ◌+◌, ◌≤◌, ◌<◌}
 use native.Mathlib.Numerals.{add-one}
@@ -8,6 +8,10 @@ use lib.ListN.{length, get_or, take}
 use Rattle.model.specs.Flows.{total}
 use Rattle.model.specs.declared.Pair.{Pair}
 use Rattle.report.specs.Shown.{no_pair_lem}
+
+pub total_none : 0 ≡ total []
+unfolding total
+total_none = refl
 
 total-suc : (pairs : List Pair) (i : ℕ) → i < length pairs → total (take (suc i) pairs) ≡ total (take i pairs) + (get_or pairs i no_pair_lem).amount
 unfolding total

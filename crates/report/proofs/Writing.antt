@@ -1,20 +1,18 @@
 -- Laws of writing line after line, and of the room for each.
 use mathlib.Core.Path.{◌≡◌, refl, sym, ap, ◌∙◌}
 use mathlib.Core.List.{List, [], ◌∷◌, ◌++◌, append_assoc, append-nil}
-use Prim.Native.Nat.{ℕ, suc, ◌+◌, ◌-◌, ◌^◌, ◌≤◌, ◌<◌}
+use Prim.Native.Nat.{ℕ, suc, ◌+◌, ◌^◌, ◌≤◌, ◌<◌}
 use native.Mathlib.Numerals.{add-one}
 use native.Mathlib.Omega.{arith}
 use lib.ListN.{length, get_or, take, drop, length-append}
 use lib.Seq.{take-suc, take_all, split_at}
-use Rattle.lists.specs.Numbers.{pick, look, upfrom}
-use Rattle.model.specs.Flows.{sites}
-use Rattle.lists.specs.Places.{look-upfrom}
+use Rattle.lists.specs.Numbers.{upfrom}
+use Rattle.lists.specs.Places.{length-upfrom, look-upfrom}
 use Rattle.text_writers.specs.Fields.{decimal, line}
 use Rattle.text_writers.specs.Decimal.{decimal-length}
 use Rattle.text_writers.specs.Wrote.{Wrote, Room}
 use Rattle.text_writers.specs.Writing.{nothing, then}
-use Rattle.report.specs.Report.{lines, link_record, link_line, site_record, site_line, cut_record, cut_line}
-use Rattle.report.specs.Span.{range_record, range_line}
+use Rattle.report.specs.Report.{lines}
 
 -- ---- one line more
 
@@ -54,33 +52,26 @@ pub lines-all : {A : Type 0} {b c : List ℕ} {at r : ℕ} (f : A → List ℕ) 
     → Wrote b at (lines f l) c r
 lines-all f l i h w = rw (take_all i l h) at w
 
--- ---- the line at a place, by what the lists hold there
+-- ---- the line of a number, where those of the numbers from b on are written
 
-module _ (name : ℕ → List ℕ) (n i : ℕ) (h : i < n) where
-  pub link_at : (ones twos capacities shown : List ℕ)
-      → link_line name ones twos capacities shown (get_or (upfrom 0 n) i 0) ≡ link_record name (look ones i) (look twos i) (look capacities i) (look shown i)
-  unfolding link_line
-  link_at ones twos capacities shown = let e : look (upfrom 0 n) i ≡ i = omega (arith, look-upfrom 0 n i h) in rw e
+module _ (f : ℕ → List ℕ) (b n i x : ℕ) (h : i < n) (e : x ≡ b + i) where
+  held : i < length (upfrom b n)
+  held = omega (arith, length-upfrom b n)
 
-  pub range_at : (ones twos lows highs leasts greatests : List ℕ) → range_line name ones twos lows highs leasts greatests (get_or (upfrom 0 n) i 0)
-      ≡ range_record name (look ones i) (look twos i) (look lows i) (look highs i) (look leasts i) (look greatests i)
-  unfolding range_line
-  range_at ones twos lows highs leasts greatests = let e : look (upfrom 0 n) i ≡ i = omega (arith, look-upfrom 0 n i h) in rw e
+  here : f (get_or (upfrom b n) i 0) ≡ f x
+  here = ap f (look-upfrom b n i h ∙ sym e)
 
-  pub site-at : (owners : List ℕ) → site_line name owners (get_or (sites n) i 0) ≡ site_record name (i + 1) (look owners i)
-  unfolding site_line
-  site-at owners =
-      let e : look (sites n) i ≡ i + 1 = omega (arith, look-upfrom 1 n i h) in
-      let place : i + 1 - 1 ≡ i = omega arith in
-      rw (e, place)
+  -- there is room for it
+  pub room_for : {m c : List ℕ} {at r : ℕ} → Room at (lines f (upfrom b n)) → Wrote m at (lines f (take i (upfrom b n))) c r → Room r (f x)
+  room_for = line_room f (upfrom b n) 0 i held here
 
-  pub cut_at : (ends sizes counts : List ℕ)
-      → cut_line name ends sizes counts (get_or (sites n) i 0) ≡ pick (look ends (i + 1)) 1 (cut_record name (i + 1) (look sizes i) (look counts i)) []
-  unfolding cut_line
-  cut_at ends sizes counts =
-      let e : look (sites n) i ≡ i + 1 = omega (arith, look-upfrom 1 n i h) in
-      let place : i + 1 - 1 ≡ i = omega arith in
-      rw (e, place)
+  pub one_more : {m c k : List ℕ} {at r q : ℕ} → Wrote m at (lines f (take i (upfrom b n))) c r → Wrote c r (f x) k q
+      → Wrote m at (lines f (take (i + 1) (upfrom b n))) k q
+  one_more = line-next f (upfrom b n) 0 i held here
+
+pub all-from : {m c : List ℕ} {at r : ℕ} (f : ℕ → List ℕ) (b n i : ℕ) → n ≤ i → Wrote m at (lines f (take i (upfrom b n))) c r
+    → Wrote m at (lines f (upfrom b n)) c r
+all-from f b n i h = lines-all f (upfrom b n) i (omega (arith, length-upfrom b n))
 
 -- ---- numbers
 

@@ -3,3 +3,4 @@ pub mod Shown
 pub mod Span
 pub mod SpanShown
 pub mod Length
+pub mod Lent

@@ -2,7 +2,7 @@
 // text_writers do.
 #![tactic(auto)]
 
-ghost use Rattle.std.specs.Prelude.{[], ◌∷◌, ◌++◌};
+ghost use Rattle.std.specs.Prelude.{◌≡◌, ◌≢◌, [], ◌∷◌, ◌++◌};
 ghost use Rattle.text_writers.specs.Wrote.{Wrote, Room};
 ghost use Rattle.text_commas.specs.Commas.{grouped};
 ghost use Rattle.report_causes.specs.CauseWords.{place, cause};
@@ -33,53 +33,38 @@ pub fn put_place(buf: &mut [u8], at: usize, line: usize) -> usize
     put_part(buf, next, b" ")
 }
 
+// What is wrong, but for a size above its limit.
+fn words(number: u64) -> &'static [u8]
+    requires { number ≢ 3 }
+    ensures { result.now ≡ cause number }
+{
+    match number {
+        1 => b"no bytes, or more than 16,384 (edition 2: 24,576)",
+        2 => b"wrong heading, letter or line ending",
+        4 => b"more sites than 256 (edition 2: 384)",
+        5 => b"name already given to a site",
+        6 => b"link to a name not given on a line above",
+        7 => b"link whose sites are already joined by links above, or are one site",
+        8 => b"fewer than two sites, or not all sites are joined",
+        9 => b"answer longer than the buffer or list for it",
+        10 => b"wrong number of fields",
+        11 => b"a name is not 1 to 12 letters or digits",
+        12 => b"a number is not written in decimal without a leading zero",
+        13 => b"reserve above the size",
+        17 => b"name of digits only",
+        18 => b"the two sheets do not share one link",
+        19 => b"low size above the high size",
+        _ => b"a cause without words",
+    }
+}
+
 // What is wrong, to the end of the line.
 pub fn put_cause(buf: &mut [u8], at: usize, number: u64) -> usize
     requires { Room at (cause number ++ (10 ∷ [])) }
     ensures { Wrote buf.old at (cause number ++ (10 ∷ [])) buf.new result }
 {
     match number {
-        1 => put_bytes(
-            buf,
-            at,
-            b"no bytes, or more than 16,384 (edition 2: 24,576)",
-            b'\n',
-        ),
-        2 => put_bytes(buf, at, b"wrong heading, letter or line ending", b'\n'),
         3 => put_limit(buf, at, b"size or reserve above", SIZE),
-        4 => put_bytes(buf, at, b"more sites than 256 (edition 2: 384)", b'\n'),
-        5 => put_bytes(buf, at, b"name already given to a site", b'\n'),
-        6 => put_bytes(buf, at, b"link to a name not given on a line above", b'\n'),
-        7 => put_bytes(
-            buf,
-            at,
-            b"link whose sites are already joined by links above, or are one site",
-            b'\n',
-        ),
-        8 => put_bytes(
-            buf,
-            at,
-            b"fewer than two sites, or not all sites are joined",
-            b'\n',
-        ),
-        9 => put_bytes(
-            buf,
-            at,
-            b"answer longer than the buffer or list for it",
-            b'\n',
-        ),
-        10 => put_bytes(buf, at, b"wrong number of fields", b'\n'),
-        11 => put_bytes(buf, at, b"a name is not 1 to 12 letters or digits", b'\n'),
-        12 => put_bytes(
-            buf,
-            at,
-            b"a number is not written in decimal without a leading zero",
-            b'\n',
-        ),
-        13 => put_bytes(buf, at, b"reserve above the size", b'\n'),
-        17 => put_bytes(buf, at, b"name of digits only", b'\n'),
-        18 => put_bytes(buf, at, b"the two sheets do not share one link", b'\n'),
-        19 => put_bytes(buf, at, b"low size above the high size", b'\n'),
-        _ => put_bytes(buf, at, b"a cause without words", b'\n'),
+        _ => put_bytes(buf, at, words(number), b'\n'),
     }
 }

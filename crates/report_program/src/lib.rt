@@ -8,7 +8,6 @@ ghost use Rattle.std.specs.Io.KnownBytes.{Appends};
 ghost use Rattle.report_program.specs.Printed.{sheet_in, plan_printed, span_printed};
 
 use model::{BYTES, REPORT};
-use planner::Outcome;
 use std::io::{Read, Write};
 
 // Plans the sheet on standard input, in whole circuits or in halves. One byte more than a sheet may have is enough to see that it has too many.
@@ -28,10 +27,9 @@ pub fn run<R: Read, W: Write, E: Write>(
     }
     let n = given.count;
     let mut printed = [0u8; REPORT];
-    let outcome = planner::report_on(whole, &sheet[..n], &mut printed);
-    match outcome {
-        Outcome::Report { length } => text_streams::write(out, err, &printed[..length]),
-        Outcome::Refused { number, line } => text_refusals::refuse(out, err, number, line),
+    match planner::report_on(whole, &sheet[..n], &mut printed) {
+        Ok(length) => text_streams::write(out, err, &printed[..length]),
+        Err(refusal) => text_refusals::refuse(out, err, refusal.number, refusal.line),
     }
 }
 
@@ -47,9 +45,8 @@ pub fn span<R: Read, W: Write, E: Write>(input: &mut R, out: &mut W, err: &mut E
     }
     let n = given.count;
     let mut printed = [0u8; REPORT];
-    let outcome = spans::span(&sheet[..n], &mut printed);
-    match outcome {
-        Outcome::Report { length } => text_streams::write(out, err, &printed[..length]),
-        Outcome::Refused { number, line } => text_refusals::refuse(out, err, number, line),
+    match spans::span(&sheet[..n], &mut printed) {
+        Ok(length) => text_streams::write(out, err, &printed[..length]),
+        Err(refusal) => text_refusals::refuse(out, err, refusal.number, refusal.line),
     }
 }

@@ -1,6 +1,6 @@
 -- The line of a refusal, and its words, where a log is read with the sheet: they tell which text is meant.
 -- Document 01 (a refusal tells which text it means: 1 the sheet, 2 the other), and 02, Card 6.
-use Rattle.std.specs.Prelude.{List, [], ◌∷◌, ◌++◌, ℕ, ◌^◌, ◌+◌, ◌≤◌, ◌<◌, length}
+use Rattle.std.specs.Prelude.{List, [], ◌∷◌, ◌++◌, ℕ, ◌^◌, ◌≤◌, ◌<◌, length}
 use Rattle.std.proofs.Common.{arith, length-append}
 use Rattle.model.specs.Limits.{LOGLINES, LOGBYTES}
 use Rattle.model.specs.Text.{bytes}

@@ -12,6 +12,7 @@ use report_causes::{put_cause, put_place};
 use text_commas::put_grouped;
 use text_writers::{put_bytes, put_number, put_numbers, put_part};
 
+// Stays: here and below the text and the number of a refusal are numbers, since C hands in any number.
 // What a refusal means, a line of text from the start of the buffer, and its length.
 pub fn write_words(number: u64, line: usize, buf: &mut [u8]) -> usize
     ensures { Wrote buf.old 0 (words number line) buf.new result }
@@ -45,15 +46,15 @@ fn put_long_log(buf: &mut [u8]) -> usize
 fn put_log(buf: &mut [u8], number: u64) -> usize
     ensures { Wrote buf.old 0 (log_words number) buf.new result }
 {
-    if number == 1 {
-        return put_long_log(buf);
+    match number {
+        1 => put_long_log(buf),
+        _ => put_bytes(
+            buf,
+            0,
+            b"the log: more lines than places for answers",
+            b'\n',
+        ),
     }
-    put_bytes(
-        buf,
-        0,
-        b"the log: more lines than places for answers",
-        b'\n',
-    )
 }
 
 // What a refusal means where a log is read with the sheet (text 1 the sheet, 2 the log), a line of text from the start of the buffer, and its length.

@@ -9,19 +9,27 @@ ghost use Rattle.report_words.specs.TwoTexts.{refusal_of};
 
 use std::io::Write;
 
+// Writes a line to standard output, and then words to standard error.
+fn tell<W: Write, E: Write>(out: &mut W, err: &mut E, line: &[u8], words: &[u8]) -> bool
+    ensures { IsTrue result → Appends (W.contents out.old) (W.contents out.new) line.now }
+{
+    let went = text_streams::write(out, err, line);
+    if went {
+        let _ = err.write_all(words);
+    }
+    went
+}
+
 // Writes the line of a refusal to standard output, and then what it means to standard error.
 pub fn refuse<W: Write, E: Write>(out: &mut W, err: &mut E, number: u64, line: usize) -> bool
     ensures line { IsTrue result → Appends (W.contents out.old) (W.contents out.new) (refusal_line number line) }
     ensures short { length (refusal_line number line) ≤ 50 }
 {
-    let mut text = [0u8; 4096];
+    let mut text = [0u8; 64];
+    let mut words = [0u8; 256];
     let length = report::write_refusal(number, line, &mut text);
-    let went = text_streams::write(out, err, &text[..length]);
-    if went {
-        let told = report_words::write_words(number, line, &mut text);
-        let _ = err.write_all(&text[..told]);
-    }
-    went
+    let told = report_words::write_words(number, line, &mut words);
+    tell(out, err, &text[..length], &words[..told])
 }
 
 // Writes the line of a refusal of one of two texts to standard output, and then what it means to standard error.
@@ -34,14 +42,11 @@ pub fn refuse_text<W: Write, E: Write>(
 ) -> bool
     ensures { IsTrue result → Appends (W.contents out.old) (W.contents out.new) (refusal_of text number line) }
 {
-    let mut buf = [0u8; 4096];
+    let mut buf = [0u8; 128];
+    let mut words = [0u8; 256];
     let length = report_words::write_refusal_of(text, number, line, &mut buf);
-    let went = text_streams::write(out, err, &buf[..length]);
-    if went {
-        let told = report_words::write_words_of(text, number, line, &mut buf);
-        let _ = err.write_all(&buf[..told]);
-    }
-    went
+    let told = report_words::write_words_of(text, number, line, &mut words);
+    tell(out, err, &buf[..length], &words[..told])
 }
 
 // Writes the line of a refusal of two sheets (0 means both) to standard output, and then what it means to standard error.
@@ -54,14 +59,11 @@ pub fn refuse_sheets<W: Write, E: Write>(
 ) -> bool
     ensures { IsTrue result → Appends (W.contents out.old) (W.contents out.new) (refusal_of sheet number line) }
 {
-    let mut buf = [0u8; 4096];
+    let mut buf = [0u8; 128];
+    let mut words = [0u8; 256];
     let length = report_words::write_refusal_of(sheet, number, line, &mut buf);
-    let went = text_streams::write(out, err, &buf[..length]);
-    if went {
-        let said = report_words::write_words_of_sheets(sheet, number, line, &mut buf);
-        let _ = err.write_all(&buf[..said]);
-    }
-    went
+    let said = report_words::write_words_of_sheets(sheet, number, line, &mut words);
+    tell(out, err, &buf[..length], &words[..said])
 }
 
 // Writes the line of a refusal at line 0 to standard output, and then these words of what it means to standard error.
@@ -73,11 +75,7 @@ pub fn refuse_in_words<W: Write, E: Write>(
 ) -> bool
     ensures { IsTrue result → Appends (W.contents out.old) (W.contents out.new) (refusal_line number 0) }
 {
-    let mut text = [0u8; 4096];
+    let mut text = [0u8; 64];
     let length = report::write_refusal(number, 0, &mut text);
-    let went = text_streams::write(out, err, &text[..length]);
-    if went {
-        let _ = err.write_all(words);
-    }
-    went
+    tell(out, err, &text[..length], words)
 }

@@ -15,6 +15,7 @@ use std::process::ExitCode;
 use std::rt::Files;
 
 // What standard input or a file came to: so many bytes, and whether each read went well.
+// Stays: the clauses `count` and `bytes` of `read` tell of the bytes of a read that failed too, so the count stands beside the flag and in no Result.
 #[derive(Clone, Copy)]
 pub struct Input {
     pub count: usize,
@@ -75,6 +76,7 @@ fn read_from<R: Read, E: Write>(
     ensures end { IsTrue result.whole → result.count < length buf.new → IsAtEnd (R.remaining from.new) }
 {
     let mut count = 0;
+    // Stays: the place goes on by what each read gives, so there is no range or iterator to go over.
     while count < buf.len() {
         let some = read_once(from, err, kind, what, &mut buf[count..]);
         if !some.whole {

@@ -1,6 +1,6 @@
 -- Laws of writing: one run of bytes after another is one run, and fields after fields are a line.
 use Rattle.std.specs.Prelude.{◌≡◌, refl, List, [], ◌∷◌, ◌++◌, ℕ, zero, suc, ◌+◌, ◌-◌, ◌*◌, ◌^◌, ◌≤◌, ◌<◌, min, length, get_or, set, take, drop}
-use Rattle.std.proofs.Common.{sym, ap, ◌∙◌, append_assoc, add-zero, add-one, arith, length-append, length-take, length-drop, take-append-drop, set-set, get_or-drop, take-suc, take_all, drop-cons}
+use Rattle.std.proofs.Common.{sym, ap, ◌∙◌, append_assoc, add-zero, add-one, arith, length-append, length-take, take-append-drop, set-set, take-suc, take_all}
 use Rattle.std.proofs.lemmas.List.Edits.{sets}
 use Rattle.std.proofs.Math.Seq.{set_out, length-sets, drop-nil}
 use Rattle.std.proofs.lemmas.List.{set_comm}
@@ -37,32 +37,6 @@ sets_next part l at i h =
 
 -- ---- blocks of bytes
 
--- one byte more of those from place i of a part on
-sets_run : (p l : List ℕ) (at i j : ℕ) → i + j < length p
-    → set (sets l at (take j (drop i p))) (at + j) (get_or p (i + j) 0) ≡ sets l at (take (j + 1) (drop i p))
-sets_run p l at i j h = rw (← get_or-drop i p j 0) (sets_next (drop i p) l at j (omega (arith, length-drop i p)))
-
--- four bytes, one after the other
-pub sets_four : (p l : List ℕ) (at i : ℕ) → i + 4 ≤ length p
-    → set (set (set (set l at (get_or p i 0)) (at + 1) (get_or p (i + 1) 0)) (at + 2) (get_or p (i + 2) 0)) (at + 3) (get_or p (i + 3) 0)
-    ≡ sets l at (take 4 (drop i p))
-sets_four p l at i h =
-    let first : set l at (get_or p i 0) ≡ sets l at (take 1 (drop i p)) = rw (drop-cons p i 0 (omega arith)) in
-    rw (first, sets_run p l at i 1 (omega arith), sets_run p l at i 2 (omega arith), sets_run p l at i 3 (omega arith))
-
--- so for eight
-pub sets_eight : (p l : List ℕ) (at i : ℕ) → i + 8 ≤ length p
-    → set (set (set (set (set (set (set (set l at (get_or p i 0)) (at + 1) (get_or p (i + 1) 0)) (at + 2) (get_or p (i + 2) 0)) (at + 3) (get_or p (i + 3) 0))
-    (at + 4) (get_or p (i + 4) 0)) (at + 5) (get_or p (i + 5) 0)) (at + 6) (get_or p (i + 6) 0)) (at + 7) (get_or p (i + 7) 0) ≡ sets l at (take 8 (drop i p))
-sets_eight p l at i h =
-    rw (
-      sets_four p l at i (omega arith),
-      sets_run p l at i 4 (omega arith),
-      sets_run p l at i 5 (omega arith),
-      sets_run p l at i 6 (omega arith),
-      sets_run p l at i 7 (omega arith),
-    )
-
 set_before : (vs l : List ℕ) (i j x : ℕ) → j < i → set (sets l i vs) j x ≡ sets (set l j x) i vs
 set_before [] l i j x h = refl
 set_before (v ∷ vs) l i j x h = set_before vs (set l i v) (suc i) j x (omega arith) ∙ rw (set_comm l i j v x (λ e. omega arith))
@@ -80,16 +54,12 @@ sets_again (x ∷ p) l at (suc i) (suc k) h =
     rw e (sets_again p (set l at x) (suc at) i k (omega arith))
 sets_again p l at (suc i) zero h = elim h [ ]
 
--- the first k bytes of a part and its last k are all of it, where it has no more than twice as many
-sets_halves : (p l : List ℕ) (at i k : ℕ) → i + k ≡ length p → i ≤ k → sets (sets l at (take k p)) (at + i) (take k (drop i p)) ≡ sets l at p
-sets_halves p l at i k e h = rw (take_all k (drop i p) (omega (arith, length-drop i p))) (sets_again p l at i k h)
-
--- a byte behind them
+-- the first k bytes of a part and its last k are all of it, where it has no more than twice as many; and a byte behind them
 pub halved : {l m n : List ℕ} (p : List ℕ) (at k stop : ℕ) → k ≤ length p → length p ≤ k + k → m ≡ sets l at (take k p)
-    → n ≡ sets m (at + length p - k) (take k (drop (length p - k) p)) → Wrote l at (p ++ (stop ∷ [])) (set n (at + length p) stop) (at + length p + 1)
+    → n ≡ sets m (at + length p - k) (drop (length p - k) p) → Wrote l at (p ++ (stop ∷ [])) (set n (at + length p) stop) (at + length p + 1)
 halved {l} {m} {n} p at k stop low high e f =
     let place : at + length p - k ≡ at + (length p - k) = omega arith in
-    let all : n ≡ sets l at p = f ∙ rw (place, e) (sets_halves p l at (length p - k) k (omega arith) (omega arith)) in
+    let all : n ≡ sets l at p = f ∙ rw (place, e) (sets_again p l at (length p - k) k (omega arith)) in
     record { next = omega (arith, length-append p (stop ∷ [])); stored = ap (λ b. set b (at + length p) stop) all ∙ sym (sets_append p (stop ∷ []) l at) }
 
 pub nothing : (l : List ℕ) (at : ℕ) → Wrote l at [] l at

@@ -11,11 +11,6 @@ pub record Wrote (before : List ℕ) (at : ℕ) (written after : List ℕ) (r : 
 abbrev pub Room : ℕ → List ℕ → Type 0
 Room at text = at + length text ≤ REPORT
 
--- a buffer from a place on, and a part from place i on, have k bytes
-pub record Block (before : List ℕ) (at : ℕ) (part : List ℕ) (i k : ℕ) : Type 0 where
-  pub held : i + k ≤ length part
-  pub room : at + k ≤ length before
-
 -- k bytes from the front of a part and k from its back are all of it, and there is room for it and a byte behind it
 pub record Halves (before : List ℕ) (at : ℕ) (part : List ℕ) (k : ℕ) : Type 0 where
   pub low : k ≤ length part

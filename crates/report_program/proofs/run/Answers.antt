@@ -7,25 +7,25 @@ use Rattle.report_program.proofs.Printing.{report_is_within, report_is_printed, 
 use Rattle.report_program.proofs.run.Goals as goal
 
 pub slice_bounds-printed-end : goal.slice_bounds-printed-end
-slice_bounds-printed-end g c = report_is_within _ _ _ _ _ _ c.report_on-outcome.ensures.told c.report_on-outcome.ensures.left c.in-Report.is
+slice_bounds-printed-end g c = report_is_within _ _ _ _ _ c.in-Ok.ensures.told c.in-Ok.ensures.left
 
 pub slice_bounds-write-end : goal.slice_bounds-write-end
-slice_bounds-write-end g c = sym (length-take-le _ _ (report_is_within _ _ _ _ _ _ c.report_on-outcome.ensures.told c.report_on-outcome.ensures.left c.in-Report.is))
+slice_bounds-write-end g c = sym (length-take-le _ _ (report_is_within _ _ _ _ _ c.in-Ok.ensures.told c.in-Ok.ensures.left))
 
-pub returns-in-Report : goal.returns-in-Report
+pub returns-in-Ok : goal.returns-in-Ok
 unfolding answered_by
-returns-in-Report g c went =
-    let p = c.report_on-outcome.ensures in
+returns-in-Ok g c went =
+    let p = c.in-Ok.ensures in
     prints_of_input (g.R.Read.remaining c.args.input.now) (g.W.Write.contents c.args.out.now) (g.W.Write.contents c.write.new.out)
     c.read-given.result.count c.read-given.new.buf _ (plan_printed c.args.whole) (search rules)
     (c.read-given.ensures.front (not-false _ c.if-not-given.false)) (c.write.ensures went)
-    (report_is_printed _ _ _ _ _ p.told p.left c.in-Report.is)
+    (report_is_printed _ _ _ _ p.told p.left)
 
-pub returns-in-Refused : goal.returns-in-Refused
+pub returns-in-Err : goal.returns-in-Err
 unfolding answered_by
-returns-in-Refused g c went =
-    let p = c.report_on-outcome.ensures in
+returns-in-Err g c went =
+    let p = c.in-Err.ensures in
     prints_of_input (g.R.Read.remaining c.args.input.now) (g.W.Write.contents c.args.out.now) (g.W.Write.contents c.refuse.new.out)
     c.read-given.result.count c.read-given.new.buf _ (plan_printed c.args.whole) (search rules)
     (c.read-given.ensures.front (not-false _ c.if-not-given.false)) (c.refuse.ensures.line went)
-    (refusal_is_printed _ _ _ _ _ _ p.told p.left c.in-Refused.is c.refuse.ensures.short (search rules))
+    (refusal_is_printed _ _ _ _ p.told p.left c.refuse.ensures.short (search rules))
