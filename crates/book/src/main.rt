@@ -2,18 +2,16 @@
 // says on standard error, and stops there.
 #![tactic(auto)]
 
-use books::Outcome;
 use std::io::Write;
 use std::process::ExitCode;
 
 // Writes the page of a choice of links between so many sites; whether all of it went.
 fn write_page<W: Write, E: Write>(out: &mut W, err: &mut E, sites: usize, choice: usize) -> bool {
     let mut text = [0u8; 4096];
-    let outcome = books::page(sites, choice, &mut text);
-    match outcome {
-        Outcome::Page { length } => text_streams::write(out, err, &text[..length]),
-        Outcome::Refused { number, line } => {
-            text_refusals::refuse(out, err, number, line);
+    match books::page(sites, choice, &mut text) {
+        Ok(length) => text_streams::write(out, err, &text[..length]),
+        Err(refusal) => {
+            text_refusals::refuse(out, err, refusal.number, refusal.line);
             false
         }
     }

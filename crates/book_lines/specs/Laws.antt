@@ -1,5 +1,5 @@
 -- Rounds of the loops that write the exercise book: texts parted by commas, and the lines of a page.
-use Rattle.std.specs.Prelude.{◌≡◌, refl, ◌≢◌, ℕ, zero, suc, ◌+◌, ◌-◌, ◌^◌, ◌≤◌, ◌<◌, length, get_or, take}
+use Rattle.std.specs.Prelude.{◌≡◌, refl, ◌≢◌, ℕ, zero, suc, ◌+◌, ◌-◌, ◌^◌, ◌≤◌, ◌<◌, length, get_or, take, None, Some}
 use Rattle.std.proofs.Math.Path.{sym, ap}
 use Rattle.std.proofs.Common.{ap₂, ◌∙◌, arith, length-append, length-take, length-take-le}
 use mathlib.Core.List.{List, [], ◌∷◌, ◌++◌, map, flat_map, append_assoc}
@@ -19,7 +19,6 @@ use Rattle.theory_book.specs.Numbered.{word, chosen, page_of}
 use Rattle.theory_book.proofs.Counting.{chosen_in}
 use Rattle.theory_book.specs.Pages.{a_page_of_another_number_of_links_is_empty, a-page-without-a-tree-is-empty, a_page_of_a_tree_is_counted}
 use Rattle.book_totals.specs.Total.{Few, total_of}
-use Rattle.book_totals.specs.declared.Outcome.TheVariants.{NoTree, Halves}
 use Rattle.book_lines.specs.Line.{link_text, commas, line_with, line_of, text}
 use Rattle.book_lines.specs.Written.{Joins, line_if, lines_up_to}
 
@@ -96,13 +95,13 @@ line_ended ls c total =
 -- ---- the lines of a page
 
 module _ (n : ℕ) (ls : Links) (c : List ℕ) where
-  pub no_tree_has_no_line : total_of n ls c ≡ NoTree → line_if n ls c ≡ []
+  pub no_tree_has_no_line : total_of n ls c ≡ None → line_if n ls c ≡ []
   unfolding line_if total_of
   no_tree_has_no_line e = same? (joins_all ls (sites n)) 1
       (λ w. let z = rw (pick_same w) at e in contradiction cc)
       (λ d. pick_other d _ [])
 
-  pub a_tree_has_its_line : (h : ℕ) → total_of n ls c ≡ Halves h → line_if n ls c ≡ line_with ls c h
+  pub a_tree_has_its_line : (h : ℕ) → total_of n ls c ≡ Some h → line_if n ls c ≡ line_with ls c h
   unfolding line_if line_of total_of
   a_tree_has_its_line h e = same? (joins_all ls (sites n)) 1
       (λ w. let z = rw (pick_same w) at e in

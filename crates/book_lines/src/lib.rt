@@ -9,8 +9,6 @@ ghost use Rattle.book_totals.specs.Total.{Few};
 ghost use Rattle.book_lines.specs.Line.{link_text, commas, line_with, text};
 ghost use Rattle.book_lines.specs.Written.{Put, Joins, line_if, lines_up_to};
 
-use book_totals::Outcome;
-
 // A link as lower and higher number, and a byte that ends it.
 fn put_link(buf: &mut [u8], at: usize, lower: usize, higher: usize, stop: u8) -> usize
     requires { at ≤ 60000 }
@@ -84,10 +82,9 @@ fn put_sized(
     requires { (at ≤ 40000) × Few n one.now two.now sizes.now }
     ensures { Put 273 buf.old at (line_if n (links one.now two.now) sizes.now) buf.new result }
 {
-    let total = book_totals::total(n, one, two, sizes);
-    match total {
-        Outcome::NoTree => at,
-        Outcome::Halves { halves } => put_line(buf, at, one, two, sizes, halves),
+    match book_totals::total(n, one, two, sizes) {
+        Some(halves) => put_line(buf, at, one, two, sizes, halves),
+        None => at,
     }
 }
 
@@ -108,10 +105,8 @@ fn put_entries(buf: &mut [u8], n: usize, one: &[usize], two: &[usize]) -> usize
 {
     let count = book_numbers::power(3, one.len());
     let mut next: usize = 0;
-    let mut s: u64 = 0;
-    while s < count {
+    for s in 0..count {
         next = put_entry(buf, next, n, one, two, s);
-        s += 1;
     }
     next
 }

@@ -1,7 +1,7 @@
 -- What one link more makes of a choice, and one digit more of a list of sizes: the rounds of the loops.
-use Rattle.std.specs.Prelude.{◌≡◌, refl, ℕ, zero, suc, ◌+◌, ◌*◌, ◌-◌, ◌/◌, ◌%◌, ◌^◌, ◌≤◌, ◌<◌, length, take, set, get_or}
+use Rattle.std.specs.Prelude.{◌≡◌, refl, ℕ, zero, suc, ◌+◌, ◌-◌, ◌/◌, ◌%◌, ◌^◌, ◌≤◌, ◌<◌, length, take, set, get_or}
 use Rattle.std.proofs.Math.Path.{sym}
-use Rattle.std.proofs.Common.{ap, ◌∙◌, arith, pow-suc, add-one, length-take, length-drop, take-suc-set, drop-cons}
+use Rattle.std.proofs.Common.{ap, ◌∙◌, arith, add-one, length-take, length-drop, take-suc-set, drop-cons}
 use mathlib.Core.List.{List, [], ◌∷◌, ◌++◌, map, flat_map, append_assoc, append-nil}
 use Rattle.std.proofs.Math.Nat.{pow-zero, pow-le-pow_left, pow-le-pow_right}
 use Rattle.std.proofs.Math.ListN.{drop, drop_of_length-le}
@@ -117,16 +117,12 @@ module _ (x y : List ℕ) (k : ℕ) (p : k ≤ length x) (q : k ≤ length y) (d
 
 -- ---- powers
 
--- one factor more
-pub power_next : (b i p : ℕ) → p ≡ b ^ i → p * b ≡ b ^ (i + 1)
-power_next b i p e = rw (add-one, e) (sym (pow-suc b i))
-
-pub power_small : (b i p : ℕ) → b ≤ 3 → i < 20 → p ≡ b ^ i → p * b < 2 ^ 64
-power_small b i p h l e = omega (
+-- the powers that are asked for are small
+pub power_small : (b k : ℕ) → b ≤ 3 → k ≤ 20 → b ^ k < 2 ^ 64
+power_small b k h l = omega (
   arith,
-  power_next b i p e,
-  pow-le-pow_left {n = b} {m = 3} h (i + 1),
-  pow-le-pow_right {n = 3} (omega arith) {i = i + 1} {j = 20} (omega arith),
+  pow-le-pow_left {n = b} {m = 3} h k,
+  pow-le-pow_right {n = 3} (omega arith) {i = k} {j = 20} (omega arith),
 )
 
 -- a power is positive

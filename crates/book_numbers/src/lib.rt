@@ -27,11 +27,7 @@ pub fn power(base: u64, k: usize) -> u64
     requires { (base ≤ 3) × (k ≤ 20) }
     ensures { result ≡ base ^ k }
 {
-    let mut p: u64 = 1;
-    for i in 0..k {
-        p = p * base;
-    }
-    p
+    base.pow(k as u32)
 }
 
 // No link.
@@ -79,11 +75,9 @@ fn all_links(n: usize) -> Choice
     requires { n ≤ 5 }
     ensures { (held result ≡ possible n) × (result.count ≤ LISTED) × Roomy result }
 {
-    let mut a: usize = 1;
     let mut all = none();
-    while a <= n {
+    for a in 1..n + 1 {
         all = fan(all, a, n - a);
-        a += 1;
     }
     all
 }
@@ -108,12 +102,10 @@ pub fn choose(n: usize, m: u64) -> Choice
     let count = all.count;
     let one = all.one;
     let two = all.two;
-    let mut i: usize = 0;
     let mut c = none();
-    while i < count {
+    for i in 0..count {
         let w = power(2, count - 1 - i);
         c = keep(c, m, w, one[i], two[i]);
-        i += 1;
     }
     c
 }
@@ -124,11 +116,9 @@ pub fn sizes(k: usize, s: u64) -> [u64; SIZES]
     ensures { (take k result ≡ word 3 k s) × (length result ≡ 4) }
 {
     let mut list = [0u64; SIZES];
-    let mut i: usize = 0;
-    while i < k {
+    for i in 0..k {
         let w = power(3, k - 1 - i);
         list[i] = s / w % 3;
-        i += 1;
     }
     list
 }

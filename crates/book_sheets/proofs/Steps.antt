@@ -1,5 +1,5 @@
 -- A line of the sheet read: the heading, a site line and a link line add what they say. By the forms of lines and the look-up of names.
-use Rattle.std.specs.Prelude.{◌≡◌, true, ◌≢◌, List, [], ◌∷◌, ◌++◌, ℕ, suc, ◌+◌, ◌-◌, ◌≤◌, ◌<◌, take, drop}
+use Rattle.std.specs.Prelude.{Some, ◌≡◌, true, ◌≢◌, List, [], ◌∷◌, ◌++◌, ℕ, suc, ◌+◌, ◌-◌, ◌≤◌, ◌<◌, take, drop, Ok}
 use Rattle.std.proofs.Math.Path.{refl, ap}
 use Rattle.std.proofs.Common.{sym, ◌∙◌, subst, inl, length-drop, take_at, take_all}
 use native.Mathlib.Omega.{arith}
@@ -20,7 +20,6 @@ use Rattle.sheet_kinds.specs.KindForms.{a_site_by_its_form, a_link_by_its_form, 
 use Rattle.sheet_kinds.specs.declared.Line.TheVariants as kinds
 use Rattle.sheet_names.specs.Names.{part, lookup}
 use Rattle.sheet_names.specs.LookupLaws.{first_is_found}
-use Rattle.sheet_names.specs.declared.Found.TheVariants.{At}
 use Rattle.sheet.specs.Sheet.{Network, accepted, with_site, with_link, site_step, link_step, heading_step, record_step, read_line, and_then, read_lines}
 use Rattle.sheet.specs.ReadLaws.{lines_step}
 use Rattle.sheet.specs.StepCases.{first_step, later_step}
@@ -75,13 +74,13 @@ module _ (ed : Edition) (s : List ℕ) (rest : List ℕ) (network : ed.sizing �
 
 module _ (s : List ℕ) (names : List (ℕ × ℕ)) (N : NamesAre s names) where
   -- a site that is given is found
-  pub a_given_name_is_found : (v : ℕ) → 1 ≤ v → v ≤ length names → lookup s names (site_name v) ≡ At v
+  pub a_given_name_is_found : (v : ℕ) → 1 ≤ v → v ≤ length names → lookup s names (site_name v) ≡ Some v
   a_given_name_is_found v h l =
       let i = v - 1 in
       let site : suc i ≡ v = omega arith in
       first_is_found s (site_name v) names 1 i (omega arith) (rw (N i (omega arith), site))
       (λ j b e. let z = names_tell_sites (suc j) v (rw (N j (omega arith)) at e) in absurd (omega arith))
-      ∙ ap At (omega arith)
+      ∙ ap Some (omega arith)
 
 -- ---- a site line
 
@@ -118,7 +117,7 @@ module _ (ed : Edition) (s : List ℕ) (k at : ℕ) (net : Network) (v : ℕ) (r
   abbrev place : ℕ × ℕ
   place = (at + 2, at + (2 + length (site_name v)))
 
-  its_kind : kind ed (line_at s at) ≡ kinds.Site 2 (2 + length (site_name v)) 0
+  its_kind : kind ed (line_at s at) ≡ Ok (kinds.Site 2 (2 + length (site_name v)) 0)
   its_kind = ap (kind ed) (line-is s at text rest plain-text here) ∙ a_site_by_its_form ed text its_form ∙ rw (its_fields, unmarked)
 
   its_name : part s place ≡ site_name v
@@ -192,7 +191,7 @@ module _ (ed : Edition) (s : List ℕ) (k at : ℕ) (net : Network) (l : ℕ × 
   abbrev b : ℕ
   b = length (site_name l.1)
 
-  link-kind : kind ed (line_at s at) ≡ kinds.Link 2 (2 + a) (3 + a) (3 + a + b) c
+  link-kind : kind ed (line_at s at) ≡ Ok (kinds.Link 2 (2 + a) (3 + a) (3 + a + b) c)
   link-kind =
       let fs = fields link_text in
       let together : Together Reserved (size fs) (reserve fs) = omega (arith, no_reserve) in

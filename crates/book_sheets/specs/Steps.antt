@@ -1,5 +1,5 @@
 -- A line of the sheet read: the heading, a site line and a link line add what they say. By the forms of lines and the look-up of names.
-use Rattle.std.specs.Prelude.{◌≡◌, List, [], ◌∷◌, ◌++◌, ℕ, suc, ◌+◌, ◌-◌, ◌<◌, drop}
+use Rattle.std.specs.Prelude.{Option, Some, None, ◌≡◌, List, [], ◌∷◌, ◌++◌, ℕ, suc, ◌+◌, ◌-◌, ◌<◌, drop}
 use Rattle.std.proofs.Math.Path.{refl, ap}
 use Rattle.std.proofs.Common.{sym, ◌∙◌, drop_at, drop-drop}
 use native.Mathlib.Omega.{arith}
@@ -13,8 +13,6 @@ use Rattle.model.specs.declared.Sizing.TheVariants.{Reserved}
 use Rattle.sheet_kinds.specs.declared.Line.TheVariants as kinds
 use Rattle.sheet_names.specs.Names.{part, lookup, name_at}
 use Rattle.sheet_names.specs.LookupLaws.{Says, lookup_says}
-use Rattle.sheet_names.specs.declared.Found.{Found}
-use Rattle.sheet_names.specs.declared.Found.TheVariants.{At, Absent}
 use Rattle.demands.specs.Parsing.{Plain}
 use Rattle.book_sheets.specs.Sheet.{site_name, heading}
 use Rattle.book_sheets.specs.Rows.{row, NoEnd, row_no_end}
@@ -45,12 +43,12 @@ NamesAre s names = (i : ℕ) → i < length names → name_at s names i ≡ site
 
 module _ (s : List ℕ) (names : List (ℕ × ℕ)) (N : NamesAre s names) where
   -- and one that is not given is not
-  pub a_new_name_is_absent : (v : ℕ) → length names < v → lookup s names (site_name v) ≡ Absent
+  pub a_new_name_is_absent : (v : ℕ) → length names < v → lookup s names (site_name v) ≡ None
   a_new_name_is_absent v h = by (lookup s names (site_name v)) (lookup_says s (site_name v) names 1)
     where
-      by : (w : Found) → Says s names 1 (site_name v) w → w ≡ Absent
-      by (At u) e = let z = names_tell_sites (suc e.0) v (rw (N e.0 e.2) at e.3) in absurd (omega (arith, e.2))
-      by Absent e = refl
+      by : (w : Option ℕ) → Says s names 1 (site_name v) w → w ≡ None
+      by (Some u) e = let z = names_tell_sites (suc e.0) v (rw (N e.0 e.2) at e.3) in absurd (omega (arith, e.2))
+      by None e = refl
 
   -- one name more
   pub one_name_more : (r : ℕ × ℕ) → part s r ≡ site_name (suc (length names)) → NamesAre s (names ++ (r ∷ []))

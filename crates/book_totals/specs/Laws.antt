@@ -1,5 +1,5 @@
 -- Trimming says that it balanced just where the links join all sites; what it leaves are the trimmed sizes of the entry.
-use Rattle.std.specs.Prelude.{◌≡◌, ◌≢◌, List, ℕ, ◌+◌, ◌*◌, ◌≤◌, length, take, replicate}
+use Rattle.std.specs.Prelude.{◌≡◌, ◌≢◌, List, ℕ, ◌+◌, ◌*◌, ◌≤◌, length, take, replicate, Ok, Some, None}
 use Rattle.std.proofs.Math.Path.{sym, ap}
 use Rattle.std.proofs.Common.{◌∙◌, arith}
 use Rattle.std.proofs.lemmas.List.{length-replicate}
@@ -13,15 +13,12 @@ use Rattle.theory_trees.proofs.Greatest.{greatest_is_balanced}
 use Rattle.tree.specs.Accepted.{MarkedTree}
 use Rattle.tree.specs.Links.{length-links}
 use Rattle.tree.specs.Offer.{links}
-use Rattle.trimming.specs.Outcome.{answer, trimmed}
+use Rattle.trimming.specs.Outcome.{Trimming, answer, trimmed}
 use Rattle.trimming.specs.Answers.{success_is_told_just_of_a_tree_with_enough_places}
 use Rattle.trimming.specs.Promise.{Promise, promised_within, trimming_keeps_its_promise}
-use Rattle.trimming.specs.declared.Trimming.{Trimming}
-use Rattle.trimming.specs.declared.Trimming.TheVariants.{Balanced}
 use Rattle.theory_book.specs.Book.{joins_all, halves}
 use Rattle.theory_book.proofs.Trees.{a_choice_that_joins_all_is_a_tree, a-tree-joins-all}
 use Rattle.book_totals.specs.Total.{Few, total_of}
-use Rattle.book_totals.specs.declared.Outcome.TheVariants.{NoTree, Halves}
 
 -- site by site
 pub at_ends_by_sites : (ls : Links) (n : ℕ) (t u c : ℕ → ℕ) → t ≡ u
@@ -50,12 +47,12 @@ module _ {n : ℕ} {one two c : List ℕ} (f : Few n one two c) {marks : List �
 
   module _ (lent : List ℕ) where
     -- where something else is said, the links do not join all sites
-    pub no_total_is_told : length one ≤ length lent → (a : Trimming) → answer n one two marks c lent ≡ a → a ≢ Balanced → NoTree ≡ total_of n (links one two) c
+    pub no_total_is_told : length one ≤ length lent → (a : Trimming) → answer n one two marks c lent ≡ a → a ≢ Ok tt → None ≡ total_of n (links one two) c
     unfolding total_of
     no_total_is_told room a e d =
         sym (pick_other (λ w. d (sym e ∙ (success_is_told_just_of_a_tree_with_enough_places n one two marks c lent).1 (offered w, room))) _ _)
 
-    module _ (e : answer n one two marks c lent ≡ Balanced) where
+    module _ (e : answer n one two marks c lent ≡ Ok tt) where
       abbrev left : List ℕ
       left = take (length one) (trimmed n one two marks c lent)
 
@@ -71,12 +68,12 @@ module _ {n : ℕ} {one two c : List ℕ} (f : Few n one two c) {marks : List �
 
       -- and its sum over the ends' links is the total
       pub the_total_is_told : (r : ℕ) → r ≡ at_terminals (links one two) n (look (ends (links one two) n marks)) (look left)
-          → Halves r ≡ total_of n (links one two) c
+          → Some r ≡ total_of n (links one two) c
       unfolding total_of halves
       the_total_is_told r s =
           let ls = links one two in
           let same : left ≡ balanced ls n (look (ends ls n marks)) c =
           greatest_is_balanced tree.within.tree (look (ends ls n marks)) c left (promise.each ∙ sym all-links) promise.greatest in
-          ap Halves (s ∙ ap (λ t. at_terminals ls n (look (ends ls n marks)) (look t)) same
+          ap Some (s ∙ ap (λ t. at_terminals ls n (look (ends ls n marks)) (look t)) same
           ∙ ap (λ k. at_terminals ls n (look (ends ls n k)) (look (balanced ls n (look (ends ls n k)) c))) plain)
           ∙ sym (pick_same (a-tree-joins-all n f.least ls tree.within.tree) _ _)

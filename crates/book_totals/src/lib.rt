@@ -5,80 +5,69 @@
 ghost use Rattle.std.specs.Prelude.{◌≡◌, ◌*◌, ◌≤◌, replicate};
 ghost use Rattle.lists.specs.Numbers.{is, look};
 ghost use Rattle.model.specs.Limits.{SITES};
-ghost use Rattle.model.specs.Edition.{largest};
 ghost use Rattle.model.specs.Flows.{sum_at, ends, at_terminals};
-ghost use Rattle.tree.specs.Accepted.{MarkedTree};
 ghost use Rattle.tree.specs.Offer.{links};
-ghost use Rattle.tree_links.specs.Chains.{Chained, Limited};
 ghost use Rattle.book_totals.specs.Total.{Few, total_of};
 
-use model::{CHAINS, PLACES};
-use trimming::Trimming;
-
-// What links with sizes come to: they are no tree, or a tree with its total in halves.
-#[derive(Clone, Copy)]
-pub enum Outcome {
-    NoTree,
-    Halves { halves: u64 },
-}
+use model::PLACES;
+use tree::AcceptedTree;
+use tree_links::Chains;
 
 // What site v counts: the sizes of its links where it is an end, else 0.
-fn at_end(
-    v: usize,
-    ends: &[u8; PLACES],
-    last: &[usize; PLACES],
-    before: &[usize; CHAINS],
-    one: &[usize],
-    two: &[usize],
-    sizes: &[u64],
-) -> u64
-    requires { (v ≤ SITES) × Chained one.now two.now last.now before.now × Limited one.now sizes.now }
-    ensures { result ≡ is (look ends.now v) 1 * sum_at (links one.now two.now) v (look sizes.now) }
+fn at_end(chains: &Chains, ends: &[u8; PLACES], v: usize) -> u64
+    requires { v ≤ SITES }
+    ensures { result ≡ is (look ends.now v) 1
+        * sum_at (links chains.now.tree.one.now chains.now.tree.two.now) v (look chains.now.tree.capacity.now) }
 {
     if ends[v] != 1 {
         return 0;
     }
-    tree_links::sum_at(v, last, before, one, two, sizes)
+    chains.sum_at(v, chains.tree.capacity)
 }
 
-// The sum of sizes over the ends' links of a tree.
-fn at_ends(n: usize, one: &[usize], two: &[usize], marks: &[u8], sizes: &[u64]) -> u64
-    requires { MarkedTree largest n one.now two.now marks.now sizes.now }
-    ensures { result ≡ at_terminals (links one.now two.now) n
-        (look (ends (links one.now two.now) n marks.now))
-        (look sizes.now) }
+// The sum of the sizes over the ends' links of a tree.
+fn at_ends(tree: AcceptedTree) -> u64
+    ensures { result ≡ at_terminals (links tree.entry.one.now tree.entry.two.now) tree.entry.sites
+        (look (ends (links tree.entry.one.now tree.entry.two.now) tree.entry.sites tree.entry.marks.now))
+        (look tree.entry.capacity.now) }
 {
-    let chains = tree_links::chain(one, two);
-    let last = chains.last;
-    let before = chains.before;
-    let ends = tree_links::ends(n, &last, &before, one, two, marks);
+    let chains = Chains::of(tree);
+    let ends = chains.ends();
+    let n = tree.sites;
     let mut total: u64 = 0;
     for i in 0..n {
-        total += at_end(i + 1, &ends, &last, &before, one, two, sizes);
+        total += at_end(&chains, &ends, i + 1);
     }
     total
 }
 
-// The total of links between n sites with their sizes, and no mark, or that they are no tree.
-fn total_unmarked(n: usize, one: &[usize], two: &[usize], marks: &[u8], sizes: &[u64]) -> Outcome
+// The total of links between n sites with their sizes, and no mark, in halves; none where they are no tree.
+fn total_unmarked(
+    n: usize,
+    one: &[usize],
+    two: &[usize],
+    marks: &[u8],
+    sizes: &[u64],
+) -> Option<u64>
     requires { Few n one.now two.now sizes.now × (marks.now ≡ replicate n 0) }
     ensures { result ≡ total_of n (links one.now two.now) sizes.now }
 {
     let m = one.len();
     let mut trimmed = [0u64; 4];
-    let answer = trimming::trim(n, one, two, marks, sizes, &mut trimmed);
-    match answer {
-        Trimming::Balanced => Outcome::Halves {
-            halves: at_ends(n, one, two, marks, &trimmed[..m]),
-        },
-        Trimming::NoTree => Outcome::NoTree,
-        Trimming::TooLarge => Outcome::NoTree,
-        Trimming::Short => Outcome::NoTree,
+    match trimming::trim(n, one, two, marks, sizes, &mut trimmed) {
+        Ok(()) => Some(at_ends(AcceptedTree {
+            sites: n,
+            one,
+            two,
+            marks,
+            capacity: &trimmed[..m],
+        })),
+        Err(_) => None,
     }
 }
 
-// The total of links between n sites with their sizes, or that they are no tree.
-pub fn total(n: usize, one: &[usize], two: &[usize], sizes: &[u64]) -> Outcome
+// The total of links between n sites with their sizes, in halves; none where they are no tree.
+pub fn total(n: usize, one: &[usize], two: &[usize], sizes: &[u64]) -> Option<u64>
     requires { Few n one.now two.now sizes.now }
     ensures { result ≡ total_of n (links one.now two.now) sizes.now }
 {

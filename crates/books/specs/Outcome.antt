@@ -1,23 +1,25 @@
 -- The outcome of writing a page of the exercise book, for every number of sites, every choice and every buffer: number, line, length, and the buffer after.
 -- Document 02, Card 13; document 01, "The network sheet" (a lent list too short for its answer).
-use Rattle.std.specs.Prelude.{cond, ◌&&◌, List, [], ◌++◌, ℕ, leb, ltb, length, drop}
+use Rattle.std.specs.Prelude.{cond, ◌&&◌, List, [], ◌++◌, ℕ, leb, ltb, length, drop, Result, Ok, Err}
 use Rattle.theory_book.specs.Numbered.{choices_of, page_of}
 use Rattle.book_lines.specs.Line.{text}
-use Rattle.books.specs.declared.Outcome.{Outcome}
-use Rattle.books.specs.declared.Outcome.TheVariants.{Page, Refused}
+use Rattle.model.specs.Refusals.{refused_as, line_of}
+use Rattle.model.specs.declared.Refusal.{Refusal}
+-- document 01's number, line and length for each outcome
+pub use Rattle.model.specs.Refusals.{number}
 
--- document 01's number, line and length for each outcome: success is number 0, line 0 and the page's length
-abbrev pub number : Outcome → ℕ
-number (Page n) = 0
-number (Refused k l) = k
+-- the outcome of writing a page: so many bytes, or a refusal
+abbrev pub Outcome : Type 0
+Outcome = Result ℕ Refusal
 
+-- the line that is told
 abbrev pub line_told : Outcome → ℕ
-line_told (Page n) = 0
-line_told (Refused k l) = l
+line_told = line_of
 
+-- the length of the page; 0 of a refusal
 abbrev pub length_told : Outcome → ℕ
-length_told (Page n) = n
-length_told (Refused k l) = 0
+length_told (Ok n) = n
+length_told (Err r) = 0
 
 -- the number of pages for n sites: a page for each choice of links between them, 2 to 5 sites
 unfoldable pub choices : ℕ → ℕ
@@ -36,8 +38,8 @@ pub record Paged : Type 0 where
 unfoldable pub deliver : List ℕ → List ℕ → Paged
 deliver t b =
     cond (leb (length t) (length b))
-    (record { outcome = Page (length t); buffer = t ++ drop (length t) b })
-    (record { outcome = Refused 9 0; buffer = b })
+    (record { outcome = Ok (length t); buffer = t ++ drop (length t) b })
+    (record { outcome = refused_as 9 0; buffer = b })
 
 -- the page of choice m for n sites into the buffer b
 unfoldable pub page_into : ℕ → ℕ → List ℕ → Paged

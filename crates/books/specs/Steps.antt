@@ -1,5 +1,5 @@
 -- What the code of a page relies on: the numbers of pages, computed, and a page stored from the front of a buffer.
-use Rattle.std.specs.Prelude.{◌≡◌, refl, ◌≢◌, ℕ, ◌+◌, ◌≤◌, ◌<◌}
+use Rattle.std.specs.Prelude.{◌≡◌, refl, ◌≢◌, ℕ, ◌+◌, ◌≤◌, ◌<◌, Ok}
 use Rattle.std.proofs.Math.Path.{ap}
 use Rattle.std.proofs.Common.{◌∙◌, le-leb, lt-ltb, le-ltb}
 use mathlib.Core.List.{List, [], ◌++◌, flat_map}
@@ -14,8 +14,8 @@ use Rattle.lists.specs.Sums.{cases}
 use Rattle.theory_book.specs.Book.{possible}
 use Rattle.theory_book.specs.Numbered.{choices_of, page_of}
 use Rattle.book_lines.specs.Line.{text}
+use Rattle.model.specs.Refusals.{refused_as}
 use Rattle.books.specs.Outcome.{choices, page, deliver, page_into}
-use Rattle.books.specs.declared.Outcome.TheVariants.{Page, Refused}
 
 -- ---- the numbers of pages
 
@@ -59,16 +59,16 @@ a_page_has_2_to_5_sites n m h = (
 
 -- ---- a text into a buffer
 
-pub too_short : (t b : List ℕ) → length b < length t → deliver t b ≡ record { outcome = Refused 9 0; buffer = b }
+pub too_short : (t b : List ℕ) → length b < length t → deliver t b ≡ record { outcome = refused_as 9 0; buffer = b }
 unfolding deliver
 too_short t b h = rw (lt-leb (length t) (length b) h)
 
-pub long-enough : (t b : List ℕ) → length t ≤ length b → deliver t b ≡ record { outcome = Page (length t); buffer = t ++ drop (length t) b }
+pub long-enough : (t b : List ℕ) → length t ≤ length b → deliver t b ≡ record { outcome = Ok (length t); buffer = t ++ drop (length t) b }
 unfolding deliver
 long-enough t b h = rw (le-leb (length t) (length b) h)
 
 -- where there is no such page nothing is written
-pub no_page_is_empty : (n m : ℕ) (b : List ℕ) → choices n ≤ m → page_into n m b ≡ record { outcome = Page 0; buffer = b }
+pub no_page_is_empty : (n m : ℕ) (b : List ℕ) → choices n ≤ m → page_into n m b ≡ record { outcome = Ok 0; buffer = b }
 unfolding page_into page
 no_page_is_empty n m b h = rw (le-ltb m (choices n) h) (long-enough [] b (omega arith))
 
@@ -77,13 +77,13 @@ module _ (n m : ℕ) (h : m < choices n) where
   unfolding page
   a_page_is_its_text = rw (lt-ltb m (choices n) h)
 
-  pub a_page_too_long : (b : List ℕ) → length b < length (text (page_of 2 n m)) → page_into n m b ≡ record { outcome = Refused 9 0; buffer = b }
+  pub a_page_too_long : (b : List ℕ) → length b < length (text (page_of 2 n m)) → page_into n m b ≡ record { outcome = refused_as 9 0; buffer = b }
   unfolding page_into
   a_page_too_long b l = rw a_page_is_its_text (too_short (text (page_of 2 n m)) b l)
 
   -- stored from the front of a buffer that has room for it
   pub a-page-stored : (b after : List ℕ) (k : ℕ) → length (text (page_of 2 n m)) ≤ length b → k ≡ length (text (page_of 2 n m))
-      → after ≡ sets b 0 (text (page_of 2 n m)) → page_into n m b ≡ record { outcome = Page k; buffer = after }
+      → after ≡ sets b 0 (text (page_of 2 n m)) → page_into n m b ≡ record { outcome = Ok k; buffer = after }
   unfolding page_into
   a-page-stored b after k l s e =
       let t = text (page_of 2 n m) in

@@ -1,6 +1,6 @@
 -- What writing a page tells, for every number of sites, choice and buffer: each outcome for its cause and for no other. All pages together are the book.
 -- By the cases of the definition. Document 02, Card 13.
-use Rattle.std.specs.Prelude.{◌≡◌, refl, ℕ, ◌+◌, ◌≤◌, ◌<◌, length, drop}
+use Rattle.std.specs.Prelude.{◌≡◌, refl, ℕ, ◌+◌, ◌≤◌, ◌<◌, length, drop, Ok}
 use Rattle.std.proofs.Common.{sym, ap, ◌∙◌, arith, length-append, length-drop}
 use mathlib.Core.List.{List, ◌++◌, flat_map}
 use Rattle.std.proofs.Math.Decide.{dec_le}
@@ -12,9 +12,9 @@ use Rattle.theory_book.specs.ListLaws.{from_in}
 use Rattle.theory_book.specs.Numbered.{choices_of, page_of}
 use Rattle.theory_book.proofs.Pages.{the_pages_are_the_book}
 use Rattle.book_lines.specs.Line.{line_of, text}
-use Rattle.books.specs.Outcome.{Paged, number, line_told, length_told, choices, page, page_into}
+use Rattle.model.specs.Refusals.{refused_as}
+use Rattle.books.specs.Outcome.{Outcome, Paged, number, line_told, length_told, choices, page, page_into}
 use Rattle.books.specs.Steps.{counted, too_short, long-enough, a_page_is_its_text}
-use Rattle.books.specs.declared.Outcome.TheVariants.{Page, Refused}
 
 -- ---- all pages
 
@@ -65,12 +65,12 @@ a_page_is_told_or_9 n m b = cases (dec_le (length (page n m)) (length b))
     (rw (too_short (page n m) b (omega arith)) (record { number-told = refl; line-told = refl; length-told = refl; buffer_kept = refl })))
 
 -- a page that is told stands within the buffer
-pub a-page-told-is-within : (n m k : ℕ) (b : List ℕ) → (page_into n m b).outcome ≡ Page k → k ≤ length b
+pub a-page-told-is-within : (n m k : ℕ) (b : List ℕ) → (page_into n m b).outcome ≡ Ok k → k ≤ length b
 unfolding page_into
 a-page-told-is-within n m k b e = cases (dec_le (length (page n m)) (length b))
-    (λ h. let same : Page (length (page n m)) ≡ Page k = sym (ap (λ p. p.outcome) (long-enough (page n m) b h)) ∙ e in
+    (λ h. let same : ◌≡◌ {A = Outcome} (Ok (length (page n m))) (Ok k) = sym (ap (λ p. p.outcome) (long-enough (page n m) b h)) ∙ e in
     let number : length (page n m) ≡ k = cc in omega arith)
-    (λ h. let other : Refused 9 0 ≡ Page k = sym (ap (λ p. p.outcome) (too_short (page n m) b (omega arith))) ∙ e in contradiction cc)
+    (λ h. let other : ◌≡◌ {A = Outcome} (refused_as 9 0) (Ok k) = sym (ap (λ p. p.outcome) (too_short (page n m) b (omega arith))) ∙ e in contradiction cc)
 
 pub the_buffer_stays : (n m : ℕ) (b : List ℕ) → length (page_into n m b).buffer ≡ length b
 unfolding page_into

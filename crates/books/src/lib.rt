@@ -4,12 +4,7 @@
 ghost use Rattle.std.specs.Prelude.{◌≡◌};
 ghost use Rattle.books.specs.Outcome.{choices, page_into};
 
-// What writing a page comes to: so many bytes, or a refusal with its number and line.
-#[derive(Clone, Copy)]
-pub enum Outcome {
-    Page { length: usize },
-    Refused { number: u64, line: usize },
-}
+use model::Refusal;
 
 // The number of pages for so many sites, a page for each choice of links between them; 0 where the book has no trees of so many sites.
 pub fn choices(sites: usize) -> usize
@@ -32,18 +27,18 @@ pub fn choices(sites: usize) -> usize
 
 // Writes the lines of the page of a choice of links between so many sites into the front of a lent buffer and tells their length, 0 where there is no such
 // page or its links are no tree; or refuses a buffer too short for them, and leaves it as it was.
-pub fn page(sites: usize, choice: usize, buffer: &mut [u8]) -> Outcome
+pub fn page(sites: usize, choice: usize, buffer: &mut [u8]) -> Result<usize, Refusal>
     ensures told { result ≡ (page_into sites choice buffer.old).outcome }
     ensures left { buffer.new ≡ (page_into sites choice buffer.old).buffer }
 {
     if choices(sites) <= choice {
-        return Outcome::Page { length: 0 };
+        return Ok(0);
     }
     let mut measured = [0u8; 1];
     let length = book_lines::put_page(&mut measured, sites, choice as u64);
     if buffer.len() < length {
-        return Outcome::Refused { number: 9, line: 0 };
+        return Err(Refusal { number: 9, line: 0 });
     }
     book_lines::put_page(buffer, sites, choice as u64);
-    Outcome::Page { length }
+    Ok(length)
 }

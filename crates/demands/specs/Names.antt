@@ -1,5 +1,5 @@
 -- The names of an accepted sheet, read back: a name leads to its own site, `-` to none, and a name holds no tab and no byte 10.
-use Rattle.std.specs.Prelude.{◌≡◌, Bool, true, false, cond, ◌&&◌, List, [], ◌∷◌, ℕ, ◌-◌, ◌≤◌, ◌<◌, leb, length, get_or}
+use Rattle.std.specs.Prelude.{Option, Some, None, ◌≡◌, Bool, true, false, cond, ◌&&◌, List, [], ◌∷◌, ℕ, ◌-◌, ◌≤◌, ◌<◌, leb, length, get_or}
 use Rattle.std.proofs.Math.Path.{refl}
 use Rattle.std.proofs.Common.{sym, ap, subst, true≢false, arith, leb-true}
 use Rattle.std.proofs.Math.Decide.{dec_lt}
@@ -16,8 +16,6 @@ use Rattle.sheet_names.specs.Names.{name_at}
 use Rattle.sheet_names.specs.LookupLaws.{Says, lookup_says}
 use Rattle.sheet.specs.SheetTheorem.{IsNetwork}
 use Rattle.planner.specs.Small.{name-or-nothing}
-use Rattle.sheet_names.specs.declared.Found.{Found}
-use Rattle.sheet_names.specs.declared.Found.TheVariants.{At, Absent}
 use Rattle.demands.specs.Printed.{site_found, site_named}
 use Rattle.demands.specs.Parsing.{Plain}
 
@@ -62,18 +60,18 @@ module _ {ed : Edition} {s : List ℕ} {net : Network} (N : IsNetwork ed s net) 
   unfolding site_named site_found
   name_read_back v p = by (lookup s net.names (name_at s net.names (v - 1))) (lookup_says s (name_at s net.names (v - 1)) net.names 1)
     where
-      by : (w : Found) → Says s net.names 1 (name_at s net.names (v - 1)) w → site_found w ≡ v
-      by (At u) h = omega (arith, one-site h.0 (v - 1) h.2 (omega arith) h.3)
-      by Absent h = absurd (h (v - 1) (omega arith) refl)
+      by : (w : Option ℕ) → Says s net.names 1 (name_at s net.names (v - 1)) w → site_found w ≡ v
+      by (Some u) h = omega (arith, one-site h.0 (v - 1) h.2 (omega arith) h.3)
+      by None h = absurd (h (v - 1) (omega arith) refl)
 
   -- `-` leads to none
   pub dash_read_back : site_named s net (bytes "-") ≡ 0
   unfolding site_named site_found
   dash_read_back = by (lookup s net.names (bytes "-")) (lookup_says s (bytes "-") net.names 1)
     where
-      by : (w : Found) → Says s net.names 1 (bytes "-") w → site_found w ≡ 0
-      by (At u) h = absurd (not-dash (name_at s net.names h.0) (N.names h.0 h.2).name h.3)
-      by Absent h = refl
+      by : (w : Option ℕ) → Says s net.names 1 (bytes "-") w → site_found w ≡ 0
+      by (Some u) h = absurd (not-dash (name_at s net.names h.0) (N.names h.0 h.2).name h.3)
+      by None h = refl
 
   pub site-name-is-plain : (v : ℕ) → Plain (name_at s net.names (v - 1))
   site-name-is-plain = name-or-nothing N Plain a-name-is-plain tt

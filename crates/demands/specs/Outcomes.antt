@@ -1,6 +1,6 @@
 -- What planning comes to, by the cases of its definition, for either report: the sheet refused, the report longer than the buffer, the report delivered.
 -- And what the program prints of it: a report or the line of a refusal stands at the front of the buffer.
-use Rattle.std.specs.Prelude.{◌≡◌, List, [], ◌∷◌, ◌++◌, ℕ, ◌≤◌, ◌<◌, length}
+use Rattle.std.specs.Prelude.{◌≡◌, List, [], ◌∷◌, ◌++◌, ℕ, ◌≤◌, ◌<◌, length, Ok}
 use Rattle.std.proofs.Math.Path.{sym, ap}
 use Rattle.std.proofs.Common.{◌∙◌, arith, zero-add, length-append}
 use Rattle.std.proofs.Math.Decide.{dec_le}
@@ -8,13 +8,13 @@ use borrow.Author.Tests.{le-leb, lt-leb}
 use Rattle.std.proofs.Math.ListN.{drop}
 use Rattle.std.proofs.Math.Seq.{take-append_seam, sets, sets-eq}
 use Rattle.model.specs.Limits.{BYTES, REPORT}
+use Rattle.model.specs.Refusals.{refused_as}
 use Rattle.model.specs.declared.Edition.{Edition}
 use Rattle.lists.specs.Sums.{cases}
 use Rattle.sheet.specs.Sheet.{Network, refused, accepted, read_sheet}
 use Rattle.text_writers.specs.Decimal.{decimal-within, decimal-length}
 use Rattle.report.specs.Report.{decimal, line, refusal_line}
 use Rattle.planner.specs.Outcome.{number, Reporter, deliver, plan_read, planned_by, Answer, spelt, answered_by}
-use Rattle.planner.specs.declared.Outcome.TheVariants.{Report, Refused}
 use Rattle.demands.specs.Printed.{bytes_told, bytes_printed}
 
 -- an answer in the buffer b that has the text r at its front
@@ -26,17 +26,17 @@ unfolding bytes_printed
 the_front_is_printed b r = take-append_seam r (drop (length r) b)
 
 module _ (text : Reporter) (known : List Edition) (s b : List ℕ) where
-  pub sheet_refused : (k l : ℕ) → read_sheet known s ≡ refused k l → planned_by text known s b ≡ record { outcome = Refused k l; buffer = b }
+  pub sheet_refused : (k l : ℕ) → read_sheet known s ≡ refused k l → planned_by text known s b ≡ record { outcome = refused_as k l; buffer = b }
   unfolding planned_by plan_read
   sheet_refused k l e = rw e
 
   module _ (net : Network) (read : read_sheet known s ≡ accepted net) where
-    pub report_too_long : length b < length (text s net) → planned_by text known s b ≡ record { outcome = Refused 9 0; buffer = b }
+    pub report_too_long : length b < length (text s net) → planned_by text known s b ≡ record { outcome = refused_as 9 0; buffer = b }
     unfolding planned_by plan_read deliver
     report_too_long l = rw (read, lt-leb (length (text s net)) (length b) l)
 
     pub report-delivered : length (text s net) ≤ length b
-        → planned_by text known s b ≡ record { outcome = Report (length (text s net)); buffer = text s net ++ drop (length (text s net)) b }
+        → planned_by text known s b ≡ record { outcome = Ok (length (text s net)); buffer = text s net ++ drop (length (text s net)) b }
     unfolding planned_by plan_read deliver
     report-delivered l = rw (read, le-leb (length (text s net)) (length b) l)
 

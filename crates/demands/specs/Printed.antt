@@ -1,7 +1,7 @@
 -- What the demands speak of: plans; and what a report says, read off its bytes alone: lines, fields and numbers, and from them the printed
 -- total, sizes, end sets and plan; and what the line of a refusal says. Document 01, "Plans, trimmed sizes, end sets" and "The report, given whole";
 -- 02, Card 2 (the report headed `whole`).
-use Rattle.std.specs.Prelude.{cond, List, [], ◌∷◌, map, ℕ, ◌+◌, ◌-◌, length, get_or, take}
+use Rattle.std.specs.Prelude.{Option, unwrap_or, cond, List, [], ◌∷◌, map, ℕ, ◌+◌, ◌-◌, length, get_or, take}
 use Rattle.lists.specs.Numbers.{pick, look}
 use Rattle.model.specs.Flows.{Links, Multiflow}
 use Rattle.model.specs.Text.{bytes}
@@ -9,8 +9,6 @@ use Rattle.model.specs.Whole.{set_size as sizeBy}
 use Rattle.model.specs.declared.Pair.{Pair}
 use Rattle.sheet_kinds.specs.LineKinds.{field, same, value}
 use Rattle.sheet.specs.Sheet.{Network, ends_of, lookup}
-use Rattle.sheet_names.specs.declared.Found.{Found}
-use Rattle.sheet_names.specs.declared.Found.TheVariants.{At, Absent}
 use Rattle.planner.specs.Outcome.{Planned, length_of, Answer}
 -- the lines of a text, each as its fields
 pub use Rattle.text_records.specs.Records.{Record}
@@ -49,9 +47,8 @@ ends_among end [] = []
 ends_among end (v ∷ vs) = pick (end v) 1 (v ∷ ends_among end vs) (ends_among end vs)
 
 -- the number of a site that is found, 0 where none is
-unfoldable pub site_found : Found → ℕ
-site_found (At k) = k
-site_found Absent = 0
+unfoldable pub site_found : Option ℕ → ℕ
+site_found found = unwrap_or found 0
 
 -- the site that the sheet s, read as net, gives the name f; 0 where it gives none, as for `-`
 unfoldable pub site_named : List ℕ → Network → List ℕ → ℕ

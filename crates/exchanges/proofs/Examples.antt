@@ -14,8 +14,7 @@ use Rattle.sheet.specs.Sheet.{finish, read_as, edition_of}
 use Rattle.theory_regions.specs.Regions.{first_size, trimmed_again, lone, far_site, own, own_sum, given}
 use Rattle.theory_regions.specs.Sharing.{first_from, commons, shared_first, shared_second, may_be_far, chosen, shared_at, sharing_of}
 use Rattle.exchanges.specs.Shared.{partner}
-use Rattle.exchanges.specs.Outcome.{Exchanged, refusal, deliver, exchange_over, exchange_read, exchanged}
-use Rattle.exchanges.specs.declared.Outcome.TheVariants.{Answered}
+use Rattle.exchanges.specs.Outcome.{both_of, Exchanged, refusal, deliver, exchange_over, exchange_read, exchanged}
 use Rattle.exchanges.specs.Examples.{dale, hill, marked, unreserved}
 
 exchange : List ℕ → List ℕ → List ℕ → List ℕ → Exchanged
@@ -28,7 +27,7 @@ exchange s t l m = exchanged editions s t l m
 
 -- 6 and 2 are shown, and the lesser goes to both; a place past the answer keeps its value
 both_are_given : exchange hill dale (7 ∷ 7 ∷ 7 ∷ 7 ∷ []) (8 ∷ 8 ∷ 8 ∷ []) ≡ record {
-  outcome = Answered (record { count = 3; sum = 4 }) (record { count = 3; sum = 2 });
+  outcome = both_of (record { count = 3; sum = 4 }) (record { count = 3; sum = 2 });
   first = 2 ∷ 3 ∷ 1 ∷ 7 ∷ [];
   second = 1 ∷ 2 ∷ 1 ∷ [];
 }

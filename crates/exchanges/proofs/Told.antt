@@ -5,6 +5,7 @@ use Rattle.std.proofs.Math.Path.{refl}
 use Rattle.std.proofs.Math.Decide.{dec_le}
 use borrow.Author.Tests.{le-leb, lt-leb}
 use Rattle.lists.specs.Sums.{cases, contradiction}
+use Rattle.model.specs.TextRefusals.{refused_in}
 use Rattle.model.specs.declared.Edition.{Edition}
 use Rattle.sheet.specs.Sheet.{Network, Read, refused, accepted, read_sheet, edition_of}
 use Rattle.sheet.specs.SheetTheorem.{a_sheet_is_refused_for_its_cause}
@@ -12,13 +13,12 @@ use Rattle.theory_regions.specs.JoinedTree.{Border}
 use Rattle.theory_regions.specs.Sharing.{Sharing, apart, sharing}
 use Rattle.theory_regions.specs.SharingLaws.{Tells, tells_none, tells-some}
 use Rattle.exchanges.specs.Shared.{region_of, site_name, sharing_in}
-use Rattle.exchanges.specs.Outcome.{sheet_of, number, line_of, refusal, told, filled, deliver}
+use Rattle.exchanges.specs.Outcome.{both_of, sheet_of, number, line_of, refusal, told, filled, deliver}
 use Rattle.exchanges.specs.Outcome.{exchange_over, exchange_read, exchanged}
 use Rattle.exchanges.specs.Causes.{BothRead, AcceptedPair, Cause, of_the_first, of_the_second, no_shared_link}
 use Rattle.exchanges.specs.Causes.{first_list_too_short, second_list_too_short}
 use Rattle.exchanges.proofs.SharedLaws.{apart_exactly_unless_they_share, the_sharing_is_told, the_shared_link_is_one}
 use Rattle.exchanges.specs.SharedLaws.{a_size_for_each_link, first_given, second_given}
-use Rattle.exchanges.specs.declared.Outcome.TheVariants.{Answered, Refused}
 use Rattle.exchanges.specs.Told.{Room, ExchangeTold, both-answered, for_its_cause, u, v}
 
 -- ---- case by case
@@ -59,7 +59,7 @@ module _ (known : List Edition) (s t l m : List ℕ) where
     ) refl
 
     pub both_are_answered : Room net other l m
-        → exchanged known s t l m ≡ record { outcome = Answered (told (u known s t l m X)) (told (v known s t l m X)); first = filled (u known s t l m X) l; second = filled (v known s t l m X) m }
+        → exchanged known s t l m ≡ record { outcome = both_of (told (u known s t l m X)) (told (v known s t l m X)); first = filled (u known s t l m X) l; second = filled (v known s t l m X) m }
     unfolding deliver
     both_are_answered r = delivered X ∙ rw (
       le-leb (length (u known s t l m X).sizes) (length l) (omega (arith, a_size_for_each_link X, r.first)),
@@ -123,5 +123,5 @@ module _ (known : List Edition) (s t l m : List ℕ) where
           let r : line ≡ at = ap (λ o. line_of o.outcome) same in
           rw (p, q, r) at c
       by (both-answered X r h) e =
-          let same : Answered (told (first_given X)) (told (second_given X)) ≡ Refused sheet n at = ap (λ o. o.outcome) (sym (both_are_answered X r) ∙ e) in
+          let same : both_of (told (first_given X)) (told (second_given X)) ≡ refused_in sheet n at = ap (λ o. o.outcome) (sym (both_are_answered X r) ∙ e) in
           contradiction cc

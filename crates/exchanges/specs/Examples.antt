@@ -1,5 +1,5 @@
 -- Two small sheets, computed (document 02, Card 10): names in either case, editions that differ, a reserve, and the order of the refusals.
-use Rattle.std.specs.Prelude.{List, [], ℕ}
+use Rattle.std.specs.Prelude.{List, ℕ}
 use Rattle.model.specs.Text.{bytes}
 
 -- `hill` joined to `dale`, over the shared link, and to a and b

@@ -1,40 +1,42 @@
 -- The outcome of the exchange between two regions, for any two sheets and any two lent lists: sheet, number, line, the answer for each, and the lists after.
 -- Document 02, Card 10 (refusals: causes of the first sheet, of the second, 18, 9) and Card 3 (a lent list keeps its values on any refusal, and past the
 -- answer).
-use Rattle.std.specs.Prelude.{cond, List, ◌++◌, ℕ, leb, length, drop}
+use Rattle.std.specs.Prelude.{cond, List, ◌++◌, ℕ, leb, length, drop, Result, Ok, Err}
+use Rattle.model.specs.TextRefusals.{refused_in, text_of}
 use Rattle.model.specs.declared.Edition.{Edition}
+use Rattle.model.specs.declared.TextRefusal.{TextRefusal}
 use Rattle.sheet.specs.Sheet.{Network, Read, refused, accepted, read_sheet}
 use Rattle.theory_regions.specs.Regions.{Given}
 use Rattle.theory_regions.specs.Sharing.{Sharing, apart, sharing}
 use Rattle.exchanges.specs.Shared.{sharing_in, shown, given_to}
 use Rattle.exchanges.specs.declared.Answer.{Answer}
-use Rattle.exchanges.specs.declared.Outcome.{Outcome}
-use Rattle.exchanges.specs.declared.Outcome.TheVariants.{Answered, Refused}
+use Rattle.exchanges.specs.declared.Answers.{Answers}
+-- the papers' sheet, number and line for each outcome
+pub use Rattle.model.specs.TextRefusals.{number, line_of}
 
--- the papers' sheet, number and line for each outcome: success is sheet 0, number 0 and line 0; 18 names sheet 0
+-- the outcome of an exchange: the answer for each region, or a refusal of one of two sheets; 18 names sheet 0
+abbrev pub Outcome : Type 0
+Outcome = Result Answers TextRefusal
+
+-- both regions answered
+abbrev pub both_of : Answer → Answer → Outcome
+both_of u v = Ok (record { first = u; second = v })
+
+-- the sheet that is told
 abbrev pub sheet_of : Outcome → ℕ
-sheet_of (Answered u v) = 0
-sheet_of (Refused x k line) = x
-
-abbrev pub number : Outcome → ℕ
-number (Answered u v) = 0
-number (Refused x k line) = k
-
-abbrev pub line_of : Outcome → ℕ
-line_of (Answered u v) = 0
-line_of (Refused x k line) = line
+sheet_of = text_of
 
 -- the answer for each region: on a refusal the counts and the sums are 0
 abbrev pub none : Answer
 none = record { count = 0; sum = 0 }
 
 abbrev pub first_of : Outcome → Answer
-first_of (Answered u v) = u
-first_of (Refused x k line) = none
+first_of (Ok both) = both.first
+first_of (Err r) = none
 
 abbrev pub second_of : Outcome → Answer
-second_of (Answered u v) = v
-second_of (Refused x k line) = none
+second_of (Ok both) = both.second
+second_of (Err r) = none
 
 -- the outcome, and the lent lists after
 pub record Exchanged : Type 0 where
@@ -44,7 +46,7 @@ pub record Exchanged : Type 0 where
 
 -- refused: both lists keep their values
 abbrev pub refusal : ℕ → ℕ → ℕ → List ℕ → List ℕ → Exchanged
-refusal x k line l m = record { outcome = Refused x k line; first = l; second = m }
+refusal x k line l m = record { outcome = refused_in x k line; first = l; second = m }
 
 -- what a region is told of what it is given, and its list after: the trimmed sizes, in sheet order; the places after them keep their values
 abbrev pub told : Given → Answer
@@ -58,7 +60,7 @@ unfoldable pub deliver : Given → Given → List ℕ → List ℕ → Exchanged
 deliver u v l m =
     cond (leb (length u.sizes) (length l))
     (cond (leb (length v.sizes) (length m))
-    (record { outcome = Answered (told u) (told v); first = filled u l; second = filled v m })
+    (record { outcome = both_of (told u) (told v); first = filled u l; second = filled v m })
     (refusal 2 9 0 l m))
     (refusal 1 9 0 l m)
 

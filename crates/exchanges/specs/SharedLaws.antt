@@ -1,6 +1,6 @@
 -- Two accepted sheets as two regions: each is a tree with a capacity for each link and no name twice, and the look-ups of names find the names in common.
 -- So the decision tells what is asked of a pair, and where it holds all is so that document 02 says of the joined tree.
-use Rattle.std.specs.Prelude.{List, ◌⊎◌, ◌≡◌, refl, ℕ, ◌-◌, length}
+use Rattle.std.specs.Prelude.{Option, Some, None, List, ◌⊎◌, ◌≡◌, refl, ℕ, ◌-◌, length}
 use Rattle.std.proofs.Common.{inl, inr, sym, arith}
 use Rattle.std.proofs.Math.Decide.{dec_lt}
 use Rattle.lists.specs.Sums.{cases}
@@ -9,8 +9,6 @@ use Rattle.model.specs.declared.Edition.{Edition}
 use Rattle.text_fields.specs.Fields.{capitals}
 use Rattle.sheet_names.specs.Names.{lookup}
 use Rattle.sheet_names.specs.LookupLaws.{Says, lookup_says}
-use Rattle.sheet_names.specs.declared.Found.{Found}
-use Rattle.sheet_names.specs.declared.Found.TheVariants.{At, Absent}
 use Rattle.sheet.specs.Sheet.{Network, accepted, read_sheet, edition_of}
 use Rattle.sheet.specs.SheetTheorem.{IsNetwork, an_accepted_sheet_is_a_tree}
 use Rattle.theory_regions.specs.JoinedTree.{Border, Joins, position, glued, joined_tree}
@@ -41,13 +39,13 @@ the_network_is_named known s net e = named (an_accepted_sheet_is_a_tree (edition
 -- ---- names in common
 
 -- what the look-up of a text among the names of a sheet comes to: the site that has it as its name, in either case; or 0, and no site has it
-found_or_not : (t : List ℕ) (other : Network) (f : List ℕ) (r : Found) → Says t other.names 1 f r
+found_or_not : (t : List ℕ) (other : Network) (f : List ℕ) (r : Option ℕ) → Says t other.names 1 f r
     → (Site (length other.names) (site_found r) × (capitals f ≡ site_name t other (site_found r)))
     ⊎ ((site_found r ≡ 0) × ((y : ℕ) → Site (length other.names) y → ¬ (capitals f ≡ site_name t other y)))
-found_or_not t other f (At v) h =
+found_or_not t other f (Some v) h =
     let back : v - 1 ≡ h.0 = omega (arith, h.1) in
     inl ((omega (arith, h.1), omega (arith, h.1, h.2)), sym (rw back h.3))
-found_or_not t other f Absent h = inr (refl, λ y p e. h (y - 1) (omega arith) (sym e))
+found_or_not t other f None h = inr (refl, λ y p e. h (y - 1) (omega arith) (sym e))
 
 pub a_look_up_finds_the_site_of_a_name : (t : List ℕ) (other : Network) (f : List ℕ) → let v = site_found (lookup t other.names f) in
     (Site (length other.names) v × (capitals f ≡ site_name t other v))

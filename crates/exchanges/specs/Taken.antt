@@ -1,6 +1,6 @@
 -- The networks of two accepted sheets taken apart into lists, as the code has them, and the exchange between them, case by case.
 use Rattle.std.specs.Prelude.{List, ◌++◌, ◌≡◌, ℕ, ◌≤◌, ◌<◌, length, drop}
-use Rattle.std.proofs.Common.{arith}
+use Rattle.std.proofs.Common.{ap, arith}
 use Rattle.std.proofs.Math.Path.{refl}
 use borrow.Author.Tests.{le-leb, lt-leb}
 use Rattle.model.specs.Edition.{editions, largest}
@@ -8,12 +8,12 @@ use Rattle.region_sizes.specs.Laws.{trimmed_again_for_each_link}
 use Rattle.region_sizes.specs.Offered.{region_by}
 use Rattle.sheet.specs.Sheet.{Network, accepted, read_sheet}
 use Rattle.sheet_names.specs.Names.{ranges}
-use Rattle.sheet.specs.declared.Answer.TheVariants as answered
+use Rattle.sheet_names.specs.LookupLaws.{length-ranges}
 use Rattle.theory_regions.specs.Regions.{Region, first_size, Given, given}
 use Rattle.tree.specs.Accepted.{MarkedTree}
 use Rattle.tree.specs.Offer.{links}
-use Rattle.exchanges.specs.Outcome.{Exchanged, refusal, told, filled, deliver}
-use Rattle.exchanges.specs.declared.Outcome.TheVariants.{Answered}
+use Rattle.exchanges.specs.Shared.{region_of}
+use Rattle.exchanges.specs.Outcome.{both_of, Exchanged, refusal, told, filled, deliver}
 
 -- the answers for two regions that share link j of the first and link k of the second
 abbrev pub deliver_between : Region → ℕ → Region → ℕ → List ℕ → List ℕ → Exchanged
@@ -22,6 +22,12 @@ deliver_between a j b k l m = deliver (given a j (first_size b k)) (given b k (f
 -- the network of lists
 abbrev pub network_by : List ℕ → List ℕ → ℕ → List ℕ → List ℕ → List ℕ → List ℕ → Network
 network_by starts stops n one two marks c = record { names = ranges starts stops 0 n; marks = marks; links = links one two; capacities = c }
+
+-- as a region it is that of the lists
+pub the_region_of_lists : (starts stops : List ℕ) (n : ℕ) (one two marks c : List ℕ)
+    → region_of (network_by starts stops n one two marks c) ≡ region_by n one two marks c
+the_region_of_lists starts stops n one two marks c =
+    ap (λ k. record { links = links one two; sites = k; marks = marks; capacities = c }) (length-ranges starts stops 0 n)
 
 -- the network of an accepted sheet, taken apart into lists: a tree within the limits
 pub record Taken (s starts stops : List ℕ) (n : ℕ) (one two marks c : List ℕ) : Type 0 where
@@ -64,7 +70,7 @@ module _ {n : ℕ} {one two marks c : List ℕ} {n2 : ℕ} {one2 two2 marks2 c2 
     ) refl
 
     pub both_lists_are_filled : length one2 ≤ length m
-        → deliver_between a j b k l m ≡ record { outcome = Answered (told first) (told second); first = filled first l; second = filled second m }
+        → deliver_between a j b k l m ≡ record { outcome = both_of (told first) (told second); first = filled first l; second = filled second m }
     unfolding deliver
     both_lists_are_filled h = rw (
       le-leb (length first.sizes) (length l) (omega (arith, as_many_first)),
@@ -76,7 +82,7 @@ module _ {n : ℕ} {one two marks c : List ℕ} {n2 : ℕ} {one2 two2 marks2 c2 
         → sum ≡ first.sum → sum2 ≡ second.sum
         → after ≡ first.sizes ++ drop (length one) l → after2 ≡ second.sizes ++ drop (length one2) m
         → let o = deliver_between a j b k l m in
-        (Answered (record { count = length one; sum = sum }) (record { count = length one2; sum = sum2 }) ≡ o.outcome)
+        (both_of (record { count = length one; sum = sum }) (record { count = length one2; sum = sum2 }) ≡ o.outcome)
         × ((after ≡ o.first) × (after2 ≡ o.second))
     both_are_given h g g2 u u2 = rw (g, g2, u, u2, both_lists_are_filled h, as_many_first, as_many_second) (refl, (refl, refl))
 

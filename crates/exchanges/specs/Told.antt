@@ -1,6 +1,6 @@
 -- What the exchange between two regions tells, for any two sheets and any two lent lists: each number for its cause and for no other, and the lists after.
 -- Document 02, Card 10.
-use Rattle.std.specs.Prelude.{List, ◌++◌, ◌⊎◌, ◌≡◌, ℕ, ◌+◌, ◌≤◌, ◌<◌, length, drop}
+use Rattle.std.specs.Prelude.{List, ◌++◌, ◌⊎◌, ◌≡◌, ℕ, ◌≤◌, ◌<◌, length, drop}
 use Rattle.std.proofs.Common.{inl, inr, arith}
 use Rattle.std.proofs.Math.Path.{refl}
 use Rattle.model.specs.declared.Edition.{Edition}

@@ -7,7 +7,6 @@ use std::env::Env;
 use std::io::Write;
 use std::process::ExitCode;
 use std::rt::Files;
-use verdicts::Outcome;
 
 // Writes the line of a verdict to standard output; whether all of it went.
 fn tell<W: Write, E: Write>(out: &mut W, err: &mut E, total: u64, yes: bool) -> bool {
@@ -48,10 +47,9 @@ fn run<R: Env + Files, W: Write, E: Write>(rt: &R, out: &mut W, err: &mut E) -> 
     }
     let n = first.count;
     let m = second.count;
-    let outcome = verdicts::judge(&sheet[..n], &plan[..m]);
-    match outcome {
-        Outcome::Judged { total, largest } => tell(out, err, total, largest),
-        Outcome::Refused { text, number, line } => refuse(out, err, text, number, line),
+    match verdicts::judge(&sheet[..n], &plan[..m]) {
+        Ok(verdict) => tell(out, err, verdict.total, verdict.largest),
+        Err(refusal) => refuse(out, err, refusal.text, refusal.number, refusal.line),
     }
 }
 

@@ -1,9 +1,8 @@
 -- The definitions give each of the nine sheets exactly its report: one proof, by computation, over the list.
-use Rattle.std.specs.Prelude.{length, replicate}
+use Rattle.std.specs.Prelude.{length, replicate, Ok}
 use Rattle.model.specs.Edition.{editions}
 use Rattle.report.specs.Report.{report}
 use Rattle.planner.specs.Outcome.{Planned, Reporter, planned_by}
-use Rattle.planner.specs.declared.Outcome.TheVariants.{Report}
 use Rattle.nine.specs.Sheets.{Example}
 
 -- planning a sheet by the definitions, into a buffer just as long as the report that is expected
@@ -12,4 +11,4 @@ planned_for text e = planned_by text editions e.sheet (replicate (length e.repor
 
 -- success, with the report's length and exactly the report's bytes
 unfoldable pub expected : Example → Planned
-expected e = record { outcome = Report (length e.report); buffer = e.report }
+expected e = record { outcome = Ok (length e.report); buffer = e.report }

@@ -6,7 +6,6 @@ ghost use Rattle.std.specs.Prelude.{◌+◌, ◌≤◌, length};
 ghost use Rattle.model.specs.Limits.{BYTES};
 
 use model::{BYTES, SITES};
-use orders::Outcome;
 use std::io::{Read, Write};
 use std::process::ExitCode;
 
@@ -60,17 +59,14 @@ fn run<R: Read, W: Write, E: Write>(input: &mut R, out: &mut W, err: &mut E) -> 
     }
     let n = given.count;
     let sheet = &text[..n];
+    let network = match sheet::read(sheet) {
+        Ok(network) => network,
+        Err(refusal) => return text_refusals::refuse(out, err, refusal.number, refusal.line),
+    };
     let mut list = [0usize; SITES];
-    let outcome = orders::order(sheet, &mut list);
-    match outcome {
-        Outcome::Taken { count } => {
-            let reading = sheet::read(sheet);
-            let network = reading.network;
-            let start = network.start;
-            let end = network.end;
-            write_sites(out, err, sheet, &start, &end, &list, count)
-        }
-        Outcome::Refused { number, line } => text_refusals::refuse(out, err, number, line),
+    match orders::order(sheet, &mut list) {
+        Ok(count) => write_sites(out, err, sheet, &network.start, &network.end, &list, count),
+        Err(refusal) => text_refusals::refuse(out, err, refusal.number, refusal.line),
     }
 }
 

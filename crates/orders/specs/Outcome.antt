@@ -1,24 +1,18 @@
 -- The outcome of the order of work, for every sheet and every lent list: number, line, count, and the list after.
 -- Document 02, Card 3.
-use Rattle.std.specs.Prelude.{cond, List, ◌++◌, ℕ, leb, length, drop}
+use Rattle.std.specs.Prelude.{cond, List, ◌++◌, ℕ, leb, length, drop, Ok}
 use Rattle.model.specs.Trimming.{elimination}
+use Rattle.model.specs.Refusals.{refused_as}
 use Rattle.model.specs.declared.Edition.{Edition}
 use Rattle.sheet.specs.Sheet.{Read, refused, accepted, read_sheet}
-use Rattle.orders.specs.declared.Outcome.{Outcome}
-use Rattle.orders.specs.declared.Outcome.TheVariants.{Taken, Refused}
+use Rattle.planner.specs.Outcome.{length_of}
+-- the outcome, as that of planning, and its number and line
+pub use Rattle.planner.specs.Outcome.{Outcome}
+pub use Rattle.model.specs.Refusals.{number, line_of}
 
--- document 02's number, line and count for each outcome: success is number 0, line 0 and the count of sites
-abbrev pub number : Outcome → ℕ
-number (Taken n) = 0
-number (Refused k l) = k
-
-abbrev pub line_of : Outcome → ℕ
-line_of (Taken n) = 0
-line_of (Refused k l) = l
-
+-- the count of sites taken
 abbrev pub count_of : Outcome → ℕ
-count_of (Taken n) = n
-count_of (Refused k l) = 0
+count_of = length_of
 
 -- the outcome, and the lent list after
 pub record Ordered : Type 0 where
@@ -29,12 +23,12 @@ pub record Ordered : Type 0 where
 unfoldable pub store : List ℕ → List ℕ → Ordered
 store order l =
     cond (leb (length order) (length l))
-    (record { outcome = Taken (length order); list = order ++ drop (length order) l })
-    (record { outcome = Refused 9 0; list = l })
+    (record { outcome = Ok (length order); list = order ++ drop (length order) l })
+    (record { outcome = refused_as 9 0; list = l })
 
 -- the order of work over a sheet that is read
 unfoldable pub order_read : List ℕ → Read → Ordered
-order_read l (refused n k) = record { outcome = Refused n k; list = l }
+order_read l (refused n k) = record { outcome = refused_as n k; list = l }
 order_read l (accepted net) = store (elimination net.links (length net.names)) l
 
 -- the order of work over the sheet s, into the lent list l

@@ -6,6 +6,7 @@ use Rattle.std.proofs.Math.Decide.{dec_le}
 use borrow.Author.Tests.{le-leb, lt-leb}
 use Rattle.model.specs.Trimming.{elimination}
 use Rattle.model.specs.Edition.{edition1, edition2, editions}
+use Rattle.model.specs.Refusals.{refused_as}
 use Rattle.model.specs.declared.Edition.{Edition}
 use Rattle.lists.specs.Sums.{cases, contradiction}
 use Rattle.theory_trees.specs.TreeTest.{length-elimination}
@@ -18,7 +19,6 @@ use Rattle.sheet.specs.Answers.{SheetNumber}
 use Rattle.sheet.proofs.Answers.{refusals_have_sheet_numbers}
 use Rattle.sheet.specs.SheetTheorem.{a_sheet_is_refused_for_its_cause}
 use Rattle.orders.specs.Outcome.{Ordered, number, line_of, count_of, store, order_read, order_of}
-use Rattle.orders.specs.declared.Outcome.TheVariants.{Refused}
 
 -- refused with number k and line l: the count is 0 and the list keeps its values
 pub record IsRefused (k l : ℕ) (list : List ℕ) (o : Ordered) : Type 0 where
@@ -80,10 +80,10 @@ module _ (s l : List ℕ) where
 
   module _ (headed : Headed edition2 s) where
     -- the new heading was refused with 2 at line 1, or with 1 where the sheet is longer than edition 1 allows, and the list kept its values
-    pub the_new_heading_was_told_as_2 : length s ≤ edition1.bytes → order_of editions_before s l ≡ record { outcome = Refused 2 1; list = l }
+    pub the_new_heading_was_told_as_2 : length s ≤ edition1.bytes → order_of editions_before s l ≡ record { outcome = refused_as 2 1; list = l }
     unfolding order_of order_read
     the_new_heading_was_told_as_2 few = rw (the_new_heading_was_refused_with_2 s headed few)
 
-    pub the_new_heading_was_told_as_1 : edition1.bytes < length s → order_of editions_before s l ≡ record { outcome = Refused 1 0; list = l }
+    pub the_new_heading_was_told_as_1 : edition1.bytes < length s → order_of editions_before s l ≡ record { outcome = refused_as 1 0; list = l }
     unfolding order_of order_read
     the_new_heading_was_told_as_1 long = rw (the_new_heading_was_refused_with_1 s headed long)

@@ -1,18 +1,16 @@
 -- The number that tells an exchange, taken apart, gives the outcome's sheet, number, line and counts, for every two sheets and lists.
-use Rattle.std.specs.Prelude.{◌≡◌, List, ℕ, ◌≤◌, length}
+use Rattle.std.specs.Prelude.{◌≡◌, List, ℕ, ◌≤◌, length, Ok, Err}
 use Rattle.std.proofs.Common.{ap, arith}
 use Rattle.model.specs.Limits.{BYTES, LINKS}
 use Rattle.model.specs.Edition.{editions}
 use Rattle.sheet.proofs.Answers.{refusals_have_sheet_numbers}
 use Rattle.sheet.proofs.Editions.{an_accepted_sheet_is_within_the_largest, a_line_at_fault_is_within_the_limit}
 use Rattle.sheet.specs.Sheet.{Network, accepted, read_sheet, edition_of}
-use Rattle.exchanges.specs.Outcome.{sheet_of, number, line_of, first_of, second_of, exchanged}
+use Rattle.exchanges.specs.Outcome.{Outcome, sheet_of, number, line_of, first_of, second_of, exchanged}
 use Rattle.exchanges.specs.Causes.{Cause, of_the_first, of_the_second, no_shared_link, first_list_too_short, second_list_too_short}
 use Rattle.exchanges.specs.SharedLaws.{a_size_for_each_link}
 use Rattle.exchanges.specs.Told.{ExchangeTold, for_its_cause, both-answered}
 use Rattle.exchanges.proofs.Told.{the_exchange_is_told_or_its_cause}
-use Rattle.exchanges.specs.declared.Outcome.{Outcome}
-use Rattle.exchanges.specs.declared.Outcome.TheVariants.{Answered, Refused}
 use Rattle.packing.specs.Packed.{packed_regions, unpacked_text, unpacked_number, unpacked_line, unpacked_length}
 use Rattle.packing.specs.Exchanged.{tells_refused, tells-answered, TellsExchange}
 
@@ -26,15 +24,15 @@ record Bounded (o : Outcome) : Type 0 where
 
 a_bounded_exchange_is_told : (o : Outcome) → Bounded o → TellsExchange (packed_regions o) o
 unfolding packed_regions unpacked_text unpacked_number unpacked_line unpacked_length
-a_bounded_exchange_is_told (Answered u v) b =
-    let few : u.count ≤ LINKS = b.first_small in
-    let few2 : v.count ≤ LINKS = b.second_small in
-    tells-answered {u = u} {v = v} (omega arith) (omega arith) (omega arith) (omega arith)
-a_bounded_exchange_is_told (Refused x k l) b =
-    let two : x ≤ 2 = b.sheet_small in
-    let few : k ≤ 19 = b.number_small in
-    let near : l ≤ BYTES = b.line_small in
-    tells_refused {x = x} {k = k} {l = l} (omega arith) (omega arith) (omega arith)
+a_bounded_exchange_is_told (Ok both) b =
+    let few : both.first.count ≤ LINKS = b.first_small in
+    let few2 : both.second.count ≤ LINKS = b.second_small in
+    tells-answered {both = both} (omega arith) (omega arith) (omega arith) (omega arith)
+a_bounded_exchange_is_told (Err r) b =
+    let two : r.text ≤ 2 = b.sheet_small in
+    let few : r.number ≤ 19 = b.number_small in
+    let near : r.line ≤ BYTES = b.line_small in
+    tells_refused {r = r} (omega arith) (omega arith) (omega arith)
 
 module _ (s t l m : List ℕ) where
   abbrev outcome : Outcome

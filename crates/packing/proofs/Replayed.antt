@@ -1,26 +1,24 @@
 -- The number that tells a replay, taken apart, gives the outcome's text, number, line and count, for every sheet, log and list.
-use Rattle.std.specs.Prelude.{List, ℕ, ◌≤◌}
+use Rattle.std.specs.Prelude.{List, ℕ, ◌≤◌, Ok, Err}
 use Rattle.std.proofs.Common.{arith}
 use Rattle.model.specs.Limits.{BYTES, LOGLINES}
 use Rattle.model.specs.Edition.{editions}
 use Rattle.sheet.proofs.Editions.{a_line_at_fault_is_within_the_limit}
-use Rattle.logs.specs.Outcome.{replayed}
+use Rattle.logs.specs.Outcome.{Outcome, replayed}
 use Rattle.logs.specs.Told.{ReplayTold, faulty_sheet, long-log, few_places, all-answered}
 use Rattle.logs.proofs.Told.{the_replay_is_told_or_its_cause}
-use Rattle.logs.specs.declared.Outcome.{Outcome}
-use Rattle.logs.specs.declared.Outcome.TheVariants.{Answered, Refused}
 use Rattle.packing.specs.Packed.{packed_replay, unpacked_text, unpacked_number, unpacked_line, unpacked_length}
 use Rattle.packing.specs.Replayed.{Bounded, TellsReplay}
 
 a_bounded_replay_is_told : (o : Outcome) → Bounded o → TellsReplay (packed_replay o) o
 unfolding packed_replay unpacked_text unpacked_number unpacked_line unpacked_length
-a_bounded_replay_is_told (Answered n) b =
+a_bounded_replay_is_told (Ok n) b =
     let small : n ≤ LOGLINES = b.count_small in
     record { told_text = omega arith; told-number = omega arith; told_line = omega arith; told-count = omega arith }
-a_bounded_replay_is_told (Refused t k l) b =
-    let two : t ≤ 2 = b.text_small in
-    let few : k ≤ 19 = b.number_small in
-    let near : l ≤ BYTES = b.line_small in
+a_bounded_replay_is_told (Err r) b =
+    let two : r.text ≤ 2 = b.text_small in
+    let few : r.number ≤ 19 = b.number_small in
+    let near : r.line ≤ BYTES = b.line_small in
     record { told_text = omega arith; told-number = omega arith; told_line = omega arith; told-count = omega arith }
 
 module _ (s log l : List ℕ) where

@@ -2,8 +2,7 @@
 -- Nothing is lost: a text is 1 or 2, numbers are at most 17, a line at fault is one of the sheet, and a log has at most LOGLINES lines.
 use Rattle.std.specs.Prelude.{◌≡◌, ℕ, ◌≤◌}
 use Rattle.model.specs.Limits.{BYTES, LOGLINES}
-use Rattle.logs.specs.Outcome.{text_of, number, line_of, count_of}
-use Rattle.logs.specs.declared.Outcome.{Outcome}
+use Rattle.logs.specs.Outcome.{Outcome, text_of, number, line_of, count_of}
 use Rattle.packing.specs.Packed.{unpacked_text, unpacked_number, unpacked_line, unpacked_length}
 
 -- how large the numbers of an outcome are

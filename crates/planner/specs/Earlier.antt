@@ -4,10 +4,11 @@
 -- went by the bytes of names, they are today's wherever no two names differ in case alone; by the site lines from before, with the letter `N`, wherever no
 -- line has the letter `T`; by the link lines from before, of four fields, wherever no link line has a reserve either; by edition 1 alone wherever line 1 is
 -- not the heading of edition 2. Since sheets are read so, and a report that is too long is told as 9.
-use Rattle.std.specs.Prelude.{Bool, List, ◌≡◌, ℕ, ◌≤◌, ◌<◌, leb, length}
+use Rattle.std.specs.Prelude.{Bool, List, ◌≡◌, ℕ, ◌≤◌, ◌<◌, leb, length, Ok, Err}
 use Rattle.std.proofs.Math.Bool.{true, false, cond}
 use Rattle.std.proofs.Math.Path.{refl, ap}
 use Rattle.model.specs.Edition.{edition1, edition2, editions}
+use Rattle.model.specs.Refusals.{refused_as}
 use Rattle.model.specs.declared.Edition.{Edition}
 use Rattle.model.specs.declared.Sizing.TheVariants.{Reserved}
 use Rattle.sheet.specs.Sheet.{Read, refused, accepted, read_sheet, lookup, edition_of}
@@ -21,9 +22,7 @@ use Rattle.sheet.specs.Editions.{Headed, editions_before}
 use Rattle.sheet.proofs.Editions.{other_sheets_are_read_as_before}
 use Rattle.sheet.proofs.Editions.{the_new_heading_was_refused_with_2, the_new_heading_was_refused_with_1}
 use Rattle.sheet.specs.Spelling.{SpeltAlike, a_sheet_spelt_alike_is_read_as_before}
-use Rattle.planner.specs.Outcome.{Planned, Reporter, deliver, plan_read, planned_by}
-use Rattle.planner.specs.declared.Outcome.{Outcome}
-use Rattle.planner.specs.declared.Outcome.TheVariants.{Report, Refused}
+use Rattle.planner.specs.Outcome.{Outcome, Planned, Reporter, deliver, plan_read, planned_by}
 
 -- planning by kinds of lines and a look-up of names: `plannedBy` is that by `kind` and `lookup`
 unfoldable pub planned_reading : Kinds → Lookup → Reporter → List Edition → List ℕ → List ℕ → Planned
@@ -31,8 +30,8 @@ planned_reading kinds find text known s b = plan_read text s b (read_as_by kinds
 
 -- the outcome before: 2 for 10, 11 and 12, at the same line; everything else stays, and so does the buffer
 abbrev pub outcome_before : Outcome → Outcome
-outcome_before (Report n) = Report n
-outcome_before (Refused k l) = Refused (number_before k) l
+outcome_before (Ok n) = Ok n
+outcome_before (Err r) = refused_as (number_before r.number) r.line
 
 abbrev pub planned_before : Planned → Planned
 planned_before p = record { outcome = outcome_before p.outcome; buffer = p.buffer }
@@ -62,7 +61,7 @@ module _ (text : Reporter) (known : List Edition) (s b : List ℕ) where
   a_sheet_without_bare_names_is_planned_as_before lettered = rw (a_sheet_without_bare_names_is_read_as_before (edition_of known s) s lettered)
 
   -- and so does every sheet that is not told as 17 now
-  pub a_sheet_not_told_as_17_is_planned_as_before : ((k : ℕ) → ¬ ((planned_by text known s b).outcome ≡ Refused 17 k))
+  pub a_sheet_not_told_as_17_is_planned_as_before : ((k : ℕ) → ¬ ((planned_by text known s b).outcome ≡ refused_as 17 k))
       → planned_reading kind_bare lookup text known s b ≡ planned_by text known s b
   unfolding planned_reading planned_by plan_read
   a_sheet_not_told_as_17_is_planned_as_before none =
@@ -101,10 +100,10 @@ module _ (text : Reporter) (s b : List ℕ) where
 
   module _ (headed : Headed edition2 s) where
     -- the new heading was refused with 2 at line 1, or with 1 where the sheet is longer than edition 1 allows, and the buffer stayed as it was
-    pub the_new_heading_was_told_as_2 : length s ≤ edition1.bytes → planned_by text editions_before s b ≡ record { outcome = Refused 2 1; buffer = b }
+    pub the_new_heading_was_told_as_2 : length s ≤ edition1.bytes → planned_by text editions_before s b ≡ record { outcome = refused_as 2 1; buffer = b }
     unfolding planned_by plan_read
     the_new_heading_was_told_as_2 few = rw (the_new_heading_was_refused_with_2 s headed few)
 
-    pub the_new_heading_was_told_as_1 : edition1.bytes < length s → planned_by text editions_before s b ≡ record { outcome = Refused 1 0; buffer = b }
+    pub the_new_heading_was_told_as_1 : edition1.bytes < length s → planned_by text editions_before s b ≡ record { outcome = refused_as 1 0; buffer = b }
     unfolding planned_by plan_read
     the_new_heading_was_told_as_1 long = rw (the_new_heading_was_refused_with_1 s headed long)

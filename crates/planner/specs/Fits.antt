@@ -1,16 +1,16 @@
 -- Whether a report fits into the buffer, and the outcome either way.
-use Rattle.std.specs.Prelude.{◌≡◌, refl, Bool, true, false, cond, List, ◌++◌, ℕ, ◌≤◌, ◌<◌, leb, length, drop}
+use Rattle.std.specs.Prelude.{◌≡◌, refl, Bool, true, false, cond, List, ◌++◌, ℕ, ◌≤◌, ◌<◌, leb, length, drop, Ok}
 use Rattle.std.proofs.Common.{ap, ◌∙◌, arith, zero-add, le-leb, leb-true, leb-false}
 use Rattle.std.proofs.lemmas.Bool.{lt-leb}
 use Rattle.std.proofs.lemmas.List.Edits.{sets-eq}
 use Rattle.model.specs.Limits.{REPORT}
 use Rattle.model.specs.Edition.{editions}
+use Rattle.model.specs.Refusals.{refused_as}
 use Rattle.model.specs.declared.Pairs.{Pairs}
 use Rattle.text_writers.specs.Wrote.{Wrote}
 use Rattle.report.specs.Report.{Plan, report_of}
 use Rattle.planner.specs.Outcome.{Reporter, deliver, plan_read, planned_by}
 use Rattle.planner.specs.Ready.{ReadyBy}
-use Rattle.planner.specs.declared.Outcome.TheVariants.{Report, Refused}
 use Rattle.lists.specs.Sums.{contradiction}
 
 -- whether the report of a plan goes into so many bytes: no report has more than REPORT
@@ -34,12 +34,12 @@ room_enough p room e l = by (leb REPORT room) refl e
     by false q r = leb-true _ _ r
 
 -- a report that is longer than the buffer
-pub too_long : (r b : List ℕ) → length b < length r → deliver r b ≡ record { outcome = Refused 9 0; buffer = b }
+pub too_long : (r b : List ℕ) → length b < length r → deliver r b ≡ record { outcome = refused_as 9 0; buffer = b }
 unfolding deliver
 too_long r b h = rw (lt-leb (length r) (length b) h)
 
 -- a report that is written into a buffer long enough
-pub long-enough : (r b after : List ℕ) (k : ℕ) → length r ≤ length b → Wrote b 0 r after k → deliver r b ≡ record { outcome = Report k; buffer = after }
+pub long-enough : (r b after : List ℕ) (k : ℕ) → length r ≤ length b → Wrote b 0 r after k → deliver r b ≡ record { outcome = Ok k; buffer = after }
 unfolding deliver
 long-enough r b after k h w =
     let e : k ≡ length r = omega (arith, w.next) in

@@ -1,25 +1,23 @@
 -- The outcome of planning, for either report, every sheet and every buffer: number, line, length, and the buffer after.
 -- Document 01, the table of causes and the lines below it; 02, Card 2 (a second report).
-use Rattle.std.specs.Prelude.{Bool, true, false, cond, List, ◌++◌, ℕ, leb, length, drop}
+use Rattle.std.specs.Prelude.{Bool, true, false, cond, List, ◌++◌, ℕ, leb, length, drop, Result, Ok, Err}
 use Rattle.std.proofs.lemmas.List.Edits.{sets}
+use Rattle.model.specs.Refusals.{refused_as}
 use Rattle.model.specs.declared.Edition.{Edition}
+use Rattle.model.specs.declared.Refusal.{Refusal}
 use Rattle.sheet.specs.Sheet.{Network, Read, refused, accepted, read_sheet}
 use Rattle.report.specs.Report.{report, whole_report, refusal_line}
-use Rattle.planner.specs.declared.Outcome.{Outcome}
-use Rattle.planner.specs.declared.Outcome.TheVariants.{Report, Refused}
+-- document 01's number and line for each outcome
+pub use Rattle.model.specs.Refusals.{number, line_of}
 
--- document 01's number, line and length for each outcome: success is number 0, line 0 and the report's length
-abbrev pub number : Outcome → ℕ
-number (Report n) = 0
-number (Refused k l) = k
+-- the outcome of planning: a report of so many bytes, or a refusal
+abbrev pub Outcome : Type 0
+Outcome = Result ℕ Refusal
 
-abbrev pub line_of : Outcome → ℕ
-line_of (Report n) = 0
-line_of (Refused k l) = l
-
+-- the length of the report; 0 of a refusal
 abbrev pub length_of : Outcome → ℕ
-length_of (Report n) = n
-length_of (Refused k l) = 0
+length_of (Ok n) = n
+length_of (Err r) = 0
 
 -- planning, with the buffer as it is before: the outcome and the buffer after
 pub record Planned : Type 0 where
@@ -30,8 +28,8 @@ pub record Planned : Type 0 where
 unfoldable pub deliver : List ℕ → List ℕ → Planned
 deliver r b =
     cond (leb (length r) (length b))
-    (record { outcome = Report (length r); buffer = r ++ drop (length r) b })
-    (record { outcome = Refused 9 0; buffer = b })
+    (record { outcome = Ok (length r); buffer = r ++ drop (length r) b })
+    (record { outcome = refused_as 9 0; buffer = b })
 
 -- what gives the text of a report, from a sheet and its network: `report` or `wholeReport`
 abbrev pub Reporter : Type 0
@@ -39,7 +37,7 @@ Reporter = List ℕ → Network → List ℕ
 
 -- a sheet that is read, planned
 unfoldable pub plan_read : Reporter → List ℕ → List ℕ → Read → Planned
-plan_read text s b (refused n k) = record { outcome = Refused n k; buffer = b }
+plan_read text s b (refused n k) = record { outcome = refused_as n k; buffer = b }
 plan_read text s b (accepted net) = deliver (text s net) b
 
 -- the outcome of planning the sheet s into the buffer b
@@ -67,8 +65,8 @@ pub record Answer : Type 0 where
 
 -- the report, or the line of the refusal
 unfoldable pub spelt : Outcome → List ℕ → Answer
-spelt (Report n) b = record { length = n; buffer = b }
-spelt (Refused k l) b = record { length = length (refusal_line k l); buffer = sets b 0 (refusal_line k l) }
+spelt (Ok n) b = record { length = n; buffer = b }
+spelt (Err r) b = record { length = length (refusal_line r.number r.line); buffer = sets b 0 (refusal_line r.number r.line) }
 
 -- the answer to the sheet s, in the buffer b
 unfoldable pub answered_by : Reporter → List Edition → List ℕ → List ℕ → Answer

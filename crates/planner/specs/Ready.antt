@@ -10,6 +10,8 @@ use Rattle.tree_links.specs.Chains.{Chained}
 use Rattle.sheet.specs.Sheet.{Network, ends_of, accepted, read_sheet}
 use Rattle.report.specs.Report.{Plan, report_of, report}
 use Rattle.report.specs.Shown.{CanWrite}
+use Rattle.report.specs.declared.Names.{Names}
+use Rattle.tree.specs.declared.accepted.AcceptedTree.{AcceptedTree}
 use Rattle.planner.specs.Outcome.{Reporter}
 use Rattle.planner.specs.Shows.{starts, stops}
 
@@ -23,6 +25,10 @@ pub record TakenApart (s starting stopping : List ℕ) (n : ℕ) (one two c : Li
   pub firsts : one ≡ map (λ l. l.0) net.links
   pub seconds : two ≡ map (λ l. l.1) net.links
   pub sizes : c ≡ net.capacities
+
+-- where the names stand and a tree are those of an accepted sheet
+abbrev pub Apart : Names → AcceptedTree → Type 0
+Apart names tree = (a : TakenApart names.sheet.now names.start.now names.end.now tree.sites tree.one.now tree.two.now tree.capacity.now) × (tree.marks.now ≡ a.net.marks)
 
 -- the elimination order of a tree of n sites
 abbrev pub Ordered : ℕ → List ℕ → List ℕ → List ℕ → Type 0

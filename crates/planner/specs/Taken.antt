@@ -1,24 +1,22 @@
 -- The network of an accepted sheet taken apart into lists: they have a place for each link, and are a tree within the limits.
-use Rattle.std.specs.Prelude.{◌≡◌, refl, List, [], ◌∷◌, map, ℕ, suc, ◌-◌, ◌≤◌, take, replicate}
+use Rattle.std.specs.Prelude.{◌≡◌, refl, List, [], ◌∷◌, map, ℕ, suc, ◌-◌, ◌≤◌, take, replicate, Ok, Err}
 use Rattle.std.proofs.Common.{sym, ap, ◌∙◌, arith, length-append, take_at}
 use Rattle.std.proofs.Math.ListN.{length}
 use Rattle.std.proofs.lemmas.List.{length-map, length-replicate}
 use Rattle.model.specs.Limits.{LINKS, SITES}
 use Rattle.model.specs.Edition.{editions, largest}
+use Rattle.model.specs.declared.Refusal.{Refusal}
 use Rattle.lists.specs.Numbers.{look}
 use Rattle.model.specs.Flows.{Links, ends}
 use Rattle.tree.specs.Offer.{links, offer}
 use Rattle.tree.specs.Accepted.{TreeWithin, MarkedTree, a_tree_within_the_limits_is_accepted}
-use Rattle.tree.specs.declared.Offer.TheVariants.{Accepted}
 use Rattle.sheet.proofs.Editions.{an_accepted_sheet_is_within_the_largest}
 use Rattle.sheet.specs.Sheet.{Network, ends_of, Read, refused, accepted, read_sheet}
 use Rattle.sheet.specs.Reading.{padded, lists, reading}
 use Rattle.sheet.specs.SheetTheorem.{IsNetwork}
-use Rattle.sheet.specs.declared.Answer.TheVariants as answered
 use Rattle.sheet.specs.declared.Lists.{Lists}
 use Rattle.planner.specs.Outcome.{Reporter, plan_read, planned_by}
 use Rattle.planner.specs.Ready.{TakenApart}
-use Rattle.planner.specs.declared.Outcome.TheVariants.{Refused}
 use Rattle.lists.specs.Sums.{contradiction}
 
 -- ---- lists with zeros behind them
@@ -40,23 +38,28 @@ pub record Listed (s : List ℕ) (network : Lists) : Type 0 where
   pub listed : network ≡ lists net
 
 -- an accepted sheet's lists
-pub accepted_is_listed : (s : List ℕ) → (reading (read_sheet editions s)).answer ≡ answered.Accepted → Listed s (reading (read_sheet editions s)).network
+pub accepted_is_listed : (s : List ℕ) (network : Lists) → Ok network ≡ reading (read_sheet editions s) → Listed s network
 unfolding reading
-accepted_is_listed s e = by (read_sheet editions s) refl e
+accepted_is_listed s network e = by (read_sheet editions s) refl e
   where
-    by : (r : Read) → read_sheet editions s ≡ r → (reading r).answer ≡ answered.Accepted → Listed s (reading r).network
+    by : (r : Read) → read_sheet editions s ≡ r → Ok network ≡ reading r → Listed s network
     by (refused n k) q e = contradiction cc
-    by (accepted net) q e = record { net = net; read = q; listed = refl }
+    by (accepted net) q e = record { net = net; read = q; listed = (cc) }
+
+-- what refuses a sheet is the refusal of reading it
+pub refused_is_read : (s : List ℕ) (f : Refusal) → Err f ≡ reading (read_sheet editions s) → read_sheet editions s ≡ refused f.number f.line
+unfolding reading
+refused_is_read s f e = by (read_sheet editions s) e
+  where
+    by : (r : Read) → Err f ≡ reading r → r ≡ refused f.number f.line
+    by (refused m l) e = let p : f ≡ record { number = m; line = l } = cc in rw p refl
+    by (accepted net) e = contradiction cc
 
 -- a refused sheet is refused with the same number and line, and the buffer stays
-pub refused_is_told : (text : Reporter) (s b : List ℕ) (n k : ℕ) → (reading (read_sheet editions s)).answer ≡ answered.Refused n k
-    → planned_by text editions s b ≡ record { outcome = Refused n k; buffer = b }
-unfolding reading planned_by plan_read
-refused_is_told text s b n k e = by (read_sheet editions s) e
-  where
-    by : (r : Read) → (reading r).answer ≡ answered.Refused n k → plan_read text s b r ≡ record { outcome = Refused n k; buffer = b }
-    by (refused m l) e = let p : m ≡ n = cc in let q : l ≡ k = cc in rw (p, q)
-    by (accepted net) e = contradiction cc
+pub refused_is_told : (text : Reporter) (s b : List ℕ) (f : Refusal) → Err f ≡ reading (read_sheet editions s)
+    → planned_by text editions s b ≡ record { outcome = Err f; buffer = b }
+unfolding planned_by plan_read
+refused_is_told text s b f e = rw (refused_is_read s f e) refl
 
 -- ---- taken apart
 
@@ -149,7 +152,7 @@ module _ {s starting stopping : List ℕ} {n : ℕ} {one two c : List ℕ} (a : 
   pub the_network_is_a_marked_tree : MarkedTree largest n one two a.net.marks c
   the_network_is_a_marked_tree = record { within = the_network_is_a_tree_within; marked = a.counted ∙ sym the_network_is_given.marks }
 
-  pub the_network_is_accepted : offer largest n one two a.net.marks c ≡ Accepted
+  pub the_network_is_accepted : offer largest n one two a.net.marks c ≡ Ok tt
   the_network_is_accepted = a_tree_within_the_limits_is_accepted largest n one two a.net.marks c the_network_is_a_marked_tree
 
   pub the_ends_are_the_networks : look (ends (links one two) n a.net.marks) ≡ look (ends_of a.net)

@@ -7,36 +7,27 @@ ghost use Rattle.std.specs.Prelude.{◌≡◌};
 ghost use Rattle.region.specs.NumberText.{within, written};
 
 use model::{BYTES, SITES, SIZE};
-use sides::{First, Outcome};
 use std::env::Env;
 use std::io::Write;
 use std::process::ExitCode;
 use std::rt::Files;
-use text_grammar::Size;
 
-// What the text of a number comes to: its value, or the number of a refusal.
-#[derive(Clone, Copy)]
-enum Number {
-    Told(u64),
-    Wrong(u64),
-}
-
-// What a well written number comes to.
-fn within(size: Size) -> Number
+// What a well written number comes to: its value, or the number of a refusal.
+fn within(size: Option<u64>) -> Result<u64, u64>
     ensures { result ≡ within size }
 {
     match size {
-        Size::Within(value) => Number::Told(value),
-        Size::Above => Number::Wrong(3),
+        Some(value) => Ok(value),
+        None => Err(3),
     }
 }
 
 // What the text of the neighbour's number comes to: 12 where it is badly written, then 3 where it is above the largest size.
-fn written(text: &[u8]) -> Number
+fn written(text: &[u8]) -> Result<u64, u64>
     ensures { result ≡ written text.now }
 {
     if !text_fields::is_number(text) {
-        return Number::Wrong(12);
+        return Err(12);
     }
     within(text_grammar::size_of(text, SIZE))
 }
@@ -71,19 +62,18 @@ fn answer<W: Write, E: Write>(
     number: u64,
 ) -> bool {
     let mut sizes = [0u64; SITES];
-    let outcome = sides::answer(sheet, name, name2, number, &mut sizes);
-    match outcome {
-        Outcome::Answered { count: _, sum } => write_answer(out, err, sum, sheet, &sizes),
-        Outcome::Refused { number, line } => {
-            if number == 18 {
+    match sides::answer(sheet, name, name2, number, &mut sizes) {
+        Ok(answer) => write_answer(out, err, answer.sum, sheet, &sizes),
+        Err(refusal) => {
+            if refusal.number == 18 {
                 return text_refusals::refuse_in_words(
                     out,
                     err,
-                    number,
+                    refusal.number,
                     b"the number is above the usable size of the shared link\n",
                 );
             }
-            text_refusals::refuse(out, err, number, line)
+            text_refusals::refuse(out, err, refusal.number, refusal.line)
         }
     }
 }
@@ -103,10 +93,9 @@ fn second_step<R: Env, W: Write, E: Write>(
         return false;
     }
     let n = input.count;
-    let number = written(&text[..n]);
-    match number {
-        Number::Told(value) => answer(out, err, sheet, name, name2, value),
-        Number::Wrong(refusal) => {
+    match written(&text[..n]) {
+        Ok(value) => answer(out, err, sheet, name, name2, value),
+        Err(refusal) => {
             if refusal == 3 {
                 return text_refusals::refuse_in_words(
                     out,
@@ -134,24 +123,23 @@ fn steps<R: Env, W: Write, E: Write>(
     name: &[u8],
     name2: &[u8],
 ) -> bool {
-    let shown = sides::first_size(sheet, name, name2);
-    match shown {
-        First::Shown { size } => {
+    match sides::first_size(sheet, name, name2) {
+        Ok(size) => {
             if text_streams::is_given(rt, 4) {
                 return second_step(rt, out, err, sheet, name, name2);
             }
             write_first(out, err, size)
         }
-        First::Refused { number, line } => {
-            if number == 18 {
+        Err(refusal) => {
+            if refusal.number == 18 {
                 return text_refusals::refuse_in_words(
                     out,
                     err,
-                    number,
+                    refusal.number,
                     b"no link joins the two names, or neither has a single link and no mark\n",
                 );
             }
-            text_refusals::refuse(out, err, number, line)
+            text_refusals::refuse(out, err, refusal.number, refusal.line)
         }
     }
 }

@@ -1,15 +1,12 @@
 -- The partner of a site: the site of the other sheet that has its name. Document 02, Card 10 (names in common), and Card 4 (names in either case).
-use Rattle.std.specs.Prelude.{List, ◌≡◌, ℕ, ◌-◌, ◌*◌}
+use Rattle.std.specs.Prelude.{Option, unwrap_or, List, ◌≡◌, ℕ, ◌-◌, ◌*◌}
 use Rattle.lists.specs.Numbers.{differ, look}
 use Rattle.model.specs.Flows.{Links, Site, one, two, at}
 use Rattle.sheet_names.specs.Names.{name_at, lookup}
-use Rattle.sheet_names.specs.declared.Found.{Found}
-use Rattle.sheet_names.specs.declared.Found.TheVariants.{At, Absent}
 
 -- the number of the site that a look-up found, 0 for none
-abbrev pub site_found : Found → ℕ
-site_found (At v) = v
-site_found Absent = 0
+abbrev pub site_found : Option ℕ → ℕ
+site_found found = unwrap_or found 0
 
 -- the site of the sheet t, by its names, that has the name of site x of the sheet s, in either case; 0 where there is none
 abbrev pub partner_in : List ℕ → List (ℕ × ℕ) → List ℕ → List (ℕ × ℕ) → ℕ → ℕ

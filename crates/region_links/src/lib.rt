@@ -9,20 +9,9 @@ ghost use Rattle.sheet_names.specs.Names.{ranges, Distinct};
 ghost use Rattle.theory_regions.specs.Sharing.{first_from};
 ghost use Rattle.tree.specs.Offer.{links};
 ghost use Rattle.tree_links.specs.Chains.{Placed};
-ghost use Rattle.region_links.specs.Partners.{site_found, partner_in, Holds, both_in, joining};
+ghost use Rattle.region_links.specs.Partners.{partner_in, Holds, both_in, joining};
 
 use model::{PLACES, SITES};
-use sheet_names::Found;
-
-// The number of the site that a look-up found, 0 for none.
-pub fn site_found(found: Found) -> usize
-    ensures { result ≡ site_found found }
-{
-    match found {
-        Found::At(site) => site,
-        Found::Absent => 0,
-    }
-}
 
 // The partner of each site of the first sheet at its place: the site of the second sheet that has its name, in either case; 0 where there is none.
 pub fn partners(
@@ -44,7 +33,7 @@ pub fn partners(
     for i in 0..n {
         let name = sheet_names::part(first, starts[i], stops[i]);
         let found = sheet_names::find(second, starts2, stops2, m, &table, name);
-        list[i + 1] = site_found(found);
+        list[i + 1] = found.unwrap_or(0);
     }
     list
 }

@@ -1,5 +1,5 @@
 -- Whether two regions share one link, decided test by test, as the code does; and what it looks up on the way.
-use Rattle.std.specs.Prelude.{Bool, true, false, ◌||◌, List, [], ◌≡◌, ◌≢◌, ℕ, suc, ◌*◌, ◌≤◌, ◌<◌, eqb, length}
+use Rattle.std.specs.Prelude.{None, Some, Bool, true, false, ◌||◌, List, ◌≡◌, ◌≢◌, ℕ, suc, ◌*◌, ◌≤◌, ◌<◌, eqb, length}
 use Rattle.std.proofs.Math.Path.{refl, sym, ap}
 use Rattle.std.proofs.Common.{◌∙◌, arith, eqb-true, ne_eqb}
 use Rattle.std.proofs.Math.Logic.{if_pos, if_neg}
@@ -20,7 +20,6 @@ use Rattle.tree.specs.Offer.{links}
 use Rattle.region_links.specs.Partners.{both_in, joining}
 use Rattle.region_sizes.specs.Offered.{region_by}
 use Rattle.region_sharing.specs.Shared.{shared_by}
-use Rattle.region_sharing.specs.declared.Shared.TheVariants.{Apart, Over}
 
 -- a site that is not lone decides for both
 pub not_lone_in_both : (a : Region) (y b : ℕ) → eqb (lone a y) 1 ≡ false → false ≡ eqb (lone a y * b) 1
@@ -95,7 +94,7 @@ module _ {n : ℕ} {one₁ two₁ marks₁ c₁ : List ℕ} {m : ℕ} {one₂ tw
 
   -- ---- test by test
 
-  pub not_two_names : sum n (λ i. differ (partner (suc i)) 0) ≢ 2 → Apart ≡ shared_by (sharing_of a b partner)
+  pub not_two_names : sum n (λ i. differ (partner (suc i)) 0) ≢ 2 → None ≡ shared_by (sharing_of a b partner)
   unfolding sharing_of commons
   not_two_names d = ap shared_by (sym (pick_other d _ _))
 
@@ -104,7 +103,7 @@ module _ {n : ℕ} {one₁ two₁ marks₁ c₁ : List ℕ} {m : ℕ} {one₂ tw
     unfolding sharing_of commons
     by_first = let e = first ∙ the_first_is_found in pick_same names _ _ ∙ ap (λ i. shared_at a b partner i (shared_second a b partner i)) (sym e)
 
-    pub no_first_link : length one₁ ≤ j → Apart ≡ shared_by (sharing_of a b partner)
+    pub no_first_link : length one₁ ≤ j → None ≡ shared_by (sharing_of a b partner)
     unfolding shared_at
     no_first_link h = ap shared_by (sym (by_first ∙ if_neg (dec_lt j (length (links one₁ two₁))) (λ l. omega (arith, all_first)) _ _))
 
@@ -113,7 +112,7 @@ module _ {n : ℕ} {one₁ two₁ marks₁ c₁ : List ℕ} {m : ℕ} {one₂ tw
       by-second : sharing_of a b partner ≡ shared_at a b partner j k
       by-second = by_first ∙ ap (shared_at a b partner j) (sym (second ∙ the_second_is_found j here))
 
-      pub no_second_link : length one₂ ≤ k → Apart ≡ shared_by (sharing_of a b partner)
+      pub no_second_link : length one₂ ≤ k → None ≡ shared_by (sharing_of a b partner)
       unfolding shared_at
       no_second_link h = ap shared_by (sym (
           by-second
@@ -122,7 +121,7 @@ module _ {n : ℕ} {one₁ two₁ marks₁ c₁ : List ℕ} {m : ℕ} {one₂ tw
           ))
 
       module _ (there : k < length one₂) where
-        pub other-size : look c₁ j ≢ look c₂ k → Apart ≡ shared_by (sharing_of a b partner)
+        pub other-size : look c₁ j ≢ look c₂ k → None ≡ shared_by (sharing_of a b partner)
         unfolding shared_at
         other-size d = ap shared_by (sym (
             by-second
@@ -154,15 +153,15 @@ module _ {n : ℕ} {one₁ two₁ marks₁ c₁ : List ℕ} {m : ℕ} {one₂ tw
 
           -- the same as the code tests it: whether y may be far from the first region and x, the other site, from the second
           abbrev far : ℕ → ℕ → Bool
-          far x y = eqb (lone (region_by n one₁ two₁ marks₁ []) y * lone (region_by m one₂ two₂ marks₂ []) (partner x)) 1
+          far x y = eqb (lone (region_by n one₁ two₁ marks₁ c₁) y * lone (region_by m one₂ two₂ marks₂ c₂) (partner x)) 1
 
-          pub with_far_sites : (far x y || far y x) ≡ true → Over j k ≡ shared_by (sharing_of a b partner)
+          pub with_far_sites : (far x y || far y x) ≡ true → Some (record { first = j; second = k }) ≡ shared_by (sharing_of a b partner)
           unfolding may_be_far lone
           with_far_sites e = sym (ap shared_by by-sites ∙ same? (may_be_far a b partner x y) 1
               (λ h. ap shared_by (pick_same h _ _))
               (λ d. ap shared_by (pick_other d _ _ ∙ pick_same (eqb-true _ 1 (second-told _ _ (ne_eqb _ 1 d) ∙ e)) _ _)))
 
-          pub without-far-sites : (far x y || far y x) ≡ false → Apart ≡ shared_by (sharing_of a b partner)
+          pub without-far-sites : (far x y || far y x) ≡ false → None ≡ shared_by (sharing_of a b partner)
           unfolding may_be_far lone
           without-far-sites e =
               let none = none_told (far x y) (far y x) e in

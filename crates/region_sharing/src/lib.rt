@@ -2,116 +2,83 @@
 // planner's own crates call it.
 #![tactic(auto)]
 
-ghost use Rattle.std.specs.Prelude.{◌||◌, ◌≡◌, [], ℕ, ◌*◌, ◌≤◌, eqb};
+ghost use Rattle.std.specs.Prelude.{◌||◌, ◌≡◌, ℕ, ◌*◌, ◌≤◌, eqb};
 ghost use Rattle.lists.specs.Numbers.{look};
-ghost use Rattle.model.specs.Edition.{largest};
 ghost use Rattle.model.specs.Flows.{Site};
 ghost use Rattle.theory_regions.specs.Regions.{lone};
 ghost use Rattle.theory_regions.specs.Sharing.{sharing_of};
-ghost use Rattle.tree.specs.Accepted.{MarkedTree};
-ghost use Rattle.region_sizes.specs.Offered.{region_by, Sited};
+ghost use Rattle.region_sizes.specs.Offered.{region_of};
 ghost use Rattle.region_sharing.specs.Shared.{shared_by};
 
 use model::PLACES;
+use tree::AcceptedTree;
 
-// Whether two regions share one link: no, or its number in each.
-#[derive(Clone, Copy)]
-pub enum Shared {
-    Apart,
-    Over { first: usize, second: usize },
+// The link that two regions share: its number in each.
+#[derive(Clone, Copy, Debug, PartialEq, Eq)]
+pub struct Shared {
+    pub first: usize,
+    pub second: usize,
 }
 
-// Whether site y has a single link and no mark in the first region, and site z in the second.
-fn lone_in_both(
-    n: usize,
-    one: &[usize],
-    two: &[usize],
-    marks: &[u8],
-    y: usize,
-    n2: usize,
-    one2: &[usize],
-    two2: &[usize],
-    marks2: &[u8],
-    z: usize,
-) -> bool
-    requires { Sited n one.now two.now marks.now × Site n y × Sited n2 one2.now two2.now marks2.now × Site n2 z }
-    ensures { result ≡ eqb (lone (region_by n one.now two.now marks.now []) y
-        * lone (region_by n2 one2.now two2.now marks2.now []) z) 1 }
+// Whether site y has a single link and no mark in one region, and site z in another.
+fn lone_in_both(tree: AcceptedTree, y: usize, tree2: AcceptedTree, z: usize) -> bool
+    requires { Site tree.sites y × Site tree2.sites z }
+    ensures { result ≡ eqb (lone (region_of tree.entry) y * lone (region_of tree2.entry) z) 1 }
 {
-    if region_sizes::lone(n, one, two, marks, y) {
-        return region_sizes::lone(n2, one2, two2, marks2, z);
+    if region_sizes::lone(tree, y) {
+        return region_sizes::lone(tree2, z);
     }
     false
 }
 
 // Whether one of the sites x and y of a link may be far from the first region and the partner of the other from the second.
 fn far_sites(
-    n: usize,
-    one: &[usize],
-    two: &[usize],
-    marks: &[u8],
+    tree: AcceptedTree,
     x: usize,
     y: usize,
-    n2: usize,
-    one2: &[usize],
-    two2: &[usize],
-    marks2: &[u8],
+    tree2: AcceptedTree,
     x2: usize,
     y2: usize,
 ) -> bool
-    requires { Sited n one.now two.now marks.now × Site n x × Site n y
-        × Sited n2 one2.now two2.now marks2.now × Site n2 x2 × Site n2 y2 }
-    ensures { result ≡ (eqb (lone (region_by n one.now two.now marks.now []) y
-        * lone (region_by n2 one2.now two2.now marks2.now []) x2) 1
-        || eqb (lone (region_by n one.now two.now marks.now []) x
-        * lone (region_by n2 one2.now two2.now marks2.now []) y2) 1) }
+    requires { Site tree.sites x × Site tree.sites y × Site tree2.sites x2 × Site tree2.sites y2 }
+    ensures { result ≡ (eqb (lone (region_of tree.entry) y * lone (region_of tree2.entry) x2) 1
+        || eqb (lone (region_of tree.entry) x * lone (region_of tree2.entry) y2) 1) }
 {
-    if lone_in_both(n, one, two, marks, y, n2, one2, two2, marks2, x2) {
+    if lone_in_both(tree, y, tree2, x2) {
         return true;
     }
-    lone_in_both(n, one, two, marks, x, n2, one2, two2, marks2, y2)
+    lone_in_both(tree, x, tree2, y2)
 }
 
-// Whether two regions share one link, and which: two names in common, a link between them in both, of one size, and a far site each.
+// The link that two regions share, if they share one: two names in common, a link between them in both, of one size, and a far site each.
 pub fn sharing(
-    n: usize,
-    one: &[usize],
-    two: &[usize],
-    marks: &[u8],
-    capacity: &[u64],
-    n2: usize,
-    one2: &[usize],
-    two2: &[usize],
-    marks2: &[u8],
-    capacity2: &[u64],
+    tree: AcceptedTree,
+    tree2: AcceptedTree,
     partners: &[usize; PLACES],
-) -> Shared
-    requires { MarkedTree largest n one.now two.now marks.now capacity.now
-        × MarkedTree largest n2 one2.now two2.now marks2.now capacity2.now
-        × ((x : ℕ) → Site n x → look partners.now x ≤ n2) }
-    ensures { result ≡ shared_by (sharing_of (region_by n one.now two.now marks.now capacity.now)
-        (region_by n2 one2.now two2.now marks2.now capacity2.now) (look partners.now)) }
+) -> Option<Shared>
+    requires { (x : ℕ) → Site tree.sites x → look partners.now x ≤ tree2.sites }
+    ensures { result ≡ shared_by (sharing_of (region_of tree.entry) (region_of tree2.entry) (look partners.now)) }
 {
-    if region_links::commons(n, partners) != 2 {
-        return Shared::Apart;
+    if region_links::commons(tree.sites, partners) != 2 {
+        return None;
     }
-    let first = region_links::shared_first(one, two, partners);
-    if first >= one.len() {
-        return Shared::Apart;
+    let first = region_links::shared_first(tree.one, tree.two, partners);
+    if first >= tree.one.len() {
+        return None;
     }
-    let x = one[first];
-    let y = two[first];
+    let x = tree.one[first];
+    let y = tree.two[first];
     let x2 = partners[x];
     let y2 = partners[y];
-    let second = region_links::shared_second(one2, two2, x2, y2);
-    if second >= one2.len() {
-        return Shared::Apart;
+    let second = region_links::shared_second(tree2.one, tree2.two, x2, y2);
+    if second >= tree2.one.len() {
+        return None;
     }
-    if capacity[first] != capacity2[second] {
-        return Shared::Apart;
+    if tree.capacity[first] != tree2.capacity[second] {
+        return None;
     }
-    if far_sites(n, one, two, marks, x, y, n2, one2, two2, marks2, x2, y2) {
-        return Shared::Over { first, second };
+    if far_sites(tree, x, y, tree2, x2, y2) {
+        return Some(Shared { first, second });
     }
-    Shared::Apart
+    None
 }

@@ -1,5 +1,5 @@
 -- Laws of a region that is offered as lists: its sites with a single link and no mark, the sum over its own ends, and its trimmed sizes.
-use Rattle.std.specs.Prelude.{◌≡◌, refl, ◌≢◌, List, [], ◌++◌, eqb, take, set}
+use Rattle.std.specs.Prelude.{◌≡◌, refl, ◌≢◌, List, ◌++◌, eqb, take, set}
 use Rattle.std.proofs.Common.{sym, ◌∙◌, eq-eqb, ne_eqb, ext_get_or, get_or-take, length-take-le, take_at}
 use Rattle.std.proofs.Math.Path.{ap}
 use Prim.Native.Nat.{ℕ, suc, ◌+◌, ◌-◌, ◌*◌, ◌≤◌, ◌<◌, min}
@@ -27,12 +27,12 @@ use Rattle.region_sizes.specs.Offered.{region_by}
 mark-before : (marks : List ℕ) (v : ℕ) → 1 ≤ v → look marks (v - 1) ≡ mark marks v
 mark-before marks v h = let next : suc (v - 1) ≡ v = omega arith in ap (mark marks) next
 
-module _ (n : ℕ) (one two marks : List ℕ) (v : ℕ) where
-  pub a-marked-site-is-not-lone : 1 ≤ v → look marks (v - 1) ≡ 1 → lone (region_by n one two marks []) v ≢ 1
+module _ (n : ℕ) (one two marks c : List ℕ) (v : ℕ) where
+  pub a-marked-site-is-not-lone : 1 ≤ v → look marks (v - 1) ≡ 1 → lone (region_by n one two marks c) v ≢ 1
   unfolding lone
   a-marked-site-is-not-lone h e o = omega (arith, rw (differ_same (sym (mark-before marks v h) ∙ e)) at o)
 
-  pub a-leaf-without-a-mark-is-lone : 1 ≤ v → look marks (v - 1) ≢ 1 → leaf (links one two) v ≡ lone (region_by n one two marks []) v
+  pub a-leaf-without-a-mark-is-lone : 1 ≤ v → look marks (v - 1) ≢ 1 → leaf (links one two) v ≡ lone (region_by n one two marks c) v
   unfolding lone
   a-leaf-without-a-mark-is-lone h d = rw (differ-other {u = mark marks v} {v = 1} (λ e. d (mark-before marks v h ∙ e))) (omega arith)
 
@@ -57,12 +57,12 @@ a_leaf_is_counted one two v count all e =
         (λ e. eq-eqb k 1 e ∙ sym (eq-eqb (is k 1) 1 (is_same e)))
         (λ d. ne_eqb k 1 d ∙ sym (ne_eqb (is k 1) 1 (λ o. d (is_one o))))
 
-module _ (n : ℕ) (one two marks : List ℕ) (j : ℕ) (h : j < length one) (k : j < length two) where
-  pub the_second_is_far : lone (region_by n one two marks []) (look two j) ≡ 1 → look two j ≡ far_site (region_by n one two marks []) j
+module _ (n : ℕ) (one two marks c : List ℕ) (j : ℕ) (h : j < length one) (k : j < length two) where
+  pub the_second_is_far : lone (region_by n one two marks c) (look two j) ≡ 1 → look two j ≡ far_site (region_by n one two marks c) j
   unfolding far_site
   the_second_is_far e = rw (links-two one two j h k) (sym (pick_same e _ _))
 
-  pub the_first_is_far : lone (region_by n one two marks []) (look two j) ≢ 1 → look one j ≡ far_site (region_by n one two marks []) j
+  pub the_first_is_far : lone (region_by n one two marks c) (look two j) ≢ 1 → look one j ≡ far_site (region_by n one two marks c) j
   unfolding far_site
   the_first_is_far d = rw (links-two one two j h k, links-one one two j h k) (sym (pick_other d _ _))
 
@@ -173,7 +173,7 @@ module _ {n : ℕ} {one two marks c : List ℕ} (w : MarkedTree largest n one tw
 
   -- what is worked out by the terminals, the far site and the sizes with the lesser one among them is given
   pub what_is_given : (terminal : ℕ → ℕ) (far : ℕ) (list : List ℕ) → terminal ≡ look (ends (links one two) n marks)
-      → far ≡ far_site (region_by n one two marks []) j → list ≡ set c j lesser
+      → far ≡ far_site (region_by n one two marks c) j → list ≡ set c j lesser
       → (at_terminals (links one two) n (own terminal far) (look (balanced (links one two) n terminal list))
       ≡ (given (region_by n one two marks c) j other).sum)
       × (balanced (links one two) n terminal list ≡ (given (region_by n one two marks c) j other).sizes)

@@ -2,51 +2,21 @@
 // other region comes here but that number. Only the planner's own crates call it.
 #![tactic(auto)]
 
-ghost use Rattle.std.specs.Prelude.{◌≡◌, [], ◌++◌, ◌*◌, ◌≤◌, ◌<◌, min, eqb, length, take, drop, set};
+ghost use Rattle.std.specs.Prelude.{◌≡◌, ◌++◌, ◌*◌, ◌≤◌, ◌<◌, min, eqb, length, take, drop, set};
 ghost use Rattle.lists.specs.Numbers.{pick, is, look};
 ghost use Rattle.model.specs.Limits.{SITES};
-ghost use Rattle.model.specs.Edition.{largest};
 ghost use Rattle.model.specs.Flows.{Site, sum_at, leaf, at_terminals};
-ghost use Rattle.model.specs.Trimming.{elimination, balanced};
+ghost use Rattle.model.specs.Trimming.{balanced};
 ghost use Rattle.theory_regions.specs.Regions.{first_size, lone, far_site, own, given};
-ghost use Rattle.tree.specs.Accepted.{TreeWithin, MarkedTree};
 ghost use Rattle.tree.specs.Offer.{links};
-ghost use Rattle.tree_links.specs.Chains.{Placed, Chained, Limited};
-ghost use Rattle.region_sizes.specs.Offered.{region_by, Sited};
-ghost use Rattle.region_sizes.specs.Chart.{Charted};
+ghost use Rattle.model.specs.Edition.{largest};
+ghost use Rattle.tree.specs.Accepted.{TreeWithin};
+ghost use Rattle.tree_links.specs.Chains.{Placed, Limited};
+ghost use Rattle.region_sizes.specs.Offered.{region_of};
 
-use model::{CHAINS, PLACES, SITES};
-
-// What is made once of the tree of a region, for all that is worked out over it.
-#[derive(Clone, Copy)]
-pub struct Chart {
-    // the elimination order of its sites
-    pub order: [usize; SITES],
-    // 1 where a site is an end, 0 elsewhere
-    pub ends: [u8; PLACES],
-    // the last link at each site, and for each link those before it at its two sites
-    pub last: [usize; PLACES],
-    pub before: [usize; CHAINS],
-}
-
-// Charts the tree of a region.
-pub fn chart_of(n: usize, one: &[usize], two: &[usize], marks: &[u8], capacity: &[u64]) -> Chart
-    requires { MarkedTree largest n one.now two.now marks.now capacity.now }
-    ensures { Charted n one.now two.now marks.now result }
-{
-    let tree = tree::eliminate(n, one, two, marks, capacity);
-    let chains = tree_links::chain(one, two);
-    let order = tree.sites;
-    let last = chains.last;
-    let before = chains.before;
-    let ends = tree_links::ends(n, &last, &before, one, two, marks);
-    Chart {
-        order,
-        ends,
-        last,
-        before,
-    }
-}
+use model::SITES;
+use tree::AcceptedTree;
+use tree_links::Chart;
 
 // 1 if v is one of the two sites of a link, 0 if not.
 fn at(first: usize, second: usize, v: usize) -> usize
@@ -74,138 +44,81 @@ fn is_leaf(one: &[usize], two: &[usize], v: usize) -> bool
 }
 
 // Whether a site has a single link and no mark.
-pub fn lone(n: usize, one: &[usize], two: &[usize], marks: &[u8], v: usize) -> bool
-    requires { Sited n one.now two.now marks.now × Site n v }
-    ensures { result ≡ eqb (lone (region_by n one.now two.now marks.now []) v) 1 }
+pub fn lone(tree: AcceptedTree, v: usize) -> bool
+    requires { Site tree.sites v }
+    ensures { result ≡ eqb (lone (region_of tree.entry) v) 1 }
 {
-    if marks[v - 1] == 1 {
+    if tree.marks[v - 1] == 1 {
         return false;
     }
-    is_leaf(one, two, v)
+    is_leaf(tree.one, tree.two, v)
 }
 
 // The far site of a link: its second site where that has a single link and no mark, else its first.
-fn far_site(n: usize, one: &[usize], two: &[usize], marks: &[u8], link: usize) -> usize
-    requires { Sited n one.now two.now marks.now × (link < length one.now) }
-    ensures { result ≡ far_site (region_by n one.now two.now marks.now []) link }
+fn far_site(tree: AcceptedTree, link: usize) -> usize
+    requires { link < length tree.one.now }
+    ensures { result ≡ far_site (region_of tree.entry) link }
 {
-    let second = two[link];
-    if lone(n, one, two, marks, second) {
+    let second = tree.two[link];
+    if lone(tree, second) {
         return second;
     }
-    one[link]
+    tree.one[link]
 }
 
 // What site v counts in the sum of a region: the sizes of its links where it is an end other than the far site, else 0.
-fn own_at(
-    v: usize,
-    far: usize,
-    ends: &[u8; PLACES],
-    last: &[usize; PLACES],
-    before: &[usize; CHAINS],
-    one: &[usize],
-    two: &[usize],
-    sizes: &[u64],
-) -> u64
-    requires { (v ≤ SITES) × Chained one.now two.now last.now before.now × Limited one.now sizes.now }
-    ensures { result ≡ is (own (look ends.now) far v) 1 * sum_at (links one.now two.now) v (look sizes.now) }
+fn own_at(chart: &Chart, sizes: &[u64], far: usize, v: usize) -> u64
+    requires { (v ≤ SITES) × Limited chart.now.chains.tree.one.now sizes.now }
+    ensures { result ≡ is (own (look chart.now.ends) far v) 1
+        * sum_at (links chart.now.chains.tree.one.now chart.now.chains.tree.two.now) v (look sizes.now) }
 {
     if v == far {
         return 0;
     }
-    if ends[v] != 1 {
+    if chart.ends[v] != 1 {
         return 0;
     }
-    tree_links::sum_at(v, last, before, one, two, sizes)
+    chart.chains.sum_at(v, sizes)
 }
 
 // The sum of sizes over the links of a region's own ends, each end counting each of its links; the far site counts for the other region, and with 0 for it
 // no site is left out.
-fn own_sum(
-    n: usize,
-    far: usize,
-    ends: &[u8; PLACES],
-    last: &[usize; PLACES],
-    before: &[usize; CHAINS],
-    one: &[usize],
-    two: &[usize],
-    sizes: &[u64],
-) -> u64
-    requires { TreeWithin largest n one.now two.now sizes.now × Chained one.now two.now last.now before.now }
-    ensures { result ≡ at_terminals (links one.now two.now) n (own (look ends.now) far) (look sizes.now) }
+fn own_sum(chart: &Chart, sizes: &[u64], far: usize) -> u64
+    requires { TreeWithin largest chart.now.chains.tree.sites chart.now.chains.tree.one.now chart.now.chains.tree.two.now sizes.now }
+    ensures { result ≡ at_terminals (links chart.now.chains.tree.one.now chart.now.chains.tree.two.now) chart.now.chains.tree.sites
+        (own (look chart.now.ends) far) (look sizes.now) }
 {
     let mut total: u64 = 0;
-    for i in 0..n {
-        total += own_at(i + 1, far, ends, last, before, one, two, sizes);
+    for i in 0..chart.chains.tree.sites {
+        total += own_at(chart, sizes, far, i + 1);
     }
     total
 }
 
-// The trimmed sizes of a region at the front of a lent list with a place for each link, and their sum over the links of its ends other than the far site;
-// with 0 for that one, no site is left out.
-pub fn trim(
-    n: usize,
-    chart: Chart,
-    one: &[usize],
-    two: &[usize],
-    capacity: &[u64],
-    far: usize,
-    sizes: &mut [u64],
-) -> u64
-    requires { TreeWithin largest n one.now two.now capacity.now × (take n chart.order ≡ elimination (links one.now two.now) n)
-        × Chained one.now two.now chart.last chart.before × (length one.now ≤ length sizes.old) }
-    ensures told { result ≡ at_terminals (links one.now two.now) n (own (look chart.ends) far)
-        (look (balanced (links one.now two.now) n (look chart.ends) capacity.now)) }
-    ensures left { sizes.new ≡ balanced (links one.now two.now) n (look chart.ends) capacity.now
-        ++ drop (length one.now) sizes.old }
+// The trimmed sizes of a region for these capacities, at the front of a lent list with a place for each link, and their sum over the links of its ends other
+// than the far site; with 0 for that one, no site is left out.
+pub fn trim(chart: &Chart, capacity: &[u64], far: usize, sizes: &mut [u64]) -> u64
+    requires { TreeWithin largest chart.now.chains.tree.sites chart.now.chains.tree.one.now chart.now.chains.tree.two.now capacity.now
+        × (length chart.now.chains.tree.one.now ≤ length sizes.old) }
+    ensures told { result ≡ at_terminals (links chart.now.chains.tree.one.now chart.now.chains.tree.two.now) chart.now.chains.tree.sites
+        (own (look chart.now.ends) far)
+        (look (balanced (links chart.now.chains.tree.one.now chart.now.chains.tree.two.now) chart.now.chains.tree.sites
+        (look chart.now.ends) capacity.now)) }
+    ensures left { sizes.new ≡ balanced (links chart.now.chains.tree.one.now chart.now.chains.tree.two.now) chart.now.chains.tree.sites
+        (look chart.now.ends) capacity.now ++ drop (length chart.now.chains.tree.one.now) sizes.old }
 {
-    let m = one.len();
-    let order = chart.order;
-    let ends = chart.ends;
-    let last = chart.last;
-    let before = chart.before;
-    trimming_passes::balance(n, &order, &ends, &last, &before, one, two, capacity, sizes);
-    own_sum(n, far, &ends, &last, &before, one, two, &sizes[..m])
+    trimming_passes::balance(chart, capacity, sizes);
+    own_sum(chart, &sizes[..chart.chains.tree.one.len()], far)
 }
 
-// The first trimmed size of a link, by the chart of its region.
-pub fn size_by(
-    n: usize,
-    chart: Chart,
-    one: &[usize],
-    two: &[usize],
-    capacity: &[u64],
-    link: usize,
-) -> u64
-    requires { TreeWithin largest n one.now two.now capacity.now × (take n chart.order ≡ elimination (links one.now two.now) n)
-        × Chained one.now two.now chart.last chart.before × (link < length one.now) }
-    ensures { result ≡ look (balanced (links one.now two.now) n (look chart.ends) capacity.now) link }
+// The one number that a region shows, by its chart: its first trimmed size of the shared link.
+pub fn first_size(chart: &Chart, link: usize) -> u64
+    requires { link < length chart.now.chains.tree.one.now }
+    ensures { result ≡ first_size (region_of chart.now.chains.tree) link }
 {
-    let order = chart.order;
-    let ends = chart.ends;
-    let last = chart.last;
-    let before = chart.before;
     let mut list = [0u64; SITES];
-    trimming_passes::balance(
-        n, &order, &ends, &last, &before, one, two, capacity, &mut list,
-    );
+    trimming_passes::balance(chart, chart.chains.tree.capacity, &mut list);
     list[link]
-}
-
-// The one number that a region shows: its first trimmed size of the shared link.
-pub fn first_size(
-    n: usize,
-    one: &[usize],
-    two: &[usize],
-    marks: &[u8],
-    capacity: &[u64],
-    link: usize,
-) -> u64
-    requires { MarkedTree largest n one.now two.now marks.now capacity.now × (link < length one.now) }
-    ensures { result ≡ first_size (region_by n one.now two.now marks.now capacity.now) link }
-{
-    let chart = chart_of(n, one, two, marks, capacity);
-    size_by(n, chart, one, two, capacity, link)
 }
 
 // Capacities with another size for one link, at the front of a list.
@@ -214,70 +127,34 @@ fn resized(capacity: &[u64], link: usize, size: u64) -> [u64; SITES]
     ensures { take (length capacity.now) result ≡ set capacity.now link size }
 {
     let mut list = [0u64; SITES];
-    for j in 0..capacity.len() {
-        list[j] = capacity[j];
-    }
+    list[..capacity.len()].copy_from_slice(capacity);
     list[link] = size;
     list
 }
 
-// The lesser of two sizes.
-fn lesser(a: u64, b: u64) -> u64
-    ensures { result ≡ min a b }
-{
-    if a < b { a } else { b }
-}
-
 // What a region is given for the other's number, by its chart and the number that it shows itself: its trimmed sizes, at the front of a lent list with a
 // place for each link, and their sum over its own ends' links.
-pub fn give_by(
-    n: usize,
-    chart: Chart,
-    one: &[usize],
-    two: &[usize],
-    marks: &[u8],
-    capacity: &[u64],
-    link: usize,
-    shown: u64,
-    other: u64,
-    sizes: &mut [u64],
-) -> u64
-    requires { MarkedTree largest n one.now two.now marks.now capacity.now × Charted n one.now two.now marks.now chart
-        × (link < length one.now) × (shown ≡ first_size (region_by n one.now two.now marks.now capacity.now) link)
-        × (length one.now ≤ length sizes.old) }
-    ensures told { result ≡ (given (region_by n one.now two.now marks.now capacity.now) link other).sum }
-    ensures left { sizes.new
-        ≡ (given (region_by n one.now two.now marks.now capacity.now) link other).sizes
-        ++ drop (length one.now) sizes.old }
+pub fn give_by(chart: &Chart, link: usize, shown: u64, other: u64, sizes: &mut [u64]) -> u64
+    requires { (link < length chart.now.chains.tree.one.now) × (shown ≡ first_size (region_of chart.now.chains.tree) link)
+        × (length chart.now.chains.tree.one.now ≤ length sizes.old) }
+    ensures told { result ≡ (given (region_of chart.now.chains.tree) link other).sum }
+    ensures left { sizes.new ≡ (given (region_of chart.now.chains.tree) link other).sizes
+        ++ drop (length chart.now.chains.tree.one.now) sizes.old }
 {
-    let m = capacity.len();
-    let far = far_site(n, one, two, marks, link);
-    let list = resized(capacity, link, lesser(shown, other));
-    trim(n, chart, one, two, &list[..m], far, sizes)
+    let tree = chart.chains.tree;
+    let far = far_site(tree, link);
+    let list = resized(tree.capacity, link, shown.min(other));
+    trim(chart, &list[..tree.capacity.len()], far, sizes)
 }
 
 // What a region is given for the other's number: its trimmed sizes, at the front of a lent list with a place for each link, and their sum over its own
 // ends' links.
-pub fn give(
-    n: usize,
-    one: &[usize],
-    two: &[usize],
-    marks: &[u8],
-    capacity: &[u64],
-    link: usize,
-    other: u64,
-    sizes: &mut [u64],
-) -> u64
-    requires { MarkedTree largest n one.now two.now marks.now capacity.now × (link < length one.now)
-        × (length one.now ≤ length sizes.old) }
-    ensures told { result ≡ (given (region_by n one.now two.now marks.now capacity.now) link other).sum }
-    ensures left { sizes.new
-        ≡ (given (region_by n one.now two.now marks.now capacity.now) link other).sizes
-        ++ drop (length one.now) sizes.old }
+pub fn give(tree: AcceptedTree, link: usize, other: u64, sizes: &mut [u64]) -> u64
+    requires { (link < length tree.one.now) × (length tree.one.now ≤ length sizes.old) }
+    ensures told { result ≡ (given (region_of tree.entry) link other).sum }
+    ensures left { sizes.new ≡ (given (region_of tree.entry) link other).sizes ++ drop (length tree.entry.one.now) sizes.old }
 {
-    let chart = chart_of(n, one, two, marks, capacity);
-    let shown = size_by(n, chart, one, two, capacity, link);
-    give_by(
-        n, chart, one, two, marks, capacity, link, shown, other, sizes,
-    )
+    let chart = Chart::of(tree);
+    let shown = first_size(&chart, link);
+    give_by(&chart, link, shown, other, sizes)
 }

@@ -2,7 +2,6 @@
 // its trimmed size; or the line of the refusal. What a refusal means, and what could not be read or written, it says on standard error.
 #![tactic(auto)]
 
-use exchanges::Outcome;
 use model::{BYTES, SITES};
 use std::env::Env;
 use std::io::Write;
@@ -39,17 +38,14 @@ fn run<R: Env + Files, W: Write, E: Write>(rt: &R, out: &mut W, err: &mut E) -> 
     let n2 = input2.count;
     let mut sizes = [0u64; SITES];
     let mut sizes2 = [0u64; SITES];
-    let outcome = exchanges::exchange(&text[..n], &text2[..n2], &mut sizes, &mut sizes2);
-    match outcome {
-        Outcome::Answered { first, second } => {
-            write_region(out, err, 1, first.sum, &text[..n], &sizes)
-                && write_region(out, err, 2, second.sum, &text2[..n2], &sizes2)
+    match exchanges::exchange(&text[..n], &text2[..n2], &mut sizes, &mut sizes2) {
+        Ok(both) => {
+            write_region(out, err, 1, both.first.sum, &text[..n], &sizes)
+                && write_region(out, err, 2, both.second.sum, &text2[..n2], &sizes2)
         }
-        Outcome::Refused {
-            sheet,
-            number,
-            line,
-        } => text_refusals::refuse_sheets(out, err, sheet, number, line),
+        Err(refusal) => {
+            text_refusals::refuse_sheets(out, err, refusal.text, refusal.number, refusal.line)
+        }
     }
 }
 

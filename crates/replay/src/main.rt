@@ -2,9 +2,8 @@
 // the line of the refusal. What a refusal means, and what could not be read or written, it says on standard error.
 #![tactic(auto)]
 
-ghost use Rattle.std.specs.Prelude.{◌+◌, ◌≤◌, min, length, ◌≡◌};
+ghost use Rattle.std.specs.Prelude.{◌+◌, ◌≤◌, length};
 
-use logs::Outcome;
 use model::{BYTES, LOGBYTES, LOGLINES};
 use std::env::Env;
 use std::io::Write;
@@ -13,13 +12,6 @@ use std::rt::Files;
 
 // How many answers are written at a time.
 const SOME: usize = 2048;
-
-// The lesser of two numbers.
-fn lesser(a: usize, b: usize) -> usize
-    ensures { result ≡ min a b }
-{
-    if a < b { a } else { b }
-}
 
 // Writes the answers from one place to another, a line each, to standard output; whether all went.
 fn write_some<W: Write, E: Write>(
@@ -46,10 +38,11 @@ fn write_answers<W: Write, E: Write>(
     answers: &[u64],
     count: usize,
 ) -> bool {
-    let end = lesser(count, answers.len());
+    let end = count.min(answers.len());
     let mut from = 0;
+    // Stays: so many answers are written at a time, the last time fewer, so the place goes on by more than one.
     while from < end {
-        let to = lesser(end, from + SOME);
+        let to = end.min(from + SOME);
         if !write_some(out, err, answers, from, to) {
             return false;
         }
@@ -73,11 +66,10 @@ fn run<R: Env + Files, W: Write, E: Write>(rt: &R, out: &mut W, err: &mut E) -> 
     let n = first.count;
     let m = second.count;
     let mut answers = [0u64; LOGLINES];
-    let outcome = logs::replay(&sheet[..n], &log[..m], &mut answers);
-    match outcome {
-        Outcome::Answered { count } => write_answers(out, err, &answers, count),
-        Outcome::Refused { text, number, line } => {
-            text_refusals::refuse_text(out, err, text, number, line)
+    match logs::replay(&sheet[..n], &log[..m], &mut answers) {
+        Ok(count) => write_answers(out, err, &answers, count),
+        Err(refusal) => {
+            text_refusals::refuse_text(out, err, refusal.text, refusal.number, refusal.line)
         }
     }
 }

@@ -1,6 +1,6 @@
 -- Which reorderings of an accepted sheet are accepted again: those in which each link stands below its two sites. No cause of a refusal is left: a record
 -- keeps its form, sites and links are as many and as different as they were, and links that join no two joined sites in one order do so in no other.
-use Rattle.std.specs.Prelude.{true, List, [], ◌∷◌, ◌++◌, ◌⊎◌, ◌≢◌, ◌↔◌, ◌≡◌, refl, ℕ, ◌+◌, ◌-◌, ◌<◌, length, get_or, drop}
+use Rattle.std.specs.Prelude.{true, List, [], ◌∷◌, ◌++◌, ◌⊎◌, ◌≢◌, ◌↔◌, ◌≡◌, refl, ℕ, ◌+◌, ◌-◌, ◌<◌, length, get_or, drop, Ok, Err}
 use Rattle.std.proofs.Common.{true≢false, append_assoc, append-nil, inl, inr, sym, subst, ◌∙◌}
 use Rattle.std.proofs.Math.Path.{ap}
 use native.Mathlib.Omega.{arith}
@@ -158,9 +158,9 @@ module _ (ed : Edition) (network : ed.sizing ≡ Reserved) (s t : List ℕ) (net
         let fault = (faulty.a_line_is_a_fault_just_for_its_cause ed (line_at t at) n).1 f in
         elim formed [
           | inl is ↦
-              let no : line.Site _ _ _ ≡ line.Fault n = sym (a_site_by_its_form ed (line_at t at) is) ∙ fault in contradiction cc
+              let no : Ok (line.Site _ _ _) ≡ Err n = sym (a_site_by_its_form ed (line_at t at) is) ∙ fault in contradiction cc
           | inr is ↦
-              let no : line.Link _ _ _ _ _ ≡ line.Fault n = sym (a_link_by_its_form ed (line_at t at) is) ∙ fault in contradiction cc
+              let no : Ok (line.Link _ _ _ _ _) ≡ Err n = sym (a_link_by_its_form ed (line_at t at) is) ∙ fault in contradiction cc
         ]
 
     -- there is room for a site

@@ -1,12 +1,10 @@
 -- Two accepted sheets that hold the same records give one network, numbered in two ways: sites go by their names, and links by the names of their
 -- sites, since a tree has no two links between the same sites.
-use Rattle.std.specs.Prelude.{List, ◌≡◌, refl, ℕ, ◌-◌, ◌<◌}
+use Rattle.std.specs.Prelude.{Option, Some, None, List, ◌≡◌, refl, ℕ, ◌-◌, ◌<◌}
 use Rattle.std.proofs.Math.ListN.{length}
 use Rattle.lists.specs.Numbers.{look}
 use Rattle.model.specs.Flows.{Site}
 use Rattle.sheet_names.specs.Names.{Different, lookup}
-use Rattle.sheet_names.specs.declared.Found.{Found}
-use Rattle.sheet_names.specs.declared.Found.TheVariants.{At, Absent}
 use Rattle.sheet.specs.Sheet.{Network}
 use Rattle.sheet.specs.CauseLaws.{Finds, finds}
 use Rattle.sheet.specs.Causes.{Named}
@@ -27,9 +25,9 @@ pub found_by_name : (t : List ℕ) (other : Network) → Different t other.names
 unfolding site_named site_found
 found_by_name t other different f w h = by (lookup t other.names f) (finds t f other.names)
   where
-    by : (u : Found) → Finds t other.names f u → site_found u ≡ w
-    by (At v) k = one_site_of_a_name t other.names different f f v w k h refl
-    by Absent k = absurd (k w h)
+    by : (u : Option ℕ) → Finds t other.names f u → site_found u ≡ w
+    by (Some v) k = one_site_of_a_name t other.names different f f v w k h refl
+    by None k = absurd (k w h)
 
 -- site v of the sheet s goes to the site of its name on the sheet t
 abbrev pub site_to : List ℕ → Network → List ℕ → Network → ℕ → ℕ

@@ -1,6 +1,6 @@
 -- The link that two sites of a region may share: what is found joins them, and one of them may be far; and since two sites of a tree have at most one link
 -- between them, such a link is found.
-use Rattle.std.specs.Prelude.{List, [], ◌≢◌, ◌⊎◌, ◌≡◌, length}
+use Rattle.std.specs.Prelude.{List, ◌≢◌, ◌⊎◌, ◌≡◌, length}
 use Rattle.std.proofs.Math.Logic.{inl, inr}
 use Rattle.std.proofs.Common.{sym, ◌∙◌, arith}
 use Prim.Native.Nat.{ℕ, ◌*◌, ◌≤◌, ◌<◌, max}
@@ -82,10 +82,10 @@ module _ (a : Region) (x y : ℕ) where
       ]
 
 -- ---- by lists, as the code tests it
-module _ {n : ℕ} {one two marks : List ℕ} (w : Sited n one two marks) (x y j : ℕ)
+module _ {n : ℕ} {one two marks : List ℕ} (w : Sited n one two marks) (c : List ℕ) (x y j : ℕ)
     (e : j ≡ first_from (joining (links one two) x y) 0 (length one)) where
   abbrev region : Region
-  region = region_by n one two marks []
+  region = region_by n one two marks c
 
   first-between : j ≡ first_between region x y
   first-between = rw (all w x y j e) e
@@ -99,6 +99,7 @@ module _ {n : ℕ} {one two marks : List ℕ} (w : Sited n one two marks) (x y j
   pub none-is-far-is-told : lone region x ≢ 1 → lone region y ≢ 1 → length one ≡ link_of region x y
   none-is-far-is-told d f = sym (neither_is_far region x y d f ∙ all w x y j e)
 
-pub one-site-is-told : {n : ℕ} {one two marks : List ℕ} → Sited n one two marks → (x y : ℕ) → x ≡ y → length one ≡ link_of (region_by n one two marks []) x y
-one-site-is-told {n} {one} {two} {marks} w x y e =
-    sym (one_site_has_no_link (region_by n one two marks []) x y e ∙ length-links one two (sym w.placed.seconds))
+pub one-site-is-told : {n : ℕ} {one two marks : List ℕ} → Sited n one two marks → (c : List ℕ) (x y : ℕ) → x ≡ y
+    → length one ≡ link_of (region_by n one two marks c) x y
+one-site-is-told {n} {one} {two} {marks} w c x y e =
+    sym (one_site_has_no_link (region_by n one two marks c) x y e ∙ length-links one two (sym w.placed.seconds))

@@ -1,6 +1,6 @@
 -- The link that two sites of a region may share: what is found joins them, and one of them may be far; and since two sites of a tree have at most one link
 -- between them, such a link is found.
-use Rattle.std.specs.Prelude.{List, [], ◌≡◌, length}
+use Rattle.std.specs.Prelude.{List, ◌≡◌, length}
 use Rattle.std.proofs.Math.Logic.{inl, inr}
 use Rattle.std.proofs.Common.{sym, arith}
 use Prim.Native.Nat.{ℕ, ◌<◌}

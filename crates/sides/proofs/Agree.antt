@@ -15,11 +15,10 @@ use Rattle.exchanges.specs.SharedLaws.{the_network_is_named, a_pair_is_neighbour
 use Rattle.exchanges.specs.Outcome.{first_of, second_of, exchanged}
 use Rattle.exchanges.specs.Told.{Room}
 use Rattle.exchanges.proofs.Told.{both_are_answered}
-use Rattle.sides.specs.Outcome.{first_shown, delivered, answered}
+use Rattle.sides.specs.Outcome.{shown_as, first_shown, delivered, answered}
 use Rattle.sides.specs.Causes.{NamesOf, AcceptedSide}
 use Rattle.sides.specs.SideLaws.{its_first_size_is_shown}
 use Rattle.sides.proofs.SideLaws.{its_answer_is_delivered}
-use Rattle.sides.specs.declared.First.TheVariants.{Shown}
 use Rattle.sides.specs.Agree.{as_side}
 
 -- an accepted pair is one with its sheets exchanged
@@ -66,7 +65,7 @@ module _ {known : List Edition} {s : List ℕ} {net : Network} {t : List ℕ} {o
   }
 
   -- the first step shows its first trimmed size of the shared link
-  pub the_first_size_of_the_shared_link_is_shown : first_shown known s name name' ≡ Shown (shown net p.shared)
+  pub the_first_size_of_the_shared_link_is_shown : first_shown known s name name' ≡ shown_as (shown net p.shared)
   the_first_size_of_the_shared_link_is_shown = its_first_size_is_shown a_pair_has_a_side
 
   -- the neighbour's number does not pass the link's usable size, which is the same in both
@@ -89,12 +88,12 @@ module _ {known : List Edition} {s : List ℕ} {net : Network} {t : List ℕ} {o
   -- of the first owner: what is answered for the number that the second shows is what the exchange tells and leaves for region 1; and so of the second
   pub two_owners_have_what_the_exchange_has : (one one' two two' : List ℕ) → NamesOf s net one one' p.near p.far
       → NamesOf t other two two' q.near q.far → (l m : List ℕ) → Room net other l m
-      → (a b : ℕ) → first_shown known s one one' ≡ Shown a → first_shown known t two two' ≡ Shown b
+      → (a b : ℕ) → first_shown known s one one' ≡ shown_as a → first_shown known t two two' ≡ shown_as b
       → let o = exchanged known s t l m in
       (answered known s one one' b l ≡ as_side (first_of o.outcome) o.first) × (answered known t two two' a m ≡ as_side (second_of o.outcome) o.second)
   two_owners_have_what_the_exchange_has one one' two two' N N' l m r a b e f =
-      let shows : Shown (shown net p.shared) ≡ Shown a = sym (the_first_size_of_the_shared_link_is_shown X one one' N) ∙ e in
-      let shows' : Shown (shown other q.shared) ≡ Shown b = sym (the_first_size_of_the_shared_link_is_shown (turned X) two two' N') ∙ f in
+      let shows : shown_as (shown net p.shared) ≡ shown_as a = sym (the_first_size_of_the_shared_link_is_shown X one one' N) ∙ e in
+      let shows' : shown_as (shown other q.shared) ≡ shown_as b = sym (the_first_size_of_the_shared_link_is_shown (turned X) two two' N') ∙ f in
       let is-a : shown net p.shared ≡ a = cc in
       let is_b : shown other q.shared ≡ b = cc in
       rw (both_are_answered known s t l m X r, ← is-a, ← is_b) (

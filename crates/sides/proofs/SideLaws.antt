@@ -4,6 +4,7 @@ use Rattle.std.specs.Prelude.{List, ◌≡◌, ℕ, ◌≤◌, ◌<◌, length}
 use Rattle.std.proofs.Math.Path.{refl}
 use borrow.Author.Tests.{le-leb, lt-leb, lt-ltb, le-ltb}
 use Rattle.lists.specs.Numbers.{look}
+use Rattle.model.specs.Refusals.{refused_as}
 use Rattle.model.specs.declared.Edition.{Edition}
 use Rattle.sheet.specs.Sheet.{Network, refused, accepted, read_sheet}
 use Rattle.theory_regions.specs.Regions.{given}
@@ -12,7 +13,6 @@ use Rattle.exchanges.specs.Shared.{region_of}
 use Rattle.exchanges.specs.SharedLaws.{the_network_is_named}
 use Rattle.sides.specs.Outcome.{show_over, show_read, first_shown, refusal, delivered, answer_over, answer_read, answered}
 use Rattle.sides.specs.Causes.{MayShare, AcceptedSide}
-use Rattle.sides.specs.declared.First.TheVariants as first
 use Rattle.sides.specs.SideLaws.{no_link_is_meant}
 use Rattle.sides.specs.SideLaws.{its_link}
 
@@ -36,7 +36,7 @@ module _ {known : List Edition} {s : List ℕ} {net : Network} {name name' : Lis
           rw (A.read, its_link A, lt-ltb _ _ A.share.link, le-leb _ _ h, le-leb _ _ long) refl
 
 module _ (known : List Edition) (s name name' : List ℕ) where
-  pub a_sheet_refused_shows_nothing : (k line : ℕ) → read_sheet known s ≡ refused k line → first_shown known s name name' ≡ first.Refused k line
+  pub a_sheet_refused_shows_nothing : (k line : ℕ) → read_sheet known s ≡ refused k line → first_shown known s name name' ≡ refused_as k line
   unfolding first_shown show_read
   a_sheet_refused_shows_nothing k line e = rw e refl
 
@@ -46,7 +46,7 @@ module _ (known : List Edition) (s name name' : List ℕ) where
   a_sheet_refused_is_given_nothing told l k line e = rw e refl
 
   module _ (net : Network) (e : read_sheet known s ≡ accepted net) (none : (p : Border) → ¬ (MayShare s net name name' p)) where
-    pub without-a-link-nothing-is-shown : first_shown known s name name' ≡ first.Refused 18 0
+    pub without-a-link-nothing-is-shown : first_shown known s name name' ≡ refused_as 18 0
     unfolding first_shown show_read show_over
     without-a-link-nothing-is-shown = rw (e, le-ltb _ _ (no_link_is_meant s net (the_network_is_named known s net e) name name' none)) refl
 

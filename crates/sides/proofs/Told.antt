@@ -5,6 +5,7 @@ use Rattle.std.proofs.Common.{inl, inr, sym, ap, ◌∙◌, arith}
 use Rattle.std.proofs.Math.Decide.{dec_le}
 use Rattle.lists.specs.Numbers.{look}
 use Rattle.lists.specs.Sums.{cases, contradiction}
+use Rattle.model.specs.Refusals.{refused_as}
 use Rattle.model.specs.declared.Edition.{Edition}
 use Rattle.sheet.specs.Sheet.{Network, Read, refused, accepted, read_sheet, edition_of}
 use Rattle.sheet.specs.Causes.{Refusal}
@@ -14,20 +15,17 @@ use Rattle.theory_regions.specs.Regions.{first_size, given}
 use Rattle.theory_regions.specs.JoinedTree.{Border}
 use Rattle.exchanges.specs.Shared.{region_of}
 use Rattle.exchanges.specs.SharedLaws.{the_network_is_named}
-use Rattle.sides.specs.Outcome.{first_number, first_line, first_shown, number, line_of, refusal, answered}
+use Rattle.sides.specs.Outcome.{First, shown_as, answered_as, first_shown, number, line_of, refusal, answered}
 use Rattle.sides.specs.Causes.{AcceptedSide, FirstCause, of_the_sheet, no_such_link, Cause, of_the_first_step, number_too_large, list_too_short}
 use Rattle.sides.specs.SideLaws.{meant?}
 use Rattle.sides.proofs.SideLaws.{a_sheet_refused_shows_nothing, a_sheet_refused_is_given_nothing}
 use Rattle.sides.specs.SideLaws.{its_first_size_is_shown, a_size_for_each_link}
 use Rattle.sides.proofs.SideLaws.{without-a-link-nothing-is-shown, without-a-link-nothing-is-given}
 use Rattle.sides.proofs.SideLaws.{a_larger_number_is_refused, a_shorter_list_is_refused, its_answer_is_delivered}
-use Rattle.sides.specs.declared.First.TheVariants.{Shown}
-use Rattle.sides.specs.declared.First.TheVariants as first
-use Rattle.sides.specs.declared.Outcome.TheVariants.{Answered, Refused}
 use Rattle.sides.specs.Told.{FirstTold, SideTold, for_its_cause, is-answered, nothing-shown, size-shown}
 
 module _ (known : List Edition) (s name name' : List ℕ) where
-  a_cause_shows_nothing : {k line : ℕ} → FirstCause known s name name' k line → first_shown known s name name' ≡ first.Refused k line
+  a_cause_shows_nothing : {k line : ℕ} → FirstCause known s name name' k line → first_shown known s name name' ≡ refused_as k line
   a_cause_shows_nothing (of_the_sheet {k} {line} c) =
       a_sheet_refused_shows_nothing known s name name' k line ((a_sheet_is_refused_for_its_cause (edition_of known s) s k line).1 c)
   a_cause_shows_nothing (no_such_link {net} e none) = without-a-link-nothing-is-shown known s name name' net e none
@@ -49,17 +47,17 @@ module _ (known : List Edition) (s name name' : List ℕ) where
       ]
 
   -- and it is refused for no other
-  pub a_first_step_is_refused_for_its_cause : (n at : ℕ) → (first_shown known s name name' ≡ first.Refused n at) ↔ FirstCause known s name name' n at
+  pub a_first_step_is_refused_for_its_cause : (n at : ℕ) → (first_shown known s name name' ≡ refused_as n at) ↔ FirstCause known s name name' n at
   a_first_step_is_refused_for_its_cause n at = (by the_first_size_is_told_or_its_cause, a_cause_shows_nothing)
     where
-      by : FirstTold known s name name' → first_shown known s name name' ≡ first.Refused n at → FirstCause known s name name' n at
+      by : FirstTold known s name name' → first_shown known s name name' ≡ refused_as n at → FirstCause known s name name' n at
       by (nothing-shown {k} {line} c h) e =
-          let same : first.Refused k line ≡ first.Refused n at = sym (a_cause_shows_nothing c) ∙ e in
-          let p : k ≡ n = ap first_number same in
-          let q : line ≡ at = ap first_line same in
+          let same : ◌≡◌ {A = First} (refused_as k line) (refused_as n at) = sym (a_cause_shows_nothing c) ∙ e in
+          let p : k ≡ n = ap (λ (o : First). number o) same in
+          let q : line ≡ at = ap (λ (o : First). line_of o) same in
           rw (p, q) at c
       by (size-shown {net} {p} A h) e =
-          let same : Shown (first_size (region_of net) p.shared) ≡ first.Refused n at = sym (its_first_size_is_shown A) ∙ e in contradiction cc
+          let same : shown_as (first_size (region_of net) p.shared) ≡ refused_as n at = sym (its_first_size_is_shown A) ∙ e in contradiction cc
 
 module _ (known : List Edition) (s name name' : List ℕ) (told : ℕ) (l : List ℕ) where
   a_cause_refuses : {k line : ℕ} → Cause known s name name' told l k line → answered known s name name' told l ≡ refusal k line l
@@ -112,7 +110,7 @@ module _ (known : List Edition) (s name name' : List ℕ) (told : ℕ) (l : List
           rw (p, q) at c
       by (is-answered {net} {p} A h long r) e =
           let u = given (region_of net) p.shared told in
-          let same : Answered (length u.sizes) u.sum ≡ Refused n at = ap (λ o. o.outcome) (sym (its_answer_is_delivered A told l h long) ∙ e) in
+          let same : answered_as (length u.sizes) u.sum ≡ refused_as n at = ap (λ o. o.outcome) (sym (its_answer_is_delivered A told l h long) ∙ e) in
           contradiction cc
 
   -- ---- which numbers

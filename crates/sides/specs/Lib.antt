@@ -3,5 +3,4 @@ pub mod Causes
 pub mod SideLaws
 pub mod Told
 pub mod Agree
-pub mod OverNetwork
 pub mod Small

@@ -19,11 +19,9 @@ use Rattle.theory_regions.proofs.FarSites.{lone_iff}
 use Rattle.theory_regions.proofs.Again.{trimmed_again_has_each_link}
 use Rattle.exchanges.specs.Shared.{region_of, site_name}
 use Rattle.exchanges.specs.SharedLaws.{the_network_is_named, a_look_up_finds_the_site_of_a_name}
-use Rattle.sides.specs.Outcome.{site_of, link_named, show_over, show_read, first_shown}
+use Rattle.sides.specs.Outcome.{site_of, link_named, shown_as, show_over, show_read, first_shown}
 use Rattle.sides.specs.Causes.{MayShare, AcceptedSide}
 use Rattle.side_links.proofs.LinkLaws.{a_link_that_is_found_joins_them, a_link_between_them_is_found}
-use Rattle.sides.specs.declared.First.TheVariants.{Shown}
-use Rattle.sides.specs.declared.First.TheVariants as first
 
 -- ---- names
 module _ (s : List ℕ) (net : Network) (own : Named (region_of net) (site_name s net)) where
@@ -100,7 +98,7 @@ module _ {known : List Edition} {s : List ℕ} {net : Network} {name name' : Lis
   a_side_is_bordered =
       record { tree = own_names.tree; sized = own_names.sized; here = A.share.link; between = A.share.joins; single = A.share.single }
 
-  pub its_first_size_is_shown : first_shown known s name name' ≡ Shown (first_size (region_of net) p.shared)
+  pub its_first_size_is_shown : first_shown known s name name' ≡ shown_as (first_size (region_of net) p.shared)
   unfolding first_shown show_read show_over
   its_first_size_is_shown = rw (A.read, its_link, lt-ltb _ _ A.share.link) refl
 

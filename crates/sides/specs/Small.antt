@@ -2,7 +2,7 @@
 -- which each link counts at most twice.
 use Rattle.std.specs.Prelude.{List, ℕ, ◌+◌, ◌*◌, ◌≤◌, ◌<◌, length}
 use Rattle.std.proofs.Common.{arith}
-use Rattle.lists.specs.Numbers.{is, sum, look}
+use Rattle.lists.specs.Numbers.{is, look}
 use Rattle.lists.specs.Sums.{same?, is_same, is-other, sum-le, sum-mul, sum_one}
 use Rattle.model.specs.Limits.{BYTES, LINKS, SIZE}
 use Rattle.model.specs.Edition.{editions}
@@ -15,16 +15,13 @@ use Rattle.theory_regions.specs.JoinedTree.{Border}
 use Rattle.theory_regions.specs.Again.{trimmed_is_greatest}
 use Rattle.theory_regions.proofs.Again.{no_size_is_passed}
 use Rattle.exchanges.specs.Shared.{region_of}
-use Rattle.sides.specs.Outcome.{first_number, first_line, size_of, number, line_of, count_of, sum_of}
+use Rattle.sides.specs.Outcome.{First, Outcome, size_of, number, line_of, count_of, sum_of}
 use Rattle.sides.specs.Causes.{AcceptedSide}
 use Rattle.sides.specs.SideLaws.{a_side_is_bordered}
-use Rattle.sides.specs.Told as told
-use Rattle.sides.specs.declared.First.{First}
-use Rattle.sides.specs.declared.Outcome.{Outcome}
 
 pub record FirstSmall (o : First) : Type 0 where
-  pub number_small : first_number o ≤ 19
-  pub line_small : first_line o ≤ BYTES
+  pub number_small : number o ≤ 19
+  pub line_small : line_of o ≤ BYTES
   pub size_small : size_of o ≤ SIZE
 
 pub record SideSmall (o : Outcome) : Type 0 where

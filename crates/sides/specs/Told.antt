@@ -7,23 +7,21 @@ use Rattle.sheet.specs.Sheet.{Network}
 use Rattle.theory_regions.specs.Regions.{Given, first_size, given}
 use Rattle.theory_regions.specs.JoinedTree.{Border}
 use Rattle.exchanges.specs.Shared.{region_of}
-use Rattle.sides.specs.Outcome.{first_number, first_line, size_of, first_shown, number, line_of, count_of, sum_of, Side, answered}
+use Rattle.sides.specs.Outcome.{First, size_of, first_shown, number, line_of, count_of, sum_of, Side, answered}
 use Rattle.sides.specs.Causes.{AcceptedSide, FirstCause, Cause}
-use Rattle.sides.specs.declared.First.{First}
-use Rattle.sides.specs.declared.First.TheVariants as first
 
 -- ---- the first step
 
 -- refused with a number and a line: no size is told
 pub record FirstRefused (k line : ℕ) (o : First) : Type 0 where
-  pub number-told : first_number o ≡ k
-  pub line-told : first_line o ≡ line
+  pub number-told : number o ≡ k
+  pub line-told : line_of o ≡ line
   pub size-told : size_of o ≡ 0
 
 -- a size is shown: number 0, line 0
 pub record SizeShown (size : ℕ) (o : First) : Type 0 where
-  pub number-told : first_number o ≡ 0
-  pub line-told : first_line o ≡ 0
+  pub number-told : number o ≡ 0
+  pub line-told : line_of o ≡ 0
   pub size-told : size_of o ≡ size
 
 -- what the first step comes to: refused for a cause, with its number and line; or the first trimmed size of the link that the names mean is shown

@@ -1,10 +1,11 @@
 -- The report of a range sheet keeps what Card 11 asks, for every sheet and every buffer. By monotonicity (theory_ranges), since the bytes read back say the
 -- trimmed sizes and the largest totals of the low and of the high sizes.
-use Rattle.std.specs.Prelude.{◌≡◌, refl, Bool, true, false, cond, List, ◌++◌, ℕ, leb, length, drop, take}
+use Rattle.std.specs.Prelude.{◌≡◌, refl, Bool, true, false, cond, List, ◌++◌, ℕ, leb, length, drop, take, Ok}
 use Rattle.std.proofs.Math.Path.{sym, ap}
 use Rattle.std.proofs.Common.{◌∙◌, take_at}
 use Rattle.lists.specs.Sums.{contradiction}
 use Rattle.model.specs.Edition.{ranges_low, ranges_high}
+use Rattle.model.specs.Refusals.{refused_as}
 use Rattle.theory_trees.proofs.Greatest.{balanced_has_each_link}
 use Rattle.theory_ranges.specs.Ranges.{no_plan_has_a_greater_total, every_choice_is_balanced_within, every_choice_has_its_total_within}
 use Rattle.theory_ranges.specs.Ranges.{the_low_ones_are_a_choice, the_high_ones_are_a_choice}
@@ -16,7 +17,6 @@ use Rattle.sheet.specs.SheetTheorem.{IsNetwork, an_accepted_sheet_is_a_tree}
 use Rattle.report.specs.Report.{report}
 use Rattle.report.specs.Span.{trimmed_sizes, largest_total, span_report}
 use Rattle.planner.specs.Outcome.{Planned, length_of, deliver}
-use Rattle.planner.specs.declared.Outcome.TheVariants.{Report, Refused}
 use Rattle.spans.proofs.Ready.{the_two_networks}
 use Rattle.spans.specs.Outcome.{network_of, span_read, spanned}
 use Rattle.demands.specs.Printed.{is_end, read_report, bytes_told}
@@ -91,23 +91,23 @@ module _ (s : List ℕ) (low high : Network) (read_low : read_as ranges_low s �
 -- ---- what is printed
 
 -- a report that is told is the report
-bytes-told : (r b : List ℕ) (n : ℕ) → (deliver r b).outcome ≡ Report n → bytes_told (deliver r b) ≡ r
+bytes-told : (r b : List ℕ) (n : ℕ) → (deliver r b).outcome ≡ Ok n → bytes_told (deliver r b) ≡ r
 unfolding deliver bytes_told
 bytes-told r b n e = by (leb (length r) (length b)) e
   where
-    by : (t : Bool) → let p = cond {A = Planned} t (record { outcome = Report (length r); buffer = r ++ drop (length r) b })
-        (record { outcome = Refused 9 0; buffer = b }) in
-        p.outcome ≡ Report n → take (length_of p.outcome) p.buffer ≡ r
+    by : (t : Bool) → let p = cond {A = Planned} t (record { outcome = Ok (length r); buffer = r ++ drop (length r) b })
+        (record { outcome = refused_as 9 0; buffer = b }) in
+        p.outcome ≡ Ok n → take (length_of p.outcome) p.buffer ≡ r
     by true q = take_at r (drop (length r) b) (length r) refl
     by false q = contradiction cc
 
 -- for every range sheet and every buffer: where a report is told, its bytes keep what is asked, in the sites and links of the sheet
-pub what_is_printed_is_what_is_asked : (s b : List ℕ) (n : ℕ) → (spanned s b).outcome ≡ Report n
+pub what_is_printed_is_what_is_asked : (s b : List ℕ) (n : ℕ) → (spanned s b).outcome ≡ Ok n
     → (net : Network) × (read_as ranges_low s ≡ accepted net) × SpanAsked s net (read_span s net (bytes_told (spanned s b)))
 unfolding spanned span_read network_of
 what_is_printed_is_what_is_asked s b n e = by (read_as ranges_low s) (read_as ranges_high s) refl refl (a_range_sheet_is_read_alike s) e
   where
-    by : (v w : Read) → read_as ranges_low s ≡ v → read_as ranges_high s ≡ w → ReadAlike v w → (span_read s b v w).outcome ≡ Report n
+    by : (v w : Read) → read_as ranges_low s ≡ v → read_as ranges_high s ≡ w → ReadAlike v w → (span_read s b v w).outcome ≡ Ok n
         → (net : Network) × (v ≡ accepted net) × SpanAsked s net (read_span s net (bytes_told (span_read s b v w)))
     by (refused k l) w p q h e = contradiction cc
     by (accepted low) (refused k l) p q h e = contradiction (let z = h.1 in cc)

@@ -1,6 +1,6 @@
 -- What is told of a range sheet: its own refusals, each number at a line just for its cause, whatever the buffer; and a report lies within the buffer.
 -- Document 02, Card 11; 01, the table of causes.
-use Rattle.std.specs.Prelude.{◌≡◌, refl, List, ◌↔◌, ◌≢◌, ℕ, ◌≤◌}
+use Rattle.std.specs.Prelude.{◌≡◌, refl, List, ◌↔◌, ◌≢◌, ℕ, ◌≤◌, Ok}
 use Rattle.std.proofs.Math.Logic.{inl, inr}
 use Rattle.std.proofs.Common.{arith}
 use Rattle.std.proofs.Math.ListN.{length}
@@ -16,16 +16,15 @@ use Rattle.report.specs.Span.{span_report}
 use Rattle.planner.specs.Answers.{delivered-within}
 use Rattle.planner.specs.Outcome.{number, line_of}
 use Rattle.planner.specs.Told.{zero_or_nine}
-use Rattle.planner.specs.declared.Outcome.TheVariants.{Report}
 use Rattle.spans.specs.Outcome.{network_of, span_read, spanned}
 
 module _ (s b : List ℕ) where
   -- a report's length is within the buffer after
-  pub a_span_is_within_the_buffer : (n : ℕ) → (spanned s b).outcome ≡ Report n → n ≤ length (spanned s b).buffer
+  pub a_span_is_within_the_buffer : (n : ℕ) → (spanned s b).outcome ≡ Ok n → n ≤ length (spanned s b).buffer
   unfolding spanned span_read
   a_span_is_within_the_buffer n e = by (read_as ranges_low s) e
     where
-      by : (r : Read) → (span_read s b r (read_as ranges_high s)).outcome ≡ Report n → n ≤ length (span_read s b r (read_as ranges_high s)).buffer
+      by : (r : Read) → (span_read s b r (read_as ranges_high s)).outcome ≡ Ok n → n ≤ length (span_read s b r (read_as ranges_high s)).buffer
       by (refused k l) q = contradiction cc
       by (accepted low) q = delivered-within (span_report s low (network_of (read_as ranges_high s))) b n q
 

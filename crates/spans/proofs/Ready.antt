@@ -1,6 +1,6 @@
 -- What stands ready on the way to the report of a range sheet: the networks of an accepted sheet with its low and with its high sizes, as lists and taken
 -- apart; what is worked out of them is the span, and can be written.
-use Rattle.std.specs.Prelude.{◌≡◌, true, List, map, ◌++◌, leb, take}
+use Rattle.std.specs.Prelude.{◌≡◌, true, List, map, ◌++◌, leb, take, ◌≢◌, Ok, Err}
 use Rattle.std.proofs.Math.Path.{refl, sym, ap}
 use Rattle.std.proofs.Common.{subst, ◌∙◌, le-leb}
 use Prim.Native.Nat.{ℕ, suc, ◌+◌, ◌*◌, ◌≤◌, ◌<◌}
@@ -13,22 +13,20 @@ use Rattle.model.specs.Flows.{one, two, ends, at_terminals}
 use Rattle.model.specs.Limits.{LINKS, REPORT, SITES, SIZE}
 use Rattle.model.specs.Trimming.{balanced}
 use Rattle.model.specs.declared.Edition.{Edition}
+use Rattle.model.specs.declared.Refusal.{Refusal}
 use Rattle.theory_trees.proofs.Greatest.{balanced_is_greatest, balanced_has_each_link}
 use Rattle.theory_ranges.specs.Ranges.{the_largest_total_is_the_sum_at_the_terminals}
 use Rattle.theory_regions.specs.Regions.{own}
 use Rattle.tree.specs.Accepted.{MarkedTree}
 use Rattle.tree.specs.Offer.{links}
 use Rattle.trimming.specs.Outcome.{capacities}
-use Rattle.region_sizes.specs.Chart.{Charted}
 use Rattle.region_sizes.specs.Laws.{the_front_is_trimmed, without-a-far-site}
-use Rattle.region_sizes.specs.declared.Chart.{Chart}
 use Rattle.text_fields.specs.FieldLaws.{name-length}
 use Rattle.sheet.specs.Ranges.{Ranged, ReadAlike}
 use Rattle.sheet.proofs.Ranges.{a_range_sheet_is_read_alike}
 use Rattle.sheet.specs.Reading.{lists, reading}
 use Rattle.sheet.specs.Sheet.{Network, ends_of, Read, refused, accepted, read_as}
 use Rattle.sheet.specs.SheetTheorem.{IsNetwork, an_accepted_sheet_is_a_tree}
-use Rattle.sheet.specs.declared.Answer.TheVariants as answered
 use Rattle.sheet.specs.declared.Lists.{Lists}
 use Rattle.report.specs.Length.{SmallSpan, a_small_span_has_a_small_report}
 use Rattle.report.specs.Span.{trimmed_sizes, largest_total, span_of, span_text, span_report}
@@ -39,9 +37,8 @@ use Rattle.planner.specs.Shows.{names}
 use Rattle.planner.specs.Small.{name-or-nothing, few_links, total-shown-within}
 use Rattle.planner.specs.Taken.{padded-length, padded-front, links-again}
 use Rattle.planner.specs.Works.{named_site}
-use Rattle.planner.specs.declared.Outcome.TheVariants.{Refused}
 use Rattle.spans.specs.Outcome.{network_of, span_read, spanned}
-use Rattle.spans.specs.Ready.{Apart, Listed, m, n, total_by}
+use Rattle.spans.specs.Ready.{Apart, Listed, m, n, sizes_of, total_by}
 
 -- an accepted range sheet is a tree within the limits of the largest edition
 pub within_the_largest : (ed : Edition) (s : List ℕ) (net : Network) → ed.sites ≤ SITES → ed.size ≤ SIZE → read_as ed s ≡ accepted net → IsNetwork largest s net
@@ -109,42 +106,57 @@ module _ {s : List ℕ} {low high : Lists} (r : Listed s low high) where
   })
 
 -- an accepted sheet's lists
-pub accepted_is_listed : (s : List ℕ) → (reading (read_as ranges_low s)).answer ≡ answered.Accepted
-    → Listed s (reading (read_as ranges_low s)).network (reading (read_as ranges_high s)).network
+pub accepted_is_listed : (s : List ℕ) (low : Lists) (sizes : List ℕ) → Ok low ≡ reading (read_as ranges_low s)
+    → Ok sizes ≡ sizes_of (reading (read_as ranges_high s)) → (high : Lists) × (sizes ≡ high.capacity) × Listed s low high
 unfolding reading
-accepted_is_listed s e = by (read_as ranges_low s) (read_as ranges_high s) refl refl (a_range_sheet_is_read_alike s) e
+accepted_is_listed s low sizes e f = by (read_as ranges_low s) (read_as ranges_high s) refl refl (a_range_sheet_is_read_alike s) e f
   where
-    by : (v w : Read) → read_as ranges_low s ≡ v → read_as ranges_high s ≡ w → ReadAlike v w → (reading v).answer ≡ answered.Accepted
-        → Listed s (reading v).network (reading w).network
-    by (refused n k) w p q h e = contradiction cc
-    by (accepted low) w p q h e =
-        rw h.1 (record { lower = low; upper = h.0; read_low = p; read_high = q ∙ h.1; ranged = h.2; low-listed = refl; high-listed = refl })
+    by : (v w : Read) → read_as ranges_low s ≡ v → read_as ranges_high s ≡ w → ReadAlike v w → Ok low ≡ reading v → Ok sizes ≡ sizes_of (reading w)
+        → (high : Lists) × (sizes ≡ high.capacity) × Listed s low high
+    by (refused n k) w p q h e f = contradiction cc
+    by (accepted lower) (refused n k) p q h e f = contradiction cc
+    by (accepted lower) (accepted upper) p q h e f =
+        let same : upper ≡ h.0 = (let z = h.1 in cc) in (
+          lists upper,
+          cc,
+          record { lower = lower; upper = upper; read_low = p; read_high = q; ranged = rw same h.2; low-listed = (cc); high-listed = refl },
+        )
 
 -- a refused sheet is refused with the same number and line, and the buffer stays
-pub refused_is_told : (s b : List ℕ) (n k : ℕ) → (reading (read_as ranges_low s)).answer ≡ answered.Refused n k
-    → spanned s b ≡ record { outcome = Refused n k; buffer = b }
+pub refused_is_told : (s b : List ℕ) (r : Refusal) → Err r ≡ reading (read_as ranges_low s) → spanned s b ≡ record { outcome = Err r; buffer = b }
 unfolding reading spanned span_read
-refused_is_told s b n k e = by (read_as ranges_low s) e
+refused_is_told s b r e = by (read_as ranges_low s) e
   where
-    by : (r : Read) → (reading r).answer ≡ answered.Refused n k → span_read s b r (read_as ranges_high s) ≡ record { outcome = Refused n k; buffer = b }
-    by (refused m l) e = let p : m ≡ n = cc in let q : l ≡ k = cc in rw (p, q)
+    by : (v : Read) → Err r ≡ reading v → span_read s b v (read_as ranges_high s) ≡ record { outcome = Err r; buffer = b }
+    by (refused m l) e = let p : r ≡ record { number = m; line = l } = cc in rw p refl
     by (accepted net) e = contradiction cc
 
-module _ {n : ℕ} {one two marks c : List ℕ} (w : MarkedTree largest n one two marks c) {chart : Chart} (charted : Charted n one two marks chart) where
-  -- by the chart of a tree its trimmed sizes stand at the front of a list
-  pub the_front_is_worked_out : (rest list : List ℕ) → list ≡ balanced (links one two) n (look chart.ends) c ++ rest
+-- where the low sizes are accepted, the high ones are not refused
+pub none_is_refused_for_its_high_sizes : (s : List ℕ) (low : Lists) (r : Refusal) → Ok low ≡ reading (read_as ranges_low s)
+    → Err r ≢ sizes_of (reading (read_as ranges_high s))
+unfolding reading
+none_is_refused_for_its_high_sizes s low r e f = by (read_as ranges_low s) (read_as ranges_high s) (a_range_sheet_is_read_alike s) e f
+  where
+    by : (v w : Read) → ReadAlike v w → Ok low ≡ reading v → Err r ≡ sizes_of (reading w) → ⊥
+    by (refused n k) w h e f = contradiction cc
+    by (accepted lower) w h e f = contradiction (let z = h.1 in cc)
+
+module _ {n : ℕ} {one two marks c : List ℕ} (w : MarkedTree largest n one two marks c) (list-of-ends : List ℕ)
+    (ended : look list-of-ends ≡ look (ends (links one two) n marks)) where
+  -- by the ends of a tree its trimmed sizes stand at the front of a list
+  pub the_front_is_worked_out : (rest list : List ℕ) → list ≡ balanced (links one two) n (look list-of-ends) c ++ rest
       → take (length one) list ≡ capacities n one two marks c
   unfolding capacities
   the_front_is_worked_out rest list e =
-      the_front_is_trimmed w.within (look chart.ends) rest list e ∙ ap (λ (t : ℕ → ℕ). balanced (links one two) n t c) charted.ended
+      the_front_is_trimmed w.within (look list-of-ends) rest list e ∙ ap (λ (t : ℕ → ℕ). balanced (links one two) n t c) ended
 
   -- and their sum over all ends is the largest total
-  pub the_sum_is_the_largest_total : at_terminals (links one two) n (own (look chart.ends) 0) (look (balanced (links one two) n (look chart.ends) c))
+  pub the_sum_is_the_largest_total : at_terminals (links one two) n (own (look list-of-ends) 0) (look (balanced (links one two) n (look list-of-ends) c))
       ≡ total_by n one two marks c
   unfolding total_by capacities
   the_sum_is_the_largest_total =
-      without-a-far-site (links one two) n (look chart.ends) (look (balanced (links one two) n (look chart.ends) c))
-      ∙ ap (λ (t : ℕ → ℕ). at_terminals (links one two) n t (look (balanced (links one two) n t c))) charted.ended
+      without-a-far-site (links one two) n (look list-of-ends) (look (balanced (links one two) n (look list-of-ends) c))
+      ∙ ap (λ (t : ℕ → ℕ). at_terminals (links one two) n t (look (balanced (links one two) n t c))) ended
       ∙ sym (the_largest_total_is_the_sum_at_the_terminals w.within.tree (look (ends (links one two) n marks)) c)
 
 -- the two networks of a range sheet have the same sites and links

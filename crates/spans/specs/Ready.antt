@@ -1,18 +1,18 @@
 -- What stands ready on the way to the report of a range sheet: the networks of an accepted sheet with its low and with its high sizes, as lists and taken
 -- apart; what is worked out of them is the span, and can be written.
-use Rattle.std.specs.Prelude.{◌≡◌, List, map}
+use Rattle.std.specs.Prelude.{◌≡◌, List, map, Result, Ok, Err}
 use Prim.Native.Nat.{ℕ}
 use Rattle.std.proofs.Math.ListN.{length}
 use Rattle.lists.specs.Numbers.{look}
 use Rattle.model.specs.Edition.{ranges_low, ranges_high}
 use Rattle.model.specs.Flows.{one, two, ends, total}
 use Rattle.model.specs.Parts.{pair_list_of_parts}
+use Rattle.model.specs.declared.Refusal.{Refusal}
 use Rattle.tree.specs.Offer.{links}
 use Rattle.trimming.specs.Outcome.{capacities}
 use Rattle.sheet.specs.Ranges.{Ranged}
 use Rattle.sheet.specs.Reading.{lists}
 use Rattle.sheet.specs.Sheet.{Network, accepted, read_as}
-use Rattle.sheet.specs.declared.Answer.TheVariants as answered
 use Rattle.sheet.specs.declared.Lists.{Lists}
 use Rattle.planner.specs.Shows.{starts, stops, names}
 
@@ -27,6 +27,11 @@ pub record Listed (s : List ℕ) (low high : Lists) : Type 0 where
   pub ranged : Ranged lower upper
   pub low-listed : low ≡ lists lower
   pub high-listed : high ≡ lists upper
+
+-- the capacities alone of the lists that are read
+abbrev pub sizes_of : Result Lists Refusal → Result (List ℕ) Refusal
+sizes_of (Ok network) = Ok network.capacity
+sizes_of (Err r) = Err r
 
 -- ---- taken apart
 

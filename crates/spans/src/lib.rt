@@ -9,42 +9,26 @@ ghost use Rattle.sheet.specs.Reading.{reading};
 ghost use Rattle.text_writers.specs.Wrote.{Room};
 ghost use Rattle.report.specs.Span.{span_text};
 ghost use Rattle.report.specs.SpanShown.{span_by, Ranges};
+ghost use Rattle.report.specs.Lent.{span_in, CanShowSpan};
 ghost use Rattle.planner.specs.Outcome.{deliver};
 ghost use Rattle.spans.specs.Outcome.{spanned};
-ghost use Rattle.spans.specs.Ready.{Apart};
+ghost use Rattle.spans.specs.Ready.{Apart, sizes_of};
 
-use model::{REPORT, SITES};
-use planner::Outcome;
-use sheet::Answer;
+use model::{REPORT, Refusal, SITES};
+use report::{Names, RangeLists, SpanLists};
+use tree::AcceptedTree;
+use tree_links::Chart;
 
 // Whether the report of lists goes into so many bytes. Its length is measured only where there are fewer than the longest report has.
-fn fits(
-    sheet: &[u8],
-    start: &[usize],
-    end: &[usize],
-    one: &[usize],
-    two: &[usize],
-    low: &[u64],
-    high: &[u64],
-    least: &[u64],
-    greatest: &[u64],
-    lower: u64,
-    upper: u64,
-    room: usize,
-) -> bool
-    requires { Ranges sheet.now start.now end.now one.now two.now low.now high.now least.now greatest.now
-        × Room 0 (span_text (span_by sheet.now start.now end.now one.now two.now low.now high.now least.now greatest.now lower upper)) }
-    ensures { result ≡ leb (length (span_text
-        (span_by sheet.now start.now end.now one.now two.now low.now high.now
-        least.now greatest.now lower upper))) room }
+fn fits(lists: SpanLists, room: usize) -> bool
+    requires { CanShowSpan lists }
+    ensures { result ≡ leb (length (span_text (span_in lists.entry))) room }
 {
     if REPORT <= room {
         return true;
     }
     let mut none = [0u8; 1];
-    let length = report::write_span(
-        sheet, start, end, one, two, low, high, least, greatest, lower, upper, &mut none,
-    );
+    let length = report::write_span(lists, &mut none);
     length <= room
 }
 
@@ -62,7 +46,7 @@ fn deliver(
     lower: u64,
     upper: u64,
     report: &mut [u8],
-) -> Outcome
+) -> Result<usize, Refusal>
     requires { Ranges sheet.now start.now end.now one.now two.now low.now high.now least.now greatest.now
         × Room 0 (span_text (span_by sheet.now start.now end.now one.now two.now low.now high.now least.now greatest.now lower upper)) }
     ensures told { result ≡ (deliver (span_text
@@ -72,16 +56,24 @@ fn deliver(
         (span_by sheet.now start.now end.now one.now two.now low.now high.now
         least.now greatest.now lower upper)) report.old).buffer }
 {
-    let room = report.len();
-    if fits(
-        sheet, start, end, one, two, low, high, least, greatest, lower, upper, room,
-    ) {
-        let length = report::write_span(
-            sheet, start, end, one, two, low, high, least, greatest, lower, upper, report,
-        );
-        return Outcome::Report { length };
+    let lists = SpanLists {
+        lower,
+        upper,
+        names: Names { sheet, start, end },
+        ranges: RangeLists {
+            one,
+            two,
+            low,
+            high,
+            least,
+            greatest,
+        },
+    };
+    if fits(lists, report.len()) {
+        let length = report::write_span(lists, report);
+        return Ok(length);
     }
-    Outcome::Refused { number: 9, line: 0 }
+    Err(Refusal { number: 9, line: 0 })
 }
 
 // The lists of an accepted range sheet: its tree is charted once, its low and its high sizes are trimmed, and their span is reported.
@@ -96,7 +88,7 @@ fn span_lists(
     low: &[u64],
     high: &[u64],
     report: &mut [u8],
-) -> Outcome
+) -> Result<usize, Refusal>
     requires { Apart sheet.now start.now end.now n one.now two.now marks.now low.now high.now }
     ensures told { result ≡ (spanned sheet.now report.old).outcome }
     ensures left { report.new ≡ (spanned sheet.now report.old).buffer }
@@ -104,9 +96,16 @@ fn span_lists(
     let m = one.len();
     let mut least = [0u64; SITES];
     let mut greatest = [0u64; SITES];
-    let chart = region_sizes::chart_of(n, one, two, marks, low);
-    let lower = region_sizes::trim(n, chart, one, two, low, 0, &mut least);
-    let upper = region_sizes::trim(n, chart, one, two, high, 0, &mut greatest);
+    let tree = AcceptedTree {
+        sites: n,
+        one,
+        two,
+        marks,
+        capacity: low,
+    };
+    let chart = Chart::of(tree);
+    let lower = region_sizes::trim(&chart, low, 0, &mut least);
+    let upper = region_sizes::trim(&chart, high, 0, &mut greatest);
     deliver(
         sheet,
         start,
@@ -136,7 +135,7 @@ fn span_parts<'a>(
     low: &'a [u64],
     high: &[u64],
     report: &mut [u8],
-) -> Outcome
+) -> Result<usize, Refusal>
     requires { Apart sheet.now start.now end.now n (take m one.now) (take m two.now) (take n mark.now) (take m low.now) (take m high.now)
         × (m ≤ length one.now) × (m ≤ length two.now) × (n ≤ length mark.now) × (m ≤ length low.now) × (m ≤ length high.now) }
     ensures told { result ≡ (spanned sheet.now report.old).outcome }
@@ -157,36 +156,35 @@ fn span_parts<'a>(
 }
 
 // The high sizes of a range sheet, in the order of its links.
-fn high_sizes(sheet: &[u8]) -> [u64; SITES]
-    ensures { result ≡ (reading (read_as ranges_high sheet.now)).network.capacity }
+fn high_sizes(sheet: &[u8]) -> Result<[u64; SITES], Refusal>
+    ensures { result ≡ sizes_of (reading (read_as ranges_high sheet.now)) }
 {
-    let reading = sheet::read_high(sheet);
-    let network = reading.network;
-    network.capacity
+    let network = sheet::read_high(sheet)?;
+    Ok(network.capacity)
 }
 
 // The span of a range sheet: writes the report headed `span` into the buffer and tells its length, or refuses the sheet and leaves the buffer as it was.
-pub fn span(sheet: &[u8], report: &mut [u8]) -> Outcome
+pub fn span(sheet: &[u8], report: &mut [u8]) -> Result<usize, Refusal>
     ensures told { result ≡ (spanned sheet.now report.old).outcome }
     ensures left { report.new ≡ (spanned sheet.now report.old).buffer }
 {
-    let reading = sheet::read_low(sheet);
-    let answer = reading.answer;
-    if let Answer::Refused { number, line } = answer {
-        return Outcome::Refused { number, line };
+    match &sheet::read_low(sheet) {
+        Ok(network) => {
+            let high = high_sizes(sheet)?;
+            span_parts(
+                sheet,
+                &network.start,
+                &network.end,
+                network.sites,
+                network.links,
+                &network.one,
+                &network.two,
+                &network.mark,
+                &network.capacity,
+                &high,
+                report,
+            )
+        }
+        Err(refusal) => Err(*refusal),
     }
-    let high = high_sizes(sheet);
-    span_parts(
-        sheet,
-        &reading.network.start,
-        &reading.network.end,
-        reading.network.sites,
-        reading.network.links,
-        &reading.network.one,
-        &reading.network.two,
-        &reading.network.mark,
-        &reading.network.capacity,
-        &high,
-        report,
-    )
 }

@@ -16,7 +16,7 @@ ghost use Rattle.report_words.specs.Words.{words};
 ghost use Rattle.report_words.specs.TwoTexts.{words_of};
 ghost use Rattle.report_words.specs.TwoSheets.{words_of_sheets};
 ghost use Rattle.plan_words.specs.PlanWords.{words_judged};
-ghost use Rattle.packing.specs.Packed.{packed, as_outcome, packed_replay, packed_regions, sums_after, packed_verdict, packed_name};
+ghost use Rattle.packing.specs.Packed.{packed, packed_replay, packed_regions, sums_after, packed_verdict, packed_name};
 ghost use Rattle.packing.specs.PackedSides.{packed_first, packed_side};
 
 // Plans a sheet into the caller's buffer, as planner::plan does, and tells the outcome as one number.
@@ -40,10 +40,10 @@ pub extern "C" fn waderarmoire_whole(sheet: &[u8], report: &mut [u8]) -> u64
 // Writes the order of work over a sheet into the caller's list, as orders::order does, and tells the outcome as one number.
 #[unsafe(no_mangle)]
 pub extern "C" fn waderarmoire_order(sheet: &[u8], list: &mut [usize]) -> u64
-    ensures told { result ≡ packed (as_outcome (order_of editions sheet.now list.old).outcome) }
+    ensures told { result ≡ packed (order_of editions sheet.now list.old).outcome }
     ensures left { list.new ≡ (order_of editions sheet.now list.old).list }
 {
-    packing::pack(packing::as_outcome(orders::order(sheet, list)))
+    packing::pack(orders::order(sheet, list))
 }
 
 // Replays a booking log over a sheet into the caller's list of answers, as logs::replay does, and tells the outcome as one number.

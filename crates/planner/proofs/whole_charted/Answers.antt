@@ -1,4 +1,4 @@
--- `whole_charted` meets its contract: the loads taken are the largest, so they can be walked, and what is worked out is ready.
+-- `whole_charted`: the loads taken are the largest, so they can be walked, and what is worked out is ready.
 use Rattle.std.proofs.Common.{◌≡◌, ℕ, ◌≤◌, List, ◌++◌, length, take, drop, refl, ap, ◌∙◌, arith}
 use Rattle.std.proofs.Math.Path.{fun_ext}
 use Rattle.std.proofs.lemmas.List.{length-replicate}
@@ -17,12 +17,12 @@ use Rattle.pairing_walk.specs.Visits.{listing, pairs_of}
 use Rattle.report.specs.Report.{Plan, report_of, odd_line, whole_report}
 use Rattle.report.specs.Shown.{shown_by, CanWrite}
 use Rattle.model.specs.Edition.{editions}
-use Rattle.planner.specs.Outcome.{deliver, planned_whole}
-use Rattle.planner.specs.declared.Outcome.{Outcome}
+use Rattle.planner.specs.Outcome.{Outcome, deliver, planned_whole}
 use Rattle.planner.specs.Fits.{ready_is_delivered}
 use Rattle.planner.specs.Ready.{TakenApart, Charted, ReadyBy}
 use Rattle.planner.specs.Taken.{the_network_is_a_tree_within}
 use Rattle.planner.specs.Works.{pairs_in_order}
+use Rattle.planner.proofs.Charts.{charted}
 use Rattle.planner.specs.WholeWorks.{every_leaf_is_an_end, whole_loads_can_be_walked, the_front_is_the_loads, the_labels_are_end_sets}
 use Rattle.planner.specs.WholeWorks.{the_text_stands_at_the_front, whole_circuits_are_ready}
 use Rattle.planner.proofs.whole_charted.Goals as goal
@@ -54,34 +54,36 @@ module _ {s starting stopping : List ℕ} {p : Plan} {ps : Pairs} where
 
 pub solve-odd-requires : goal.solve-odd-requires
 solve-odd-requires c =
-    let s = c.requires in
-    let tree = the_network_is_a_tree_within s.0 in
-    (tree, s.1.ordered, every_leaf_is_an_end s.0 s.1, omega (arith, tree.firsts, tree.few, length-replicate {A = ℕ} SITES 0))
+    let a = c.requires.0 in
+    let chart = charted c.args.names c.args.chart.now c.requires in
+    let tree = the_network_is_a_tree_within a in
+    (tree, chart.ordered, every_leaf_is_an_end a chart, omega (arith, tree.firsts, tree.few, length-replicate {A = ℕ} SITES 0))
 
 pub sets_of-requires : goal.sets_of-requires
 sets_of-requires c =
-    let s = c.requires in
-    let tree = the_network_is_a_tree_within s.0 in
-    let sets = the_labels_are_end_sets s.0 s.1 c.solve-odd.new.owner c.solve-odd.ensures.owners in
+    let a = c.requires.0 in
+    let chart = charted c.args.names c.args.chart.now c.requires in
+    let tree = the_network_is_a_tree_within a in
+    let sets = the_labels_are_end_sets a chart c.solve-odd.new.owner c.solve-odd.ensures.owners in
     (tree.few, offer-placed tree, offer_limited tree, sets, c.solve-odd.ensures.low, record { owners = refl; sizes = refl; counts = refl })
 
 pub decompose-made-requires : goal.decompose-made-requires
 decompose-made-requires c =
-    let s = c.requires in
-    (whole_loads_can_be_walked s.0 s.1 _ (the_front_is_the_loads s.0 s.1 _ _ c.solve-odd.ensures.loads)).1
+    let a = c.requires.0 in
+    let chart = charted c.args.names c.args.chart.now c.requires in
+    let walk = (whole_loads_can_be_walked a chart _ (the_front_is_the_loads a chart _ _ c.solve-odd.ensures.loads)).1 in
+    record { tree = walk.tree; balanced = walk.balanced }
 
 -- what the sets are is found by `cc`
 
 pub deliver-requires : goal.deliver-requires
 deliver-requires c =
-    let s = c.requires in
     let line = c.write_odd-length.ensures in
-    writable (ready s.0 s.1 c.solve-odd.ensures (cc) c.decompose-made.ensures c.ordered-pairs.ensures line.0 (omega (arith, line.1)))
+    writable (ready c.requires.0 (charted c.args.names c.args.chart.now c.requires) c.solve-odd.ensures (cc) c.decompose-made.ensures c.ordered-pairs.ensures line.0 (omega (arith, line.1)))
 
 pub returns : goal.returns
 returns c =
-    let s = c.requires in
     let line = c.write_odd-length.ensures in
     let d = delivered _ c.deliver.ensures.told c.deliver.ensures.left
-    (ready s.0 s.1 c.solve-odd.ensures (cc) c.decompose-made.ensures c.ordered-pairs.ensures line.0 (omega (arith, line.1))) in
+    (ready c.requires.0 (charted c.args.names c.args.chart.now c.requires) c.solve-odd.ensures (cc) c.decompose-made.ensures c.ordered-pairs.ensures line.0 (omega (arith, line.1))) in
     record { told = d.0; left = d.1 }

@@ -3,10 +3,10 @@ use Rattle.std.proofs.Common.{sym, ap}
 use Rattle.region.specs.NumberText.{within}
 use Rattle.region.proofs.within.Goals as goal
 
-pub returns-in-Within : goal.returns-in-Within
+pub returns-in-Some : goal.returns-in-Some
 unfolding within
-returns-in-Within c = sym (ap within c.in-Within.is)
+returns-in-Some c = sym (ap within c.in-Some.is)
 
-pub returns-in-Above : goal.returns-in-Above
+pub returns-in-None : goal.returns-in-None
 unfolding within
-returns-in-Above c = sym (ap within c.in-Above.is)
+returns-in-None c = sym (ap within c.in-None.is)

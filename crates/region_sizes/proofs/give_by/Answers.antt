@@ -1,24 +1,28 @@
--- `give_by` meets its contract: the lesser of the two numbers is the shared link's size, and what is trimmed again is summed.
-use Rattle.std.proofs.Common.{◌≡◌, ◌++◌, length, take, drop, set, min, ap, ◌∙◌}
+-- `give_by`: the lesser of the two numbers is the shared link's size, and what is trimmed again is summed.
+use Rattle.std.proofs.Common.{◌≡◌, ◌++◌, ℕ, List, length, take, drop, set, min, ap, ◌∙◌}
 use Rattle.lists.specs.Numbers.{look}
 use Rattle.theory_regions.specs.Regions.{first_size}
-use Rattle.region_sizes.specs.Offered.{region_by}
+use Rattle.tree.specs.declared.accepted.AcceptedTree.{AcceptedTree}
+use Rattle.region_sizes.specs.Offered.{region_of}
 use Rattle.region_sizes.specs.Laws.{the_lesser_is_within, what_is_given}
 use Rattle.region_sizes.proofs.give_by.Goals as goal
 
-pub returns : goal.returns
-returns c =
-    let a = c.args in
-    let r = c.requires in
-    -- the shared link has the lesser of the two numbers
-    let front : take (length a.capacity.now) c.resized-list.result ≡ set a.capacity.now a.link (min (first_size (region_by a.n a.one.now a.two.now a.marks.now a.capacity.now) a.link) a.other) = cc in
-    let g = what_is_given r.0 a.link a.other r.2 (look a.chart.ends) _ _ r.1.ended c.far_site-far.ensures front in
-    let told = c.trim.ensures in
-    record { told = told.told ∙ g.0; left = told.left ∙ ap (λ l. l ++ drop (length a.one.now) a.sizes.now) g.1 }
+-- the shared link has the lesser of the two numbers
+front : (t : AcceptedTree) (list : List ℕ) (j shown other m : ℕ) → take (length t.capacity.now) list ≡ set t.capacity.now j m → m ≡ min shown other
+    → shown ≡ first_size (region_of t) j → take (length t.capacity.now) list ≡ set t.capacity.now j (min (first_size (region_of t) j) other)
+front t list j shown other m e f g = e ∙ ap (set t.capacity.now j) (f ∙ ap (λ s. min s other) g)
 
 pub trim-requires : goal.trim-requires
 trim-requires c =
-    let a = c.args in
-    let r = c.requires in
-    let front : take (length a.capacity.now) c.resized-list.result ≡ set a.capacity.now a.link (min (first_size (region_by a.n a.one.now a.two.now a.marks.now a.capacity.now) a.link) a.other) = cc in
-    (rw front (the_lesser_is_within r.0 a.link a.other r.2), r.1.ordered, r.1.chained, r.4)
+    let t = c.args.chart.now.chains.tree in (
+      rw (front t _ c.args.link _ c.args.other _ c.resized-list.ensures c.min.ensures c.requires.1) (the_lesser_is_within t.within c.args.link c.args.other c.requires.0),
+      c.requires.2,
+    )
+
+pub returns : goal.returns
+returns c =
+    let chart = c.args.chart.now in
+    let t = chart.chains.tree in
+    let g = what_is_given t.within c.args.link c.args.other c.requires.0 (look chart.ends) _ _ chart.ended c.far_site-far.ensures
+    (front t _ c.args.link _ c.args.other _ c.resized-list.ensures c.min.ensures c.requires.1) in
+    record { told = c.trim.ensures.told ∙ g.0; left = c.trim.ensures.left ∙ ap (λ l. l ++ drop (length t.one.now) c.args.sizes.now) g.1 }
