@@ -12,7 +12,8 @@ use Rattle.lists.specs.Places.{look-zeros}
 use Rattle.lists.specs.Sums.{pick_same, pick_other, pick_const, same?, is_same, is-other}
 use Rattle.tree.specs.Offer.{links}
 use Rattle.tree.specs.Links.{links-at-site}
-use Rattle.tree_links.specs.Chains.{Placed, last_at}
+use Rattle.tree.specs.declared.accepted.AcceptedTree.{AcceptedTree}
+use Rattle.tree_links.specs.Chains.{Placed, last_at, offer-placed}
 
 -- the number y stored for both sites of a link
 stored : (l : List ℕ) (a b y x : ℕ) → a < length l → b < length l → look (set (set l a y) b y) x ≡ pick (pick a x 1 (is b x)) 1 y (look l x)
@@ -23,6 +24,14 @@ stored l a b y x p q = same? b x
     (λ e. rw (← e) (get_or-set_same l a y 0 p ∙ sym (pick_same (pick_same refl 1 (is b a)) y (look l a))))
     (λ e. get_or-set_other l a x y 0 (λ z. e (sym z))
     ∙ sym (pick_other {u = pick a x 1 (is b x)} {v = 1} (λ z. omega (arith, rw (pick_other e, is-other d) at z)) y (look l x))))
+
+-- the sites of a link of a tree are places of the list
+module _ (t : AcceptedTree) (j : ℕ) (h : j < length t.one.now) where
+  pub first_in_place : look t.one.now j ≤ SITES
+  first_in_place = ((offer-placed t.within.within).sites j h).0
+
+  pub second_in_place : look t.two.now j ≤ SITES
+  second_in_place = ((offer-placed t.within.within).sites j h).1
 
 -- the first j links are chained
 pub record ChainedTo (a b : List ℕ) (j : ℕ) (last before : List ℕ) : Type 0 where

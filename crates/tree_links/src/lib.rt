@@ -28,6 +28,7 @@ pub struct Chains<'a> {
 
 impl<'a> Chains<'a> {
     // The links of a tree chained.
+    #[tactic(auto, using(crate::proofs::Chaining::first_in_place, crate::proofs::Chaining::second_in_place))]
     pub fn of(tree: AcceptedTree<'a>) -> Chains<'a>
         ensures { result.tree ≡ tree.entry }
     {
@@ -50,13 +51,7 @@ impl<'a> Chains<'a> {
         ensures { result ≡ pick (look self.now.tree.one.now j) v (look self.now.before (2 * j))
             (pick (look self.now.tree.two.now j) v (look self.now.before (2 * j + 1)) 0) }
     {
-        if self.tree.one[j] == v {
-            return self.before[2 * j];
-        }
-        if self.tree.two[j] == v {
-            return self.before[2 * j + 1];
-        }
-        0
+        link_before(v, j, self.tree.one, self.tree.two, &self.before)
     }
 
     // What the links at v can carry together. Only the planner's own crates call it.
@@ -74,41 +69,18 @@ impl<'a> Chains<'a> {
         total
     }
 
-    // 1 if v has just one link, 0 if not: its last link is one, and there is none before it.
-    fn leaf_at(&self, v: usize) -> u8
-        requires { v ≤ SITES }
-        ensures { result ≡ leaf (links self.now.tree.one.now self.now.tree.two.now) v }
-    {
-        let p = self.last[v];
-        if p == 0 {
-            return 0;
-        }
-        if self.link_before(v, p - 1) == 0 {
-            return 1;
-        }
-        0
-    }
-
-    // 1 if v is an end, 0 if not: it is marked, or has just one link.
-    fn end_at(&self, v: usize) -> u8
-        requires { v ≤ self.now.tree.sites }
-        ensures { result ≡ end_at (links self.now.tree.one.now self.now.tree.two.now) self.now.tree.marks.now v }
-    {
-        if mark_at(v, self.tree.marks) == 1 {
-            return 1;
-        }
-        self.leaf_at(v)
-    }
-
     // The ends of the tree: place v holds 1 where site v is an end, 0 elsewhere.
     pub fn ends(&self) -> [u8; PLACES]
         ensures { look result ≡ look (ends (links self.now.tree.one.now self.now.tree.two.now) self.now.tree.sites self.now.tree.marks.now) }
     {
-        let mut list = [0u8; PLACES];
-        for v in 0..self.tree.sites + 1 {
-            list[v] = self.end_at(v);
-        }
-        list
+        ends(
+            self.tree.sites,
+            &self.last,
+            &self.before,
+            self.tree.one,
+            self.tree.two,
+            self.tree.marks,
+        )
     }
 }
 
@@ -168,6 +140,42 @@ pub fn sums(one: &[usize], two: &[usize], capacity: &[u64]) -> [u64; PLACES]
     list
 }
 
+// The link before link j at site v, by what is noted of each link; none where v is no site of link j.
+fn link_before(v: usize, j: usize, one: &[usize], two: &[usize], before: &[usize; CHAINS]) -> usize
+    requires { (j < length one.now) × (j < length two.now) × (j < SITES) }
+    ensures { result ≡ pick (look one.now j) v (look before.now (2 * j))
+        (pick (look two.now j) v (look before.now (2 * j + 1)) 0) }
+{
+    if one[j] == v {
+        return before[2 * j];
+    }
+    if two[j] == v {
+        return before[2 * j + 1];
+    }
+    0
+}
+
+// 1 if v has just one link, 0 if not: its last link is one, and there is none before it.
+fn leaf_at(
+    v: usize,
+    last: &[usize; PLACES],
+    before: &[usize; CHAINS],
+    one: &[usize],
+    two: &[usize],
+) -> u8
+    requires { (v ≤ SITES) × Chained one.now two.now last.now before.now }
+    ensures { result ≡ leaf (links one.now two.now) v }
+{
+    let p = last[v];
+    if p == 0 {
+        return 0;
+    }
+    if link_before(v, p - 1, one, two, before) == 0 {
+        return 1;
+    }
+    0
+}
+
 // The mark of site v, by the marks of the sites 1, 2, ..; 0 is no site, and has none.
 fn mark_at(v: usize, marks: &[u8]) -> u8
     requires { v ≤ length marks.now }
@@ -184,4 +192,41 @@ pub fn unmarked(marks: &[u8]) -> bool
     ensures { Tells result ((v : ℕ) → mark marks.now v ≢ 1) }
 {
     marks.iter().all(|mark| *mark != 1)
+}
+
+// 1 if v is an end, 0 if not: it is marked, or has just one link.
+fn end_at(
+    v: usize,
+    last: &[usize; PLACES],
+    before: &[usize; CHAINS],
+    one: &[usize],
+    two: &[usize],
+    marks: &[u8],
+) -> u8
+    requires { (v ≤ SITES) × (v ≤ length marks.now) × Chained one.now two.now last.now before.now }
+    ensures { result ≡ end_at (links one.now two.now) marks.now v }
+{
+    if mark_at(v, marks) == 1 {
+        return 1;
+    }
+    leaf_at(v, last, before, one, two)
+}
+
+// The ends of n sites with their marks: place v holds 1 where site v is an end, 0 elsewhere. Only the planner's own crates call it, of links that are chained.
+pub fn ends(
+    n: usize,
+    last: &[usize; PLACES],
+    before: &[usize; CHAINS],
+    one: &[usize],
+    two: &[usize],
+    marks: &[u8],
+) -> [u8; PLACES]
+    requires { (n ≤ SITES) × (n ≡ length marks.now) × Chained one.now two.now last.now before.now }
+    ensures { look result ≡ look (ends (links one.now two.now) n marks.now) }
+{
+    let mut list = [0u8; PLACES];
+    for v in 0..n + 1 {
+        list[v] = end_at(v, last, before, one, two, marks);
+    }
+    list
 }

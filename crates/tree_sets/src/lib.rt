@@ -18,7 +18,7 @@ pub struct Set {
 }
 
 // The members of a set that are still to come, from the lowest up: those that are left of one word, and those of the words behind it.
-#[derive(Drop)]
+#[derive(Clone, Drop)]
 pub struct Members<'a> {
     words: &'a [u64; WORDS],
     word: usize,

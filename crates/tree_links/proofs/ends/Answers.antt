@@ -1,4 +1,4 @@
--- `Chains::ends`: one place more holds what the rule of an end says.
+-- `ends`: one place more holds what the rule of an end says.
 use Rattle.std.proofs.Common.{suc, refl, sym, ◌∙◌, arith, length-set}
 use Rattle.std.proofs.Math.Path.{fun_ext}
 use Rattle.std.proofs.Math.Decide.{dec_lt}
@@ -10,7 +10,7 @@ use Rattle.lists.specs.Places.{look_values, look-zeros}
 use Rattle.model.specs.Flows.{end_at, ends}
 use Rattle.theory_trees.proofs.Ends.{length-ends}
 use Rattle.tree.specs.Offer.{links}
-use Rattle.tree_links.proofs.Chains.ends.Goals as goal
+use Rattle.tree_links.proofs.ends.Goals as goal
 
 pub loop-v-init : goal.loop-v-init
 loop-v-init c = record { long = refl; so_far = λ x h. absurd (omega arith); behind = λ x h. look-zeros PLACES x }
@@ -32,10 +32,9 @@ loop-v-preserved c =
 pub returns : goal.returns
 unfolding ends
 returns c =
-    let chains = c.args.self.now in
-    let ls = links chains.tree.one.now chains.tree.two.now in
-    let marks = c.args.self.now.tree.marks.now in
-    let n = chains.tree.sites in
+    let ls = links c.args.one.now c.args.two.now in
+    let marks = c.args.marks.now in
+    let n = c.args.n in
     fun_ext (λ x. cases (dec_lt x (suc n))
     (λ h. c.loop-v.invariant.so_far x (omega arith) ∙ sym (look_values (end_at ls marks) (suc n) x h))
     (λ h. c.loop-v.invariant.behind x (omega arith) ∙ sym (get_or-eq_default (ends ls n marks) 0 {n = x} (omega (arith, length-ends ls n marks)))))
