@@ -55,7 +55,13 @@ fn plan_charted(names: Names, chart: &Chart, report: &mut [u8]) -> Result<usize,
 {
     let tree = chart.chains.tree;
     let mut list = [0u64; SITES];
-    trimming_passes::balance(chart, tree.capacity, &mut list);
+    trimming_passes::balance(
+        &chart.chains,
+        &chart.order,
+        &chart.ends,
+        tree.capacity,
+        &mut list,
+    );
     let trimmed = &list[..tree.one.len()];
     let mut owner = [0usize; SITES];
     let mut size = [0u64; SITES];
@@ -241,6 +247,14 @@ fn plan_link(
     deliver_link(b"plan", b"", names, tree, buf)
 }
 
+// The chart of a tree, made in a frame of its own, which is gone before the tree is planned.
+#[inline(never)]
+fn chart_of(tree: AcceptedTree<'_>) -> Chart<'_>
+    ensures { result.chains.tree ≡ tree.entry }
+{
+    Chart::of(tree)
+}
+
 // The tree of an accepted sheet, planned in whole circuits or in halves; it is charted once.
 fn plan_tree(
     whole: bool,
@@ -255,7 +269,7 @@ fn plan_tree(
     if tree.sites == 2 {
         return plan_link(whole, names, tree, report);
     }
-    let chart = Chart::of(tree);
+    let chart = chart_of(tree);
     if whole {
         return whole_charted(names, &chart, report);
     }

@@ -107,7 +107,7 @@ pub fn trim(chart: &Chart, capacity: &[u64], far: usize, sizes: &mut [u64]) -> u
     ensures left { sizes.new ≡ balanced (links chart.now.chains.tree.one.now chart.now.chains.tree.two.now) chart.now.chains.tree.sites
         (look chart.now.ends) capacity.now ++ drop (length chart.now.chains.tree.one.now) sizes.old }
 {
-    trimming_passes::balance(chart, capacity, sizes);
+    trimming_passes::balance(&chart.chains, &chart.order, &chart.ends, capacity, sizes);
     own_sum(chart, &sizes[..chart.chains.tree.one.len()], far)
 }
 
@@ -117,7 +117,14 @@ pub fn first_size(chart: &Chart, link: usize) -> u64
     ensures { result ≡ first_size (region_of chart.now.chains.tree) link }
 {
     let mut list = [0u64; SITES];
-    trimming_passes::balance(chart, chart.chains.tree.capacity, &mut list);
+    let chains = &chart.chains;
+    trimming_passes::balance(
+        chains,
+        &chart.order,
+        &chart.ends,
+        chains.tree.capacity,
+        &mut list,
+    );
     list[link]
 }
 

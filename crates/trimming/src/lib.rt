@@ -53,6 +53,7 @@ pub fn trim(
         marks,
         capacity,
     };
-    trimming_passes::balance(&Chart::by(tree, found.sites), capacity, lent);
+    let chart = Chart::by(tree, found.sites);
+    trimming_passes::balance(&chart.chains, &chart.order, &chart.ends, capacity, lent);
     Ok(())
 }

@@ -6,13 +6,13 @@ ghost use Rattle.model.specs.Limits.{SITES};
 ghost use Rattle.lists.specs.Numbers.{look};
 ghost use Rattle.model.specs.Flows.{sum_at};
 ghost use Rattle.model.specs.Edition.{largest};
-ghost use Rattle.model.specs.Trimming.{balanced};
+ghost use Rattle.model.specs.Trimming.{elimination, balanced};
 ghost use Rattle.tree.specs.Accepted.{TreeWithin};
 ghost use Rattle.tree.specs.Offer.{links};
-ghost use Rattle.trimming_passes.specs.Steps.{Middle, SumsKept, cut_first, balanced_first};
+ghost use Rattle.trimming_passes.specs.Steps.{InPlaces, Middle, SumsKept, cut_first, balanced_first};
 
-use model::PLACES;
-use tree_links::{Chains, Chart};
+use model::{PLACES, SITES};
+use tree_links::Chains;
 
 // The one link at site v that can be heavy, counted from 1: the first of the chain by which half of the sum is passed; 0 if none can be.
 fn middle_at(chains: &Chains, v: usize, sum: u64, capacity: &[u64]) -> usize
@@ -54,16 +54,22 @@ fn lower(
 }
 
 // Cuts the capacities at site v, if it is no end: a heavy link keeps no more than the other links there have together.
-fn cut(chart: &Chart, v: usize, sums: &mut [u64; PLACES], capacity: &mut [u64])
-    requires { (v ≤ SITES) × SumsKept chart.now.chains.tree.one.now chart.now.chains.tree.two.now capacity.old sums.old }
-    ensures { (capacity.new ≡ cut_first chart.now.chains.tree.one.now chart.now.chains.tree.two.now (look chart.now.ends) (v ∷ []) capacity.old)
-        × SumsKept chart.now.chains.tree.one.now chart.now.chains.tree.two.now capacity.new sums.new }
+fn cut(
+    chains: &Chains,
+    ends: &[u8; PLACES],
+    v: usize,
+    sums: &mut [u64; PLACES],
+    capacity: &mut [u64],
+)
+    requires { (v ≤ SITES) × SumsKept chains.now.tree.one.now chains.now.tree.two.now capacity.old sums.old }
+    ensures { (capacity.new ≡ cut_first chains.now.tree.one.now chains.now.tree.two.now (look ends.now) (v ∷ []) capacity.old)
+        × SumsKept chains.now.tree.one.now chains.now.tree.two.now capacity.new sums.new }
 {
-    if chart.ends[v] == 1 {
+    if ends[v] == 1 {
         return;
     }
     let sum = sums[v];
-    let p = middle_at(&chart.chains, v, sum, capacity);
+    let p = middle_at(chains, v, sum, capacity);
     if p == 0 {
         return;
     }
@@ -71,7 +77,7 @@ fn cut(chart: &Chart, v: usize, sums: &mut [u64; PLACES], capacity: &mut [u64])
     if t <= sum - t {
         return;
     }
-    let tree = chart.chains.tree;
+    let tree = chains.tree;
     lower(p - 1, t - (sum - t), tree.one, tree.two, sums, capacity);
 }
 
@@ -86,17 +92,24 @@ fn there_and_back(i: usize, n: usize) -> usize
     2 * n - 1 - i
 }
 
-// Cuts the capacities at each site of the elimination order in turn, and back against it.
-fn both_ways(chart: &Chart, sums: &mut [u64; PLACES], capacity: &mut [u64])
-    requires { SumsKept chart.now.chains.tree.one.now chart.now.chains.tree.two.now capacity.old sums.old }
-    ensures { (capacity.new ≡ balanced_first chart.now.chains.tree.one.now chart.now.chains.tree.two.now (look chart.now.ends)
-        (take chart.now.chains.tree.sites chart.now.order) capacity.old)
-        × SumsKept chart.now.chains.tree.one.now chart.now.chains.tree.two.now capacity.new sums.new }
+// Cuts the capacities at each site of an order in turn, and back against it.
+fn both_ways(
+    chains: &Chains,
+    order: &[usize; SITES],
+    ends: &[u8; PLACES],
+    sums: &mut [u64; PLACES],
+    capacity: &mut [u64],
+)
+    requires { InPlaces chains.now.tree.sites (take chains.now.tree.sites order.now)
+        × SumsKept chains.now.tree.one.now chains.now.tree.two.now capacity.old sums.old }
+    ensures { (capacity.new ≡ balanced_first chains.now.tree.one.now chains.now.tree.two.now (look ends.now)
+        (take chains.now.tree.sites order.now) capacity.old)
+        × SumsKept chains.now.tree.one.now chains.now.tree.two.now capacity.new sums.new }
 {
-    let n = chart.chains.tree.sites;
+    let n = chains.tree.sites;
     for i in 0..2 * n {
-        let v = chart.order[there_and_back(i, n)];
-        cut(chart, v, sums, capacity);
+        let v = order[there_and_back(i, n)];
+        cut(chains, ends, v, sums, capacity);
     }
 }
 
@@ -105,18 +118,28 @@ fn copy(from: &[u64], to: &mut [u64])
     requires { length from.now ≤ length to.old }
     ensures { to.new ≡ from.now ++ drop (length from.now) to.old }
 {
-    to[..from.len()].copy_from_slice(from);
+    // Stays: `copy_from_slice` looks first whether the two overlap, and calls a function from outside that nothing else of the library calls.
+    for (j, size) in from.iter().enumerate() {
+        to[j] = *size;
+    }
 }
 
 // The balanced capacities of a tree, at the front of a lent list: they are cut along its elimination order and back, by its chains and ends.
-pub fn balance(chart: &Chart, capacity: &[u64], lent: &mut [u64])
-    requires { TreeWithin largest chart.now.chains.tree.sites chart.now.chains.tree.one.now chart.now.chains.tree.two.now capacity.now
-        × (length chart.now.chains.tree.one.now ≤ length lent.old) }
-    ensures { lent.new ≡ balanced (links chart.now.chains.tree.one.now chart.now.chains.tree.two.now) chart.now.chains.tree.sites (look chart.now.ends) capacity.now
+pub fn balance(
+    chains: &Chains,
+    order: &[usize; SITES],
+    ends: &[u8; PLACES],
+    capacity: &[u64],
+    lent: &mut [u64],
+)
+    requires { TreeWithin largest chains.now.tree.sites chains.now.tree.one.now chains.now.tree.two.now capacity.now
+        × (take chains.now.tree.sites order.now ≡ elimination (links chains.now.tree.one.now chains.now.tree.two.now) chains.now.tree.sites)
+        × (length chains.now.tree.one.now ≤ length lent.old) }
+    ensures { lent.new ≡ balanced (links chains.now.tree.one.now chains.now.tree.two.now) chains.now.tree.sites (look ends.now) capacity.now
         ++ drop (length capacity.now) lent.old }
 {
     copy(capacity, lent);
-    let tree = chart.chains.tree;
+    let tree = chains.tree;
     let mut sums = tree_links::sums(tree.one, tree.two, capacity);
-    both_ways(chart, &mut sums, lent);
+    both_ways(chains, order, ends, &mut sums, lent);
 }

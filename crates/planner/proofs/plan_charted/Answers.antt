@@ -48,7 +48,7 @@ module _ {s starting stopping : List ℕ} {p : Plan} {ps : Pairs} where
 pub balance-requires : goal.balance-requires
 balance-requires c =
     let tree = the_network_is_a_tree_within c.requires.0 in
-    (tree, omega (arith, tree.firsts, tree.few, length-replicate {A = ℕ} SITES 0))
+    (tree, c.args.chart.now.ordered, omega (arith, tree.firsts, tree.few, length-replicate {A = ℕ} SITES 0))
 
 pub slice_bounds-trimmed-end : goal.slice_bounds-trimmed-end
 slice_bounds-trimmed-end c =

@@ -6,7 +6,7 @@ use Rattle.planner.specs.Outcome.{reporter, planned_by}
 use Rattle.planner.proofs.plan_tree.Goals as goal
 
 pub whole_charted-requires : goal.whole_charted-requires
-whole_charted-requires c = rw c.of-chart.ensures c.requires
+whole_charted-requires c = rw c.chart_of-chart.ensures c.requires
 
 pub returns-then-whole : goal.returns-then-whole
 unfolding reporter
@@ -18,7 +18,7 @@ returns-then-whole c =
     }
 
 pub plan_charted-requires : goal.plan_charted-requires
-plan_charted-requires c = rw c.of-chart.ensures c.requires
+plan_charted-requires c = rw c.chart_of-chart.ensures c.requires
 
 pub returns : goal.returns
 unfolding reporter

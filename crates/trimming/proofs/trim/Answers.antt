@@ -53,8 +53,8 @@ invariant_of-tree c =
     let o = said _ _ _ _ _ _ _ c.eliminate-found.ensures c.in_ok-found.was in
     record { within = accepted_is_a_tree_within_the_limits _ _ _ _ _ _ o }
 
-pub by-requires : goal.by-requires
-by-requires c =
+pub by-chart-requires : goal.by-chart-requires
+by-chart-requires c =
     let o = said _ _ _ _ _ _ _ c.eliminate-found.ensures c.in_ok-found.was in
     ap (λ r. take c.args.n r.sites) c.eliminate-found.ensures ∙ eliminated_in_order _ _ _ _ _ o
 
@@ -62,15 +62,16 @@ pub balance-requires : goal.balance-requires
 balance-requires c =
     let o = said _ _ _ _ _ _ _ c.eliminate-found.ensures c.in_ok-found.was in
     let w = accepted_is_a_tree_within_the_limits _ _ _ _ _ _ o in
-    rw c.by.ensures (w.within, c.if-lent-one.false)
+    let ordered = rw c.by-chart.ensures at c.by-chart.result.ordered in
+    rw c.by-chart.ensures (w.within, ordered, c.if-lent-one.false)
 
 pub returns : goal.returns
 unfolding answer decide trimmed after
 returns c =
     let a = c.args in
     let o = said _ _ _ _ _ _ _ c.eliminate-found.ensures c.in_ok-found.was in
-    let ended = rw c.by.ensures at c.by.result.ended in
-    let made = rw c.by.ensures at c.balance.ensures in
+    let ended = rw c.by-chart.ensures at c.by-chart.result.ended in
+    let made = rw c.by-chart.ensures at c.balance.ensures in
     rw (o, le-leb _ _ c.if-lent-one.false) (
       refl,
       made

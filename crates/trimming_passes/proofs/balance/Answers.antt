@@ -7,7 +7,7 @@ use Rattle.model.specs.Trimming.{elimination}
 use Rattle.theory_trees.proofs.Orders.{elimination_is_inward}
 use Rattle.tree.specs.Offer.{links}
 use Rattle.trimming_passes.specs.Steps.{balanced_first}
-use Rattle.trimming_passes.specs.Along.{balanced_in_place}
+use Rattle.trimming_passes.specs.Along.{elimination_in_places, balanced_in_place}
 use Rattle.trimming_passes.proofs.Summing.{copied_kept}
 use Rattle.trimming_passes.proofs.balance.Goals as goal
 
@@ -16,15 +16,16 @@ sums-sums-requires c = let w = c.requires.0 in rw w.firsts at w
 
 pub both_ways-requires : goal.both_ways-requires
 both_ways-requires c =
+    let in-places = elimination_in_places c.requires.0 in
     let long : length c.sums-sums.result ≡ PLACES = search (rules, c.sums-sums.type_inv) in
-    rw c.copy.ensures (copied_kept c.requires.0 c.args.lent.now c.requires.1 long c.sums-sums.ensures)
+    let kept = copied_kept c.requires.0 c.args.lent.now c.requires.2 long c.sums-sums.ensures in
+    (rw c.requires.1 in-places, rw c.copy.ensures kept)
 
 pub returns : goal.returns
 returns c =
-    let chart = c.args.chart.now in
-    let tree = chart.chains.tree in
+    let tree = c.args.chains.now.tree in
     let ls = links tree.one.now tree.two.now in
-    let terminal = look chart.ends in
+    let terminal = look c.args.ends.now in
     c.both_ways.ensures.0
-    ∙ ap₂ (balanced_first tree.one.now tree.two.now terminal) chart.ordered c.copy.ensures
+    ∙ ap₂ (balanced_first tree.one.now tree.two.now terminal) c.requires.1 c.copy.ensures
     ∙ balanced_in_place c.requires.0 terminal (elimination ls tree.sites) (elimination_is_inward c.requires.0.tree) (drop (length c.args.capacity.now) c.args.lent.now)

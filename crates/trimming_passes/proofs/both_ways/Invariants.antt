@@ -7,6 +7,6 @@ use Rattle.trimming_passes.proofs.both_ways.Given as goal
 abbrev pub invariant-loop-i : goal.invariant-loop-i
 invariant-loop-i l = record {
   long : length l.capacity ≡ length l.fn.capacity;
-  kept : SumsKept l.chart.chains.tree.one.now l.chart.chains.tree.two.now l.capacity l.sums;
-  so_far : l.capacity ≡ cut_first l.chart.chains.tree.one.now l.chart.chains.tree.two.now (look l.chart.ends) (take l.i (both_ways (take l.chart.chains.tree.sites l.chart.order))) l.fn.capacity;
+  kept : SumsKept l.chains.tree.one.now l.chains.tree.two.now l.capacity l.sums;
+  so_far : l.capacity ≡ cut_first l.chains.tree.one.now l.chains.tree.two.now (look l.ends) (take l.i (both_ways (take l.chains.tree.sites l.order))) l.fn.capacity;
 }

@@ -27,19 +27,19 @@ fitting {one} {two} {capacity} {sums} k v p site m some =
       fits = omega (arith, k.summed v site, others-add (links one two) v (p - 1) (look capacity) (omega (arith, m.there.0)) (m.there.1 some));
     }
 
-pub returns-then-chart-v-eq1 : goal.returns-then-chart-v-eq1
-returns-then-chart-v-eq1 c =
+pub returns-then-ends-v-eq1 : goal.returns-then-ends-v-eq1
+returns-then-ends-v-eq1 c =
     let a = c.args in
     let k = c.requires.1 in
-    let terminal : look a.chart.now.ends a.v ≡ 1 = omega arith in
-    (cut-none a.chart.now.chains.tree.one.now a.chart.now.chains.tree.two.now (look a.chart.now.ends) k.placed.seconds a.v a.capacity.now k.each (λ j l at-v inner. absurd (inner terminal)), k)
+    let terminal : look a.ends.now a.v ≡ 1 = omega arith in
+    (cut-none a.chains.now.tree.one.now a.chains.now.tree.two.now (look a.ends.now) k.placed.seconds a.v a.capacity.now k.each (λ j l at-v inner. absurd (inner terminal)), k)
 
 pub returns-then-p-eq0 : goal.returns-then-p-eq0
 returns-then-p-eq0 c =
     let a = c.args in
     let k = c.requires.1 in
     let m = c.middle_at-p.ensures in
-    (cut-none a.chart.now.chains.tree.one.now a.chart.now.chains.tree.two.now (look a.chart.now.ends) k.placed.seconds a.v a.capacity.now k.each (λ j l at-v inner. m.others j l at-v (λ z. omega arith)), k)
+    (cut-none a.chains.now.tree.one.now a.chains.now.tree.two.now (look a.ends.now) k.placed.seconds a.v a.capacity.now k.each (λ j l at-v inner. m.others j l at-v (λ z. omega arith)), k)
 
 pub offset_bounds-capacity-p : goal.offset_bounds-capacity-p
 offset_bounds-capacity-p c = omega (arith, fitting c.requires.1 c.args.v c.middle_at-p.result c.requires.0 c.middle_at-p.ensures (omega arith), c.requires.1.placed.few)
@@ -57,7 +57,7 @@ returns-then-t-sum c =
     let m = c.middle_at-p.ensures in
     let p = c.middle_at-p.result in
     let f = fitting k a.v p c.requires.0 m (omega arith) in (
-      cut-none a.chart.now.chains.tree.one.now a.chart.now.chains.tree.two.now (look a.chart.now.ends) k.placed.seconds a.v a.capacity.now k.each
+      cut-none a.chains.now.tree.one.now a.chains.now.tree.two.now (look a.ends.now) k.placed.seconds a.v a.capacity.now k.each
           (λ j l at-v inner. same? j (p - 1) (λ z. rw z (omega arith)) (λ z. m.others j l at-v (λ y. z (omega arith)))),
       k,
     )
@@ -76,8 +76,8 @@ returns c =
     let k = c.requires.1 in
     let m = c.middle_at-p.ensures in
     let f = fitting k a.v c.middle_at-p.result c.requires.0 m (omega arith) in
-    let inner : look a.chart.now.ends a.v ≢ 1 = omega arith in
+    let inner : look a.ends.now a.v ≢ 1 = omega arith in
     let done = c.lower.ensures in (
-      done.0 ∙ cut-one a.chart.now.chains.tree.one.now a.chart.now.chains.tree.two.now (look a.chart.now.ends) k.placed.seconds a.v a.capacity.now c.middle_at-p.result _ k.each inner m (omega arith) (omega arith),
+      done.0 ∙ cut-one a.chains.now.tree.one.now a.chains.now.tree.two.now (look a.ends.now) k.placed.seconds a.v a.capacity.now c.middle_at-p.result _ k.each inner m (omega arith) (omega arith),
       done.1,
     )
