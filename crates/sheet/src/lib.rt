@@ -122,7 +122,8 @@ fn read_as(sheet: &[u8], edition: Edition) -> Result<Lists, Refusal>
     if sheet.len() < 1 {
         return Err(Refusal { number: 1, line: 0 });
     }
-    if sheet.len() > edition.bytes {
+    let most = edition.bytes;
+    if sheet.len() > most {
         return Err(Refusal { number: 1, line: 0 });
     }
     read_lines(sheet, edition)
@@ -171,7 +172,8 @@ pub fn name_range(sheet: &[u8], site: usize) -> Range
     if site > edition.sites {
         return Range { start: 0, end: 0 };
     }
-    let Ok(network) = read_as(sheet, edition) else {
+    let reading = read_as(sheet, edition);
+    let Ok(network) = &reading else {
         return Range { start: 0, end: 0 };
     };
     let i = site - 1;

@@ -61,14 +61,18 @@ fn link_step(
     requires { Labelled PLACES first × Labelled PLACES second }
     ensures { (ls : Links) → LabelsOf ls parents.now → result ≡ link_step here ls size first second }
 {
-    let one = first.ok_or(Refusal {
-        number: 6,
-        line: here,
-    })?;
-    let two = second.ok_or(Refusal {
-        number: 6,
-        line: here,
-    })?;
+    let Some(one) = first else {
+        return Err(Refusal {
+            number: 6,
+            line: here,
+        });
+    };
+    let Some(two) = second else {
+        return Err(Refusal {
+            number: 6,
+            line: here,
+        });
+    };
     if tree_parents::root(parents, one) == tree_parents::root(parents, two) {
         return Err(Refusal {
             number: 7,

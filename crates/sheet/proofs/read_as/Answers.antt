@@ -8,10 +8,10 @@ pub returns-then-sheet-lt1 : goal.returns-then-sheet-lt1
 unfolding reading read_as
 returns-then-sheet-lt1 c = rw (lt-leb _ _ c.if-sheet-lt1.true)
 
-pub returns-then-sheet-edition : goal.returns-then-sheet-edition
+pub returns-then-sheet-most : goal.returns-then-sheet-most
 unfolding reading read_as
-returns-then-sheet-edition c = rw (le-leb _ _ c.if-sheet-lt1.false, lt-leb _ _ c.if-sheet-edition.true)
+returns-then-sheet-most c = rw (le-leb _ _ c.if-sheet-lt1.false, lt-leb _ _ c.if-sheet-most.true)
 
 pub returns : goal.returns
 unfolding read_as
-returns c = rw (le-leb _ _ c.if-sheet-lt1.false, le-leb _ _ c.if-sheet-edition.false) c.read_lines.ensures
+returns c = rw (le-leb _ _ c.if-sheet-lt1.false, le-leb _ _ c.if-sheet-most.false) c.read_lines.ensures
