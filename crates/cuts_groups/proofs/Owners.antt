@@ -1,8 +1,8 @@
 -- The owners: a terminal put at the places of its cut that have none yet.
-use mathlib.Core.Path.{◌≡◌, refl, sym, ◌∙◌}
+use mathlib.Core.Path.{◌≡◌, refl, sym, ap, ◌∙◌}
 use mathlib.Core.Logic.{◌≢◌}
-use mathlib.Core.List.{List, ◌∷◌, map}
-use Prim.Native.Nat.{ℕ, zero, suc, ◌+◌, ◌-◌, ◌*◌, ◌≤◌, ◌<◌}
+use mathlib.Core.List.{List, [], ◌∷◌, map}
+use Prim.Native.Nat.{ℕ, zero, suc, ◌+◌, ◌-◌, ◌*◌, ◌≤◌, ◌<◌, max}
 use native.Mathlib.Nat.{add-zero, add-suc, suc-add, one-mul, zero-mul}
 use native.Mathlib.Numerals.{one-add}
 use native.Mathlib.Omega.{arith}
@@ -15,7 +15,7 @@ use Rattle.model.specs.Flows.{Links, sites}
 use Rattle.model.specs.Cuts.{in_cut, owner_among}
 use Rattle.lists.specs.Sums.{pick_same, pick_other, is_same, is-other, cases, same?}
 use Rattle.lists.specs.Places.{length-upfrom, look_values}
-use Rattle.tree_sets.specs.Laws.{First}
+use Rattle.tree_sets.specs.Laws.{First, Coming, coming_first, coming_below, coming_others, coming_end}
 use Rattle.tree.specs.Places.{same_values}
 use Rattle.cuts_groups.specs.Steps.{claim}
 
@@ -77,6 +77,55 @@ module _ (old : List ℕ) (cut : ℕ → ℕ) (a : ℕ) where
       (s.long ∙ sym (length-map (upfrom 0 SITES) (claim old cut a) ∙ length-upfrom 0 SITES))
       (λ i h. cases (dec_lt i p) (λ l. s.done i l) (λ l. s.left i (omega arith) ∙ claim_out i (none i (omega arith) (omega (arith, s.long))))
       ∙ sym (look_values (claim old cut a) SITES i (omega (arith, s.long))))
+
+-- ---- a put at places one after another
+
+-- a put at each of these places that has no owner
+unfoldable pub put_at_each : ℕ → List ℕ → List ℕ → List ℕ
+put_at_each a owners [] = owners
+put_at_each a owners (m ∷ ms) = put_at_each a (pick (look owners m) 0 (set owners m a) owners) ms
+
+pub put_at_none : (a : ℕ) (owners : List ℕ) → put_at_each a owners [] ≡ owners
+unfolding put_at_each
+put_at_none a owners = refl
+
+module _ (a : ℕ) (owners : List ℕ) (m : ℕ) (ms : List ℕ) where
+  pub put_at_free : look owners m ≡ 0 → put_at_each a (set owners m a) ms ≡ put_at_each a owners (m ∷ ms)
+  unfolding put_at_each
+  put_at_free e = ap (λ o. put_at_each a o ms) (sym (pick_same e _ _))
+
+  pub put_at_owned : look owners m ≢ 0 → put_at_each a owners (m ∷ ms) ≡ put_at_each a owners ms
+  unfolding put_at_each
+  put_at_owned d = ap (λ o. put_at_each a o ms) (pick_other d _ _)
+
+-- at each of the members of a cut it is put where the cut has a place without an owner
+module _ (old : List ℕ) (cut : ℕ → ℕ) (a : ℕ) where
+  put_from : (ms : List ℕ) (p : ℕ) (owners : List ℕ) → Coming cut p ms → Claiming old cut a p owners → put_at_each a owners ms ≡ map (claim old cut a) (upfrom 0 SITES)
+  put_from [] p owners come s = put_at_none a owners ∙ claiming_end old cut a p owners s (coming_end cut come refl)
+  put_from (m ∷ ms) p owners come s =
+      let first = coming_first cut come refl in
+      let others = coming_others cut come refl in
+      same? (look owners m) 0
+      (λ e. sym (put_at_free a owners m ms e) ∙ put_from ms (m + 1) (set owners m a) others (claiming_new old cut a p m owners s first e))
+      (λ d. put_at_owned a owners m ms d ∙ put_from ms (m + 1) owners others (claiming_kept old cut a p m owners s first d))
+
+  pub put_at_members : (ms : List ℕ) → length old ≡ SITES → Coming cut 0 ms → put_at_each a old ms ≡ map (claim old cut a) (upfrom 0 SITES)
+  put_at_members ms long come = put_from ms 0 old come (claiming_start old cut a long)
+
+-- the least number above all of these
+unfoldable pub above : List ℕ → ℕ
+above [] = 0
+above (m ∷ ms) = max (m + 1) (above ms)
+
+pub above_each : (m : ℕ) (ms : List ℕ) → (m < above (m ∷ ms)) × (above ms ≤ above (m ∷ ms))
+unfolding above
+above_each m ms = (omega arith, omega arith)
+
+-- the members of a cut are places of the owners
+pub members_in_place : (cut : ℕ → ℕ) (ms : List ℕ) (p : ℕ) → Coming cut p ms → above ms ≤ SITES
+unfolding above
+members_in_place cut [] p come = omega arith
+members_in_place cut (m ∷ ms) p come = omega (arith, coming_below cut come refl, members_in_place cut ms (m + 1) (coming_others cut come refl))
 
 -- ---- the search through the sites, one site more
 

@@ -114,6 +114,7 @@ fn cut_of(words: &[u64; SETS], label: u16) -> Set
 }
 
 // Puts a where the cut has a place without an owner.
+#[tactic(auto, using(crate::proofs::Owners::put_at_none, crate::proofs::Owners::put_at_free, crate::proofs::Owners::put_at_owned, crate::proofs::Owners::above_each))]
 fn put_owner(owner: &mut [usize; SITES], cut: Set, a: usize)
     requires { length owner.old ≡ SITES }
     ensures { owner.new ≡ map (claim owner.old (member cut) a) (upfrom 0 SITES) }

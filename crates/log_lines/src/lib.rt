@@ -40,7 +40,8 @@ fn line_as(line: &[u8], found: Fields, letter: u8, opens: bool) -> Result<Bookin
     text_grammar::check_line(line, found, form(letter)).map_err(Broken::number)?;
     let size = text_grammar::size_of(text_grammar::field(line, found, 3), AMOUNT);
     let amount = size.ok_or(3_u64)?;
-    if amount < 1 {
+    let none = amount < 1;
+    if none {
         return Err(3);
     }
     let end = found.end[1];

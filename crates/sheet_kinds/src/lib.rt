@@ -110,7 +110,8 @@ fn second(line: &[u8], found: Fields, most: u64) -> Option<u64>
     requires { found ≡ split line.now }
     ensures { result ≡ size_of most (field (fields line.now) 4) }
 {
-    if found.count < 5 {
+    let few = found.count < 5;
+    if few {
         return Some(0);
     }
     text_grammar::size_of(text_grammar::field(line, found, 4), most)

@@ -77,7 +77,9 @@ pub fn find(
         let i = site - 1;
         let start = starts[i];
         let end = ends[i];
-        if text_fields::same_name(&sheet[start..end], name) {
+        let of_site = &sheet[start..end];
+        let has_name = text_fields::same_name(of_site, name);
+        if has_name {
             return Some(site);
         }
         site = usize::from(table[HASHES + site]);

@@ -25,7 +25,6 @@ fn same_ends(a: &[u8], b: &[u8]) -> bool
 }
 
 // Whether two byte strings are the same.
-#[tactic(auto, using(crate::specs::FieldLaws::compared))]
 pub fn same(a: &[u8], b: &[u8]) -> bool
     ensures { result ≡ same a.now b.now }
 {

@@ -82,7 +82,8 @@ fn judge_network(sheet: &[u8], network: &Lists, plan: &[u8]) -> Result<Verdict, 
     if plan.len() > PLANBYTES {
         return Err(refusal);
     }
-    if log_requests::count_lines(plan) > PLANLINES {
+    let too_many = log_requests::count_lines(plan) > PLANLINES;
+    if too_many {
         return Err(refusal);
     }
     let tree = listed_trees::tree_of(network);

@@ -35,15 +35,15 @@ returns-in_err-amount c =
     let line : line_as c.args.letter c.args.opens fs ≡ Err 3 = formed.1 ∙ booking_by_size c.args.opens fs ∙ rw (size, none) in
     rw line (search rules)
 
-pub returns-then-amount-lt1 : goal.returns-then-amount-lt1
+pub returns-then-none : goal.returns-then-none
 unfolding line_as
-returns-then-amount-lt1 c =
+returns-then-none c =
     let fs = fields c.args.line.now in
     let found = MatchResult-at_ok _ _ _ c.in_ok-map_err.was (numbered _ _ c.map_err.ensures.cases (booking c.args.opens fs)) in
     let formed = rw (c.check_line.ensures, c.form.ensures) at found in
     let size : size_of AMOUNT (field fs 3) ≡ c.size_of-size.result = sym (rw c.field.ensures at c.size_of-size.ensures) in
     let some : c.size_of-size.result ≡ Some c.in_ok-amount.amount = grind arith in
-    sym (formed.1 ∙ booking_by_size c.args.opens fs ∙ rw (size, some, lt-leb 1 c.in_ok-amount.amount c.if-amount-lt1.true))
+    sym (formed.1 ∙ booking_by_size c.args.opens fs ∙ rw (size, some, lt-leb 1 c.in_ok-amount.amount (omega arith)))
 
 pub overflow_add-result : goal.overflow_add-result
 overflow_add-result c =
@@ -63,4 +63,4 @@ returns c =
     let one = length (field fs 1) in
     let next : 2 + one + 1 ≡ 3 + one = omega arith in
     rw (ends.1, ends.2, next)
-    (sym (formed.1 ∙ booking_by_size c.args.opens fs ∙ rw (size, some, le-leb 1 c.in_ok-amount.amount c.if-amount-lt1.false)))
+    (sym (formed.1 ∙ booking_by_size c.args.opens fs ∙ rw (size, some, le-leb 1 c.in_ok-amount.amount (omega arith))))

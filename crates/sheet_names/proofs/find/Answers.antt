@@ -20,21 +20,21 @@ loop-site-init c =
     rw (c.from-site.ensures, c.hash.ensures.value)
     (record { within = omega (arith, from.within, length-ranges a.starts.now a.ends.now 0 a.sites); back = from })
 
-pub slice_bounds-same_name-count : goal.slice_bounds-same_name-count
-slice_bounds-same_name-count c =
+pub slice_bounds-of_site-count : goal.slice_bounds-of_site-count
+slice_bounds-of_site-count c =
     (lies_there c.args.starts.now c.args.ends.now c.args.sites c.requires.1.distinct (c.loop-site.site - 1) (omega arith)).0
 
-pub slice_bounds-same_name-start : goal.slice_bounds-same_name-start
-slice_bounds-same_name-start c =
+pub slice_bounds-of_site-start : goal.slice_bounds-of_site-start
+slice_bounds-of_site-start c =
     omega (arith, lies_there c.args.starts.now c.args.ends.now c.args.sites c.requires.1.distinct (c.loop-site.site - 1) (omega arith))
 
-pub slice_bounds-same_name-end : goal.slice_bounds-same_name-end
-slice_bounds-same_name-end c =
+pub slice_bounds-of_site-end : goal.slice_bounds-of_site-end
+slice_bounds-of_site-end c =
     omega (arith, lies_there c.args.starts.now c.args.ends.now c.args.sites c.requires.1.distinct (c.loop-site.site - 1) (omega arith))
 
 -- where the site has the name, it is the one that is looked up
-pub returns-then-same_name : goal.returns-then-same_name
-returns-then-same_name c =
+pub returns-then-has_name : goal.returns-then-has_name
+returns-then-has_name c =
     let a = c.args in
     let v = c.loop-site.site in
     let has = at_place a.sheet.now a.starts.now a.ends.now a.name.now a.sites (v - 1) true (omega arith) cc in
