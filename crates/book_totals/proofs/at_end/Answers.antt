@@ -2,7 +2,6 @@
 use Rattle.std.proofs.Common.{◌≡◌, ◌≢◌, ℕ, ◌*◌, arith}
 use Rattle.lists.specs.Numbers.{is, look}
 use Rattle.lists.specs.Sums.{is_same, is-other}
-use Rattle.tree_links.specs.Chains.{offer_limited}
 use Rattle.book_totals.proofs.at_end.Goals as goal
 
 no_end : (e s : ℕ) → e ≢ 1 → 0 ≡ is e 1 * s
@@ -15,7 +14,7 @@ pub returns-then-ends-v-ne1 : goal.returns-then-ends-v-ne1
 returns-then-ends-v-ne1 c = no_end _ _ (λ e. omega arith)
 
 pub sum_at-requires : goal.sum_at-requires
-sum_at-requires c = (c.requires, offer_limited c.args.chains.now.tree.within.within)
+sum_at-requires c = c.requires
 
 pub returns : goal.returns
 returns c = an_end _ _ (omega arith) c.sum_at.ensures

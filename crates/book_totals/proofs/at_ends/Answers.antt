@@ -10,7 +10,7 @@ use Rattle.tree.specs.Accepted.{TreeWithin}
 use Rattle.tree.specs.Links.{length-links}
 use Rattle.tree.specs.Offer.{links}
 use Rattle.tree.specs.Places.{sum-next}
-use Rattle.tree_links.specs.Chains.{sum_limit}
+use Rattle.tree_links.specs.Chains.{sum_limit, offer_limited}
 use Rattle.book_totals.specs.Laws.{at_ends_by_sites}
 use Rattle.book_totals.proofs.at_ends.Goals as goal
 
@@ -44,7 +44,7 @@ counted one two sizes ends i r e =
     e ∙ ap (λ v. is (look ends v) 1 * sum_at (links one two) v (look sizes)) turned
 
 pub at_end-total-requires : goal.at_end-total-requires
-at_end-total-requires c = omega (arith, c.args.tree.within.within.few)
+at_end-total-requires c = (omega (arith, c.requires.few), offer_limited c.requires)
 
 pub loop-i-init : goal.loop-i-init
 unfolding sum
@@ -52,29 +52,31 @@ loop-i-init c = refl
 
 pub overflow_add-total : goal.overflow_add-total
 overflow_add-total c =
-    let t = c.args.tree in
-    let w = t.within.within in
-    let ends = c.ends-ends.result in
+    let t = c.args.chains.now.tree in
+    let sizes = c.args.sizes.now in
+    let w = c.requires in
+    let ends = c.args.ends.now in
     let i = c.loop-i.i in
     omega (
       arith,
       w.few,
       c.loop-i.invariant,
-      counted t.one.now t.two.now t.capacity.now ends i _ (rw c.of-chains.ensures at c.at_end-total.ensures),
+      counted t.one.now t.two.now sizes ends i _ c.at_end-total.ensures,
       small w (look ends (1 + i)) (1 + i),
-      sums_small (λ k. is (look ends (1 + k)) 1 * sum_at (links t.one.now t.two.now) (1 + k) (look t.capacity.now)) (LINKS * SIZE) i (λ k. small w (look ends (1 + k)) (1 + k)),
+      sums_small (λ k. is (look ends (1 + k)) 1 * sum_at (links t.one.now t.two.now) (1 + k) (look sizes)) (LINKS * SIZE) i (λ k. small w (look ends (1 + k)) (1 + k)),
     )
 
 pub loop-i-preserved : goal.loop-i-preserved
 loop-i-preserved c =
-    let t = c.args.tree in
-    sum-next _ c.loop-i.i c.loop-i.invariant (counted t.one.now t.two.now t.capacity.now c.ends-ends.result c.loop-i.i _ (rw c.of-chains.ensures at c.at_end-total.ensures))
+    let t = c.args.chains.now.tree in
+    sum-next _ c.loop-i.i c.loop-i.invariant (counted t.one.now t.two.now c.args.sizes.now c.args.ends.now c.loop-i.i _ c.at_end-total.ensures)
 
 pub returns : goal.returns
 returns c =
-    let t = c.args.tree in
-    let ends = c.ends-ends.result in
+    let t = c.args.chains.now.tree in
+    let ends = c.args.ends.now in
+    let sizes = c.args.sizes.now in
     let all : c.loop-i.i ≡ t.sites = omega arith in
     c.loop-i.invariant
-    ∙ ap (λ i. sum i (λ k. is (look ends (1 + k)) 1 * sum_at (links t.one.now t.two.now) (1 + k) (look t.capacity.now))) all
-    ∙ at_ends_by_sites (links t.one.now t.two.now) t.sites (look ends) _ (look t.capacity.now) (rw c.of-chains.ensures at c.ends-ends.ensures)
+    ∙ ap (λ i. sum i (λ k. is (look ends (1 + k)) 1 * sum_at (links t.one.now t.two.now) (1 + k) (look sizes))) all
+    ∙ at_ends_by_sites (links t.one.now t.two.now) t.sites (look ends) _ (look sizes) refl
