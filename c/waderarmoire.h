@@ -12,7 +12,7 @@
  * or list of its own. It reads the sheet and writes the buffer or list within their lengths and
  * touches no other memory of the caller's. Every call ends, whatever the sheet holds.
  *
- * A plan or an order needs at most 176 KiB of stack, whatever the shape of the tree, two regions
+ * A plan or an order needs at most 168 KiB of stack, whatever the shape of the tree, two regions
  * or a step of one at most 160 KiB, a judgement, a replay or a report on ranges at most 136 KiB: nothing
  * recurses but the digits of a number of nine or more, twenty deep at most (measured on the largest trees, with
  * what a new thread itself needs). A thread of WADERARMOIRE_STACK_BYTES has enough for every sheet and log.

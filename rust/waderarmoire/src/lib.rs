@@ -151,7 +151,7 @@
 //! once, each with a buffer or list of its own. The caller of this crate owes nothing more; what the
 //! library below asks, pointers that are not null and areas that do not overlap, slices have.
 //!
-//! A plan or an order needs at most 176 KiB of stack, whatever the shape of the tree, two regions or a step of
+//! A plan or an order needs at most 168 KiB of stack, whatever the shape of the tree, two regions or a step of
 //! one at most 160 KiB, a judgement, a replay or a report on ranges at most 136 KiB: nothing recurses but the digits of a number
 //! of nine or more, twenty deep at most (measured on the largest trees, with what a new thread itself needs). A thread of [`STACK_BYTES`] has enough for every
 //! sheet and log.
