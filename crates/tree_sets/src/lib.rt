@@ -1,12 +1,12 @@
 // A set of numbers below SITES as words of 64 bits: members are counted by ones and walked by trailing zeros.
 #![tactic(auto)]
 
-ghost use Rattle.std.specs.Prelude.{◌≡◌, List, ℕ, ◌-◌, ◌<◌};
+ghost use Rattle.std.specs.Prelude.{◌≡◌, ◌≢◌, List, ℕ, ◌+◌, ◌-◌, ◌*◌, ◌≤◌, ◌<◌};
 ghost use Rattle.std.specs.Iterator.{YieldsFirst, item_count};
 ghost use Rattle.model.specs.Limits.{SITES, WORDS};
 ghost use Rattle.lists.specs.Numbers.{sum};
 ghost use Rattle.tree_sets.specs.Members.{member, adding, first_from, members_from};
-ghost use Rattle.tree_sets.specs.Walks.{still};
+ghost use Rattle.tree_sets.specs.Walks.{within, still, lowest, Standing, Walked};
 
 use model::{SITES, WORDS};
 use std::marker::Model;
@@ -119,4 +119,60 @@ impl Set {
         }
         total
     }
+}
+
+// A walk over the members of a set, from the lowest up: the member that it stands at, and those of its word from there up; SITES and none behind the last.
+#[derive(Clone, Copy)]
+pub struct Walk {
+    pub place: usize,
+    pub left: u64,
+}
+
+// The walk at the lowest member of those that are left of a word.
+fn lowest(word: usize, left: u64) -> Walk
+    requires { (word < WORDS) × (left ≢ 0) }
+    ensures { result ≡ lowest word left }
+{
+    let zeros = left.trailing_zeros();
+    Walk {
+        place: word * 64 + zeros as usize,
+        left,
+    }
+}
+
+// The walk at the first member in the words from one up.
+fn later(words: &[u64; WORDS], from: usize) -> Walk
+    requires { from ≤ WORDS }
+    ensures { Walked (within words.now) (from * 64) result }
+{
+    for q in from..WORDS {
+        let left = words[q];
+        if left != 0 {
+            return lowest(q, left);
+        }
+    }
+    Walk {
+        place: SITES,
+        left: 0,
+    }
+}
+
+// The walk at the first member of the set with these words.
+pub fn start(words: &[u64; WORDS]) -> Walk
+    ensures { Walked (within words.now) 0 result }
+{
+    later(words, 0)
+}
+
+// The walk at the next member, from one at a member.
+pub fn onward(words: &[u64; WORDS], w: Walk) -> Walk
+    requires { Standing (within words.now) w }
+    ensures { Walked (within words.now) (w.place + 1) result }
+{
+    let word = w.place / 64;
+    let left = w.left & (w.left - 1);
+    if left != 0 {
+        return lowest(word, left);
+    }
+    later(words, word + 1)
 }
