@@ -1,4 +1,4 @@
--- A walk over the members of a set, from the lowest up: those that are still to come, where some are left of one word, and where it stands.
+-- A walk over the members of a set, from the lowest up: those that are still to come, where some are left of one word, and the member that it stands at.
 use Rattle.std.specs.Prelude.{◌≡◌, ◌≢◌, List, ℕ, ◌+◌, ◌-◌, ◌*◌, ◌/◌, ◌%◌, ◌≤◌, ◌<◌}
 use Rattle.std.specs.Int.Count.{count_trailing_zeros}
 use Rattle.model.specs.Limits.{SITES}
