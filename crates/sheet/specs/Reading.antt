@@ -53,3 +53,8 @@ link_stored net a b size = record {
 unfoldable pub reading : Read → Result Lists Refusal
 reading (refused n k) = Err (refusal n k)
 reading (accepted net) = Ok (lists net)
+
+-- the refusal, or the lists that are lent, as they are then
+abbrev pub filled : {T : Type 0} → Result T Refusal → Lists → Result Lists Refusal
+filled (Ok _) net = Ok net
+filled (Err r) net = Err r

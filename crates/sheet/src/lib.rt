@@ -6,7 +6,7 @@ ghost use Rattle.model.specs.Limits.{SITES};
 ghost use Rattle.model.specs.Edition.{editions, ranges_low, ranges_high};
 ghost use Rattle.sheet.specs.Sheet.{empty, read_lines, and_then, finish, read_as, edition_of, read_sheet, name_range};
 ghost use Rattle.sheet_names.specs.Names.{IsPart};
-ghost use Rattle.sheet.specs.Reading.{lists, site_stored, link_stored, reading};
+ghost use Rattle.sheet.specs.Reading.{lists, site_stored, link_stored, reading, filled};
 
 mod stepping;
 
@@ -77,12 +77,11 @@ impl Lists {
     }
 }
 
-// What the lines of a sheet come to.
-fn read_lines(sheet: &[u8], edition: Edition) -> Result<Lists, Refusal>
-    requires { edition.sites ≤ SITES }
-    ensures { result ≡ reading (and_then (read_lines edition sheet.now (length sheet.now) 1 0 empty) finish) }
+// What the lines of a sheet come to, read into the lists of no sites; a sheet that is refused leaves them as far as it was read.
+fn read_lines(sheet: &[u8], edition: Edition, net: &mut Lists) -> Result<(), Refusal>
+    requires { (edition.sites ≤ SITES) × (net.old ≡ lists empty) }
+    ensures { filled result net.new ≡ reading (and_then (read_lines edition sheet.now (length sheet.now) 1 0 empty) finish) }
 {
-    let mut net = Lists::empty();
     let mut table = [0u16; TABLE];
     let mut parents = tree_labels::own_labels();
     let mut at = 0;
@@ -111,13 +110,13 @@ fn read_lines(sheet: &[u8], edition: Edition) -> Result<Lists, Refusal>
     if !tree_labels::is_whole(&parents, net.sites) {
         return Err(Refusal { number: 8, line: 0 });
     }
-    Ok(net)
+    Ok(())
 }
 
-// A sheet read as one of an edition: its network, or its refusal (01: check 1 comes first).
-fn read_as(sheet: &[u8], edition: Edition) -> Result<Lists, Refusal>
-    requires { edition.sites ≤ SITES }
-    ensures { result ≡ reading (read_as edition sheet.now) }
+// A sheet read as one of an edition, into the lists of no sites: its network, or its refusal (01: check 1 comes first).
+fn read_as(sheet: &[u8], edition: Edition, net: &mut Lists) -> Result<(), Refusal>
+    requires { (edition.sites ≤ SITES) × (net.old ≡ lists empty) }
+    ensures { filled result net.new ≡ reading (read_as edition sheet.now) }
 {
     if sheet.len() < 1 {
         return Err(Refusal { number: 1, line: 0 });
@@ -126,7 +125,7 @@ fn read_as(sheet: &[u8], edition: Edition) -> Result<Lists, Refusal>
     if sheet.len() > most {
         return Err(Refusal { number: 1, line: 0 });
     }
-    read_lines(sheet, edition)
+    read_lines(sheet, edition, net)
 }
 
 // The edition of a sheet, by its line 1 (02, Card 8).
@@ -144,21 +143,27 @@ fn edition_of(sheet: &[u8]) -> Edition
 pub fn read(sheet: &[u8]) -> Result<Lists, Refusal>
     ensures { result ≡ reading (read_sheet editions sheet.now) }
 {
-    read_as(sheet, edition_of(sheet))
+    let mut net = Lists::empty();
+    read_as(sheet, edition_of(sheet), &mut net)?;
+    Ok(net)
 }
 
 // A range sheet read (02, Card 11), its low sizes taken for the capacities.
 pub fn read_low(sheet: &[u8]) -> Result<Lists, Refusal>
     ensures { result ≡ reading (read_as ranges_low sheet.now) }
 {
-    read_as(sheet, Edition::low())
+    let mut net = Lists::empty();
+    read_as(sheet, Edition::low(), &mut net)?;
+    Ok(net)
 }
 
 // A range sheet read, its high sizes taken for the capacities.
 pub fn read_high(sheet: &[u8]) -> Result<Lists, Refusal>
     ensures { result ≡ reading (read_as ranges_high sheet.now) }
 {
-    read_as(sheet, Edition::high())
+    let mut net = Lists::empty();
+    read_as(sheet, Edition::high(), &mut net)?;
+    Ok(net)
 }
 
 // Where the name of a site stands on the sheet, by the site's number; 0 to 0 for a number without a site, or over a sheet that is refused.
@@ -172,14 +177,14 @@ pub fn name_range(sheet: &[u8], site: usize) -> Range
     if site > edition.sites {
         return Range { start: 0, end: 0 };
     }
-    let reading = read_as(sheet, edition);
-    let Ok(network) = &reading else {
+    let mut net = Lists::empty();
+    let Ok(()) = read_as(sheet, edition, &mut net) else {
         return Range { start: 0, end: 0 };
     };
     let i = site - 1;
     Range {
-        start: network.start[i],
-        end: network.end[i],
+        start: net.start[i],
+        end: net.end[i],
     }
 }
 

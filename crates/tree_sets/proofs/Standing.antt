@@ -65,9 +65,6 @@ module _ (f : ℕ → ℕ) (w : Walk) (s : Standing f w) where
           let whole : w.place / 64 * 64 + w.place % 64 ≡ w.place = omega arith in
           s.kept (w.place % 64) (omega arith) (omega arith) ∙ ap f whole ∙ s.here
 
-  pub some_left : w.left ≢ 0
-  some_left z = omega (arith, rw (z, zero-div) at at-lowest.set)
-
   abbrev rest : ℕ → ℕ
   rest k = bit (bit_and w.left (w.left - 1)) k
 

@@ -118,7 +118,7 @@ fn copy(from: &[u64], to: &mut [u64])
     requires { length from.now ≤ length to.old }
     ensures { to.new ≡ from.now ++ drop (length from.now) to.old }
 {
-    // Stays: `copy_from_slice` looks first whether the two overlap, and calls a function from outside that nothing else of the library calls.
+    // Stays: both lists are lent, so `copy_from_slice` becomes `memmove`, which the archive for C needs nowhere else.
     for (j, size) in from.iter().enumerate() {
         to[j] = *size;
     }

@@ -11,8 +11,8 @@ use Rattle.sheet.proofs.name_range.Goals as goal
 within : (s : List ℕ) (k : ℕ) {ed : Edition} → ed ≡ edition_of editions s → k ≤ ed.sites → k ≤ SITES
 within s k e h = omega (arith, rw (← e) at (a_known_edition_is_within_the_limits s))
 
-pub read_as-reading-requires : goal.read_as-reading-requires
-read_as-reading-requires c = rw c.edition_of-edition.ensures (a_known_edition_is_within_the_limits _)
+pub read_as-requires : goal.read_as-requires
+read_as-requires c = (rw c.edition_of-edition.ensures (a_known_edition_is_within_the_limits _), c.empty-net.ensures)
 
 pub returns-then-site-lt1 : goal.returns-then-site-lt1
 returns-then-site-lt1 c = let none : c.args.site ≡ 0 = omega arith in
@@ -26,24 +26,24 @@ returns-then-site-edition c =
 pub returns-in_default : goal.returns-in_default
 unfolding name_range
 returns-in_default c =
-    let read = rw c.edition_of-edition.ensures at c.read_as-reading.ensures in
-    sym (refused_has_no_range _ c.args.site (sym read ∙ c.in_default.is))
+    let read = rw (c.edition_of-edition.ensures, c.in_default.is) at c.read_as.ensures in
+    sym (refused_has_no_range _ c.args.site (sym read))
 
-pub offset_bounds-network-i : goal.offset_bounds-network-i
-offset_bounds-network-i c = omega (arith, within _ c.args.site c.edition_of-edition.ensures)
+pub offset_bounds-net-i : goal.offset_bounds-net-i
+offset_bounds-net-i c = omega (arith, within _ c.args.site c.edition_of-edition.ensures)
 
-pub bounds-network-i : goal.bounds-network-i
-bounds-network-i c = omega (arith, within _ c.args.site c.edition_of-edition.ensures)
+pub bounds-net-i : goal.bounds-net-i
+bounds-net-i c = omega (arith, within _ c.args.site c.edition_of-edition.ensures)
 
-pub offset_bounds-network-i-2 : goal.offset_bounds-network-i-2
-offset_bounds-network-i-2 c = omega (arith, within _ c.args.site c.edition_of-edition.ensures)
+pub offset_bounds-net-i-2 : goal.offset_bounds-net-i-2
+offset_bounds-net-i-2 c = omega (arith, within _ c.args.site c.edition_of-edition.ensures)
 
-pub bounds-network-i-2 : goal.bounds-network-i-2
-bounds-network-i-2 c = omega (arith, within _ c.args.site c.edition_of-edition.ensures)
+pub bounds-net-i-2 : goal.bounds-net-i-2
+bounds-net-i-2 c = omega (arith, within _ c.args.site c.edition_of-edition.ensures)
 
 pub returns : goal.returns
 unfolding name_range
 returns c =
-    let read = rw c.edition_of-edition.ensures at c.read_as-reading.ensures in
+    let read = rw (c.edition_of-edition.ensures, c.in-Ok.is) at c.read_as.ensures in
     let number : c.args.site ≡ suc (c.args.site - 1) = omega arith in
-    range_by_lists _ (c.args.site - 1) (sym read ∙ c.in-Ok.is) ∙ ap (name_range editions c.args.sheet.now) (sym number)
+    range_by_lists _ (c.args.site - 1) (sym read) ∙ ap (name_range editions c.args.sheet.now) (sym number)

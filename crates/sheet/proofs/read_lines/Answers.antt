@@ -20,7 +20,7 @@ less : (ed : Edition) (s : List ℕ) (at : ℕ) {found : Scanned} → found ≡ 
 less ed s at e h = omega (arith, a_line_is_on_the_sheet s at (sym h), next-is ed s at e, after-line-is-later s at (sym h))
 
 pub loop-edition-init : goal.loop-edition-init
-loop-edition-init c = rw (c.empty-net.ensures, c.own_labels-parents.ensures) (start c.args.edition c.requires c.args.sheet.now)
+loop-edition-init c = rw (c.requires.1, c.own_labels-parents.ensures) (start c.args.edition c.requires.0 c.args.sheet.now)
 
 pub step_at-requires : goal.step_at-requires
 step_at-requires c = let P = c.loop-edition.invariant in ((lengths P).1, table_is P, P.on_sheet, c.scan-found.ensures)
