@@ -121,6 +121,7 @@ impl Set {
     }
 }
 
+// Stays: a walk is copied and kept without its set, which `Members`, an iterator that lends it, is not.
 // A walk over the members of a set, from the lowest up: the member that it stands at, and those of its word from there up; SITES and none behind the last.
 #[derive(Clone, Copy)]
 pub struct Walk {
