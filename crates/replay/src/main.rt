@@ -2,9 +2,11 @@
 // the line of the refusal. What a refusal means, and what could not be read or written, it says on standard error.
 #![tactic(auto)]
 
-ghost use Rattle.std.specs.Prelude.{◌+◌, ◌≤◌, length};
+ghost use Rattle.std.specs.Prelude.{◌≡◌, ◌+◌, ◌≤◌, length};
+ghost use Rattle.model.specs.Edition.{editions};
+ghost use Rattle.logs.specs.Outcome.{replayed};
 
-use model::{BYTES, LOGBYTES, LOGLINES};
+use model::{BYTES, LOGBYTES, LOGLINES, TextRefusal};
 use std::env::Env;
 use std::io::Write;
 use std::process::ExitCode;
@@ -13,7 +15,8 @@ use std::rt::Files;
 // How many answers are written at a time.
 const SOME: usize = 2048;
 
-// Writes the answers from one place to another, a line each, to standard output; whether all went.
+// Writes the answers from one place to another, a line each, to standard output, by a text in a frame of its own; whether all went.
+#[inline(never)]
 fn write_some<W: Write, E: Write>(
     out: &mut W,
     err: &mut E,
@@ -51,6 +54,15 @@ fn write_answers<W: Write, E: Write>(
     true
 }
 
+// Replays a log over a sheet, as logs::replay does, in a frame of its own.
+#[inline(never)]
+fn replay(sheet: &[u8], log: &[u8], answers: &mut [u64]) -> Result<usize, TextRefusal>
+    ensures told { result ≡ (replayed editions sheet.now log.now answers.old).outcome }
+    ensures left { answers.new ≡ (replayed editions sheet.now log.now answers.old).list }
+{
+    logs::replay(sheet, log, answers)
+}
+
 // Replays the log of the second argument over the sheet of the first; whether both were read and the answers written.
 fn run<R: Env + Files, W: Write, E: Write>(rt: &R, out: &mut W, err: &mut E) -> bool {
     let mut sheet = [0u8; BYTES + 1];
@@ -66,7 +78,7 @@ fn run<R: Env + Files, W: Write, E: Write>(rt: &R, out: &mut W, err: &mut E) -> 
     let n = first.count;
     let m = second.count;
     let mut answers = [0u64; LOGLINES];
-    match logs::replay(&sheet[..n], &log[..m], &mut answers) {
+    match replay(&sheet[..n], &log[..m], &mut answers) {
         Ok(count) => write_answers(out, err, &answers, count),
         Err(refusal) => {
             text_refusals::refuse_text(out, err, refusal.text, refusal.number, refusal.line)

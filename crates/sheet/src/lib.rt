@@ -114,7 +114,7 @@ fn read_lines(sheet: &[u8], edition: Edition, net: &mut Lists) -> Result<(), Ref
 }
 
 // A sheet read as one of an edition, into the lists of no sites: its network, or its refusal (01: check 1 comes first).
-fn read_as(sheet: &[u8], edition: Edition, net: &mut Lists) -> Result<(), Refusal>
+fn read_into(sheet: &[u8], edition: Edition, net: &mut Lists) -> Result<(), Refusal>
     requires { (edition.sites ≤ SITES) × (net.old ≡ lists empty) }
     ensures { filled result net.new ≡ reading (read_as edition sheet.now) }
 {
@@ -126,6 +126,17 @@ fn read_as(sheet: &[u8], edition: Edition, net: &mut Lists) -> Result<(), Refusa
         return Err(Refusal { number: 1, line: 0 });
     }
     read_lines(sheet, edition, net)
+}
+
+// So, with lists of its own, and in a frame of its own, which is gone before the network is worked on.
+#[inline(never)]
+fn read_as(sheet: &[u8], edition: Edition) -> Result<Lists, Refusal>
+    requires { edition.sites ≤ SITES }
+    ensures { result ≡ reading (read_as edition sheet.now) }
+{
+    let mut net = Lists::empty();
+    read_into(sheet, edition, &mut net)?;
+    Ok(net)
 }
 
 // The edition of a sheet, by its line 1 (02, Card 8).
@@ -143,27 +154,21 @@ fn edition_of(sheet: &[u8]) -> Edition
 pub fn read(sheet: &[u8]) -> Result<Lists, Refusal>
     ensures { result ≡ reading (read_sheet editions sheet.now) }
 {
-    let mut net = Lists::empty();
-    read_as(sheet, edition_of(sheet), &mut net)?;
-    Ok(net)
+    read_as(sheet, edition_of(sheet))
 }
 
 // A range sheet read (02, Card 11), its low sizes taken for the capacities.
 pub fn read_low(sheet: &[u8]) -> Result<Lists, Refusal>
     ensures { result ≡ reading (read_as ranges_low sheet.now) }
 {
-    let mut net = Lists::empty();
-    read_as(sheet, Edition::low(), &mut net)?;
-    Ok(net)
+    read_as(sheet, Edition::low())
 }
 
 // A range sheet read, its high sizes taken for the capacities.
 pub fn read_high(sheet: &[u8]) -> Result<Lists, Refusal>
     ensures { result ≡ reading (read_as ranges_high sheet.now) }
 {
-    let mut net = Lists::empty();
-    read_as(sheet, Edition::high(), &mut net)?;
-    Ok(net)
+    read_as(sheet, Edition::high())
 }
 
 // Where the name of a site stands on the sheet, by the site's number; 0 to 0 for a number without a site, or over a sheet that is refused.
@@ -178,7 +183,7 @@ pub fn name_range(sheet: &[u8], site: usize) -> Range
         return Range { start: 0, end: 0 };
     }
     let mut net = Lists::empty();
-    let Ok(()) = read_as(sheet, edition, &mut net) else {
+    let Ok(()) = read_into(sheet, edition, &mut net) else {
         return Range { start: 0, end: 0 };
     };
     let i = site - 1;

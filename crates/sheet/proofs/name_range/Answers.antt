@@ -11,8 +11,8 @@ use Rattle.sheet.proofs.name_range.Goals as goal
 within : (s : List ℕ) (k : ℕ) {ed : Edition} → ed ≡ edition_of editions s → k ≤ ed.sites → k ≤ SITES
 within s k e h = omega (arith, rw (← e) at (a_known_edition_is_within_the_limits s))
 
-pub read_as-requires : goal.read_as-requires
-read_as-requires c = (rw c.edition_of-edition.ensures (a_known_edition_is_within_the_limits _), c.empty-net.ensures)
+pub read_into-requires : goal.read_into-requires
+read_into-requires c = (rw c.edition_of-edition.ensures (a_known_edition_is_within_the_limits _), c.empty-net.ensures)
 
 pub returns-then-site-lt1 : goal.returns-then-site-lt1
 returns-then-site-lt1 c = let none : c.args.site ≡ 0 = omega arith in
@@ -26,7 +26,7 @@ returns-then-site-edition c =
 pub returns-in_default : goal.returns-in_default
 unfolding name_range
 returns-in_default c =
-    let read = rw (c.edition_of-edition.ensures, c.in_default.is) at c.read_as.ensures in
+    let read = rw (c.edition_of-edition.ensures, c.in_default.is) at c.read_into.ensures in
     sym (refused_has_no_range _ c.args.site (sym read))
 
 pub offset_bounds-net-i : goal.offset_bounds-net-i
@@ -44,6 +44,6 @@ bounds-net-i-2 c = omega (arith, within _ c.args.site c.edition_of-edition.ensur
 pub returns : goal.returns
 unfolding name_range
 returns c =
-    let read = rw (c.edition_of-edition.ensures, c.in-Ok.is) at c.read_as.ensures in
+    let read = rw (c.edition_of-edition.ensures, c.in-Ok.is) at c.read_into.ensures in
     let number : c.args.site ≡ suc (c.args.site - 1) = omega arith in
     range_by_lists _ (c.args.site - 1) (sym read) ∙ ap (name_range editions c.args.sheet.now) (sym number)

@@ -3,4 +3,4 @@ use native.Mathlib.Omega.{arith}
 use Rattle.sheet.proofs.read_high.Goals as goal
 
 pub read_as-requires : goal.read_as-requires
-read_as-requires c = (rw c.high.ensures (omega arith), c.empty-net.ensures)
+read_as-requires c = rw c.high.ensures (omega arith)

@@ -1,8 +1,8 @@
--- `read_as`: the length first, then the lines.
+-- `read_into`: the length first, then the lines.
 use borrow.Author.Tests.{le-leb, lt-leb}
 use Rattle.sheet.specs.Sheet.{read_as}
 use Rattle.sheet.specs.Reading.{reading}
-use Rattle.sheet.proofs.read_as.Goals as goal
+use Rattle.sheet.proofs.read_into.Goals as goal
 
 pub returns-then-sheet-lt1 : goal.returns-then-sheet-lt1
 unfolding reading read_as
