@@ -9,7 +9,8 @@ use model::{BYTES, SITES};
 use std::io::{Read, Write};
 use std::process::ExitCode;
 
-// Writes the line of a site, its number and its name, to standard output; whether all of it went.
+// Writes the line of a site, its number and its name, to standard output, by a text in a frame of its own; whether all of it went.
+#[inline(never)]
 fn write_site<W: Write, E: Write>(out: &mut W, err: &mut E, site: usize, name: &[u8]) -> bool
     requires { length name.now ≤ BYTES + 1 }
 {
