@@ -128,7 +128,7 @@ fn read_into(sheet: &[u8], edition: Edition, net: &mut Lists) -> Result<(), Refu
     read_lines(sheet, edition, net)
 }
 
-// So, with lists of its own, and in a frame of its own, which is gone before the network is worked on.
+// A sheet read as one of an edition, with lists of its own, and in a frame of its own, which is gone before the network is worked on.
 #[inline(never)]
 fn read_as(sheet: &[u8], edition: Edition) -> Result<Lists, Refusal>
     requires { edition.sites ≤ SITES }

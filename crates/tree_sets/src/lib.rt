@@ -165,6 +165,7 @@ pub fn start(words: &[u64; WORDS]) -> Walk
     later(words, 0)
 }
 
+// Inner: only the planner's own crates may call it, since a caller has to show that the walk stands at a member.
 // The walk at the next member, from one at a member.
 pub fn onward(words: &[u64; WORDS], w: Walk) -> Walk
     requires { Standing (within words.now) w }
